@@ -1,0 +1,86 @@
+-- The meaning of a blob. It mentions no buffer: the kept mask is an input, and what the words are put into is not spoken of.
+-- Assumes nothing.
+use Prim.Native.Nat.{ℕ, _+_, _*_, _-_, _/_, _%_}
+use mathlib.Core.Bool.{Bool, true, false, cond}
+use mathlib.Core.List.{List, [], _∷_}
+use lib.ListN.{length, getD, take}
+use lib.Dec.{eqb}
+use Rattle.lerc_words.specs.Res.{Res, ok, fail, _>>=_, require, little}
+use Rattle.lerc_header.specs.declared.Header.{Header}
+use Rattle.lerc_header.specs.Header.{shapeOf, headerBytes, headerSays}
+use Rattle.lerc_mask.specs.Mask.{validBelow}
+use Rattle.lerc_planes.specs.declared.Ranges.{Ranges}
+use Rattle.lerc_planes.specs.Validity.{InForce, bytesOf, maskSays}
+use Rattle.lerc_planes.specs.Ranges.{rangesSays, constantWords}
+use Rattle.lerc_block.specs.Block.{Block, rawWords}
+use Rattle.lerc_image.specs.Blocks.{Chain, allBlocks, Way, rawFrom, blocksFrom, swept}
+use Rattle.lerc_image.specs.Paint.{wordOf}
+
+-- "a constant, raw or block body", or an empty one
+pub data Body : Type 0 where
+  empty : Body
+  constant : List ℕ → ℕ → Body
+  raw : List ℕ → ℕ → Body
+  blocks : Chain → Body
+
+-- "1 is raw words, valid pixels in order, depth innermost"
+unfoldable pub bodyFrom : List ℕ → Header → Ranges → List ℕ → Way → Res Body
+bodyFrom s h r m (rawFrom at) = do
+  b ← rawWords s at (h .kind) (h .valid * h .depth)
+  ok (raw (b .words) (b .next))
+bodyFrom s h r m (blocksFrom at) = do
+  c ← allBlocks s h r m at
+  ok (blocks c)
+
+-- "A constant body writes the minimum of each depth."
+unfoldable pub constantBody : Header → Ranges → Res Body
+constantBody h r = do
+  words ← constantWords (h .depth) (h .kind) (r .min)
+  ok (constant words (r .at))
+
+-- "Valid 0: the body is empty whatever min and max are"; else ranges, then a constant, raw or block body
+unfoldable pub bodySays : List ℕ → Header → List ℕ → Res Body
+bodySays s h m =
+    cond (eqb (h .valid) 0) (ok empty)
+    ((do
+      r ← rangesSays s h
+      cond (r .constant) (constantBody h r) (swept s h (r .at) >>= bodyFrom s h r m)))
+
+-- "the end is 70" for an empty body
+abbrev pub endOf : Body → ℕ
+endOf empty = headerBytes
+endOf (constant words end) = end
+endOf (raw words end) = end
+endOf (blocks c) = c .end
+
+-- "other bodies "blocks 0""
+abbrev pub startsOf : Body → List ℕ
+startsOf empty = []
+startsOf (constant words end) = []
+startsOf (raw words end) = []
+startsOf (blocks c) = c .starts
+
+-- the Lerc2 word of a valid cell
+unfoldable pub cellWord : Header → List ℕ → Body → ℕ → ℕ
+cellWord h m empty c = 0
+cellWord h m (constant words end) c = getD words (c % h .depth) 0
+cellWord h m (raw words end) c = getD words (validBelow (c / h .depth) m * h .depth + c % h .depth) 0
+cellWord h m (blocks k) c = wordOf (shapeOf h) m (λ n. getD (k .words) n []) c
+
+-- "A reader of one Lerc2 version 4 blob: header, validity mask, ranges per depth, then a .. body."
+pub record Meaning : Type 0 where
+  pub header : Header
+  pub mask : InForce
+  pub body : Body
+
+-- the body that follows an accepted header and mask; "Bytes after size .. are never looked at"
+unfoldable pub meaningFrom : List ℕ → Header → InForce → Res Meaning
+meaningFrom b h m = do
+  y ← bodySays (take (h .size) b) h (bytesOf m)
+  ok (record { header = h; mask = m; body = y })
+
+unfoldable pub meaning : List ℕ → Bool → List ℕ → Res Meaning
+meaning b reuse old = do
+  h ← headerSays b
+  m ← maskSays (take (h .size) b) h reuse old
+  meaningFrom b h m

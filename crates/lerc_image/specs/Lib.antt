@@ -1,0 +1,5 @@
+pub mod Geometry
+pub mod Paint
+pub mod Blocks
+pub mod Fill
+pub mod Walk

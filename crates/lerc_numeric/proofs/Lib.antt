@@ -1,0 +1,10 @@
+pub mod Closest
+pub mod Digits
+pub mod Bits
+pub mod Shift
+pub mod Jam
+pub mod Sum
+pub mod Product
+pub mod Compare
+pub mod Binary32
+pub mod Integers

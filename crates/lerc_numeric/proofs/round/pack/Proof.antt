@@ -1,0 +1,88 @@
+use mathlib.Core.Path.{_≡_, sym, ap, _∙_}
+use Prim.Native.Nat.{_-_}
+use native.Mathlib.Omega.{arith}
+use Rattle.lerc_numeric.proofs.Bits.{pack-zero, digits-le, pack-fits, pack-cut, pack-cut-inf, fill-le, pack-low, pack-up, pack-up-inf}
+use borrow.Author.Needs.{needs}
+use Rattle.lerc_numeric.proofs.round.pack.Statement.{statement}
+use Rattle.lerc_numeric.proofs.round.pack.Tie as tie
+
+returns : tie.Need-returns
+returns c = pack-zero (c .before .args .m) (c .before .args .e) (c .if1 .taken)
+
+digits-requires : tie.Need-digits-requires
+digits-requires c κs = search needs
+
+sub-d : tie.Need-sub-d
+sub-d c = search needs
+
+add-if3 : tie.Need-add-if3
+add-if3 c = record { fits = omega (arith, digits-le _ _ (c .before .digits .ensures) (c .before .before .before .fits .m .fits)) }
+
+add-result : tie.Need-add-result
+add-result c = search needs
+
+mul-result : tie.Need-mul-result
+mul-result c = search needs
+
+nearest-requires : tie.Need-nearest-requires
+nearest-requires c κs = omega (arith, digits-le _ _ (c .before .before .digits .ensures) (c .before .before .before .before .fits .m .fits))
+
+add-result-2 : tie.Need-add-result-2
+add-result-2 c = record { fits = omega (arith, pack-fits _ _ _ (c .before .before .before .digits .ensures) (c .nearest .ensures)) }
+
+shl-result : tie.Need-shl-result
+shl-result c = search needs
+
+sub-if5 : tie.Need-sub-if5
+sub-if5 c = search needs
+
+sub-result : tie.Need-sub-result
+sub-result c = search needs
+
+mul-result-2 : tie.Need-mul-result-2
+mul-result-2 c = search needs
+
+shl-result-2 : tie.Need-shl-result-2
+shl-result-2 c = search needs
+
+add-result-3 : tie.Need-add-result-3
+add-result-3 c = record { fits = omega (arith, fill-le (c .before .before .before .before .before .args .m) (53 - c .before .before .before .digits .result) (c .before .before .before .digits .result) (c .before .before .before .digits .ensures) (omega arith)) }
+
+returns-2 : tie.Need-returns-2
+returns-2 c = pack-cut-inf _ (c .before .before .before .before .args .e) _ (c .before .before .digits .ensures) (c .before .if2 .taken) (c .if3 .taken)
+
+returns-3 : tie.Need-returns-3
+returns-3 c = pack-cut _ (c .before .before .before .before .before .args .e) _ _ (c .before .before .before .digits .ensures) (c .nearest .ensures) (c .before .before .if2 .taken) (c .before .if3 .left)
+
+returns-4 : tie.Need-returns-4
+returns-4 c = pack-low _ (c .before .before .before .before .args .e) _ (c .before .before .digits .ensures) (c .before .if2 .left) (c .if4 .taken)
+
+returns-5 : tie.Need-returns-5
+returns-5 c = pack-up-inf _ (c .before .before .before .before .before .args .e) _ (c .before .before .before .digits .ensures) (c .before .before .if2 .left) (c .before .if4 .left) (omega (arith, c .before .before .before .before .if1 .left)) (c .if5 .taken)
+
+returns-6 : tie.Need-returns-6
+returns-6 c = pack-up _ (c .before .before .before .before .before .args .e) _ (c .before .before .before .digits .ensures) (c .before .before .if2 .left) (c .before .if4 .left) (omega (arith, c .before .before .before .before .if1 .left)) (c .if5 .left)
+
+pub pack-spec : {M : Type 1} → statement M
+pack-spec =
+    tie.close
+    (tie.spec
+    returns
+    digits-requires
+    sub-d
+    add-if3
+    add-result
+    mul-result
+    nearest-requires
+    add-result-2
+    shl-result
+    sub-if5
+    sub-result
+    mul-result-2
+    shl-result-2
+    add-result-3
+    returns-2
+    returns-3
+    returns-4
+    returns-5
+    returns-6)

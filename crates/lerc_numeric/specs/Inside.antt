@@ -1,0 +1,14 @@
+-- What the code's helpers compute. No promise of a public function speaks of these.
+-- Assumes nothing.
+use mathlib.Core.Bool.{cond}
+use Prim.Native.Nat.{ℕ, _+_, _-_, _*_, _/_, _%_, _^_, min}
+use lib.Dec.{eqb}
+use Rattle.lerc_numeric.specs.Numeric.{field, mag, bits32}
+
+-- v / 2 ^ n, whose last digit is 1 where anything was cut off: what the code rounds in its place
+unfoldable pub jam : ℕ → ℕ → ℕ
+jam v n = v / 2 ^ n + min (1 - v / 2 ^ n % 2) (v % 2 ^ n)
+
+-- a binary64 as a binary32 without its sign
+unfoldable pub unsigned32 : ℕ → ℕ
+unsigned32 w = cond (eqb (field w) 2047) (255 * 2 ^ 23 + w % 2 ^ 52 / 2 ^ 29) (bits32 (mag w))

@@ -1,0 +1,3 @@
+pub mod Numeric
+pub mod Kinds
+pub mod Inside

@@ -1,0 +1,53 @@
+// binary32 words out of binary64 words, and back.
+ghost use mathlib.Core.Path.{_≡_};
+ghost use Prim.Native.Nat.{_^_, _<_};
+ghost use Rattle.lerc_numeric.specs.Inside as Inside;
+ghost use Rattle.lerc_numeric.specs.Kinds.{narrowed, widened};
+use super::parts::exponent;
+use super::parts::significand;
+use super::round::nearest;
+use super::round::pack;
+
+// v to the nearest binary32, without its sign
+fn unsigned(v: u64) -> u64
+    ensures { λ r. ⌜ r ≡ Inside.unsigned32 v ⌝ }
+{
+    if v % 0x8000_0000_0000_0000 / 0x10_0000_0000_0000 == 2047 {
+        return 0x7f80_0000 + v % 0x10_0000_0000_0000 / 0x2000_0000;
+    }
+    let m = significand(v);
+    let e = exponent(v);
+    if 896 <= e {
+        if 254 <= e - 896 {
+            0x7f80_0000
+        } else {
+            (e - 896) * 0x80_0000 + nearest(m, 29)
+        }
+    } else if e <= 861 {
+        0
+    } else {
+        nearest(m, 925 - e)
+    }
+}
+
+pub fn narrow(v: u64) -> u32
+    ensures { λ r. ⌜ r ≡ narrowed v ⌝ }
+{
+    (v / 0x8000_0000_0000_0000 * 0x8000_0000 + unsigned(v)) as u32
+}
+
+pub fn widen(v: u64) -> u64
+    requires { ⌜ v < 2 ^ 32 ⌝ }
+    ensures { λ r. ⌜ r ≡ widened v ⌝ }
+{
+    let sign = v / 0x8000_0000 * 0x8000_0000_0000_0000;
+    let x = v % 0x8000_0000 / 0x80_0000;
+    let t = v % 0x80_0000;
+    if x == 255 {
+        sign + (0x7ff0_0000_0000_0000 + t * 0x2000_0000)
+    } else if x == 0 {
+        sign + pack(t, 925)
+    } else {
+        sign + pack(0x80_0000 + t, x - 1 + 925)
+    }
+}

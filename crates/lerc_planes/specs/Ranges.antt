@@ -1,0 +1,107 @@
+-- The ranges of each depth.
+-- Assumes nothing.
+use Prim.Native.Nat.{ℕ, zero, suc, _+_, _*_, _-_, _/_, _%_, min}
+use mathlib.Core.Path.{_≡_}
+use mathlib.Core.Bool.{Bool, true, false, cond, not, _&&_}
+use mathlib.Core.List.{List, [], _∷_, _++_}
+use lib.ListN.{length, getD, take, drop, replicate}
+use lib.Dec.{leb, ltb, eqb}
+use Rattle.lerc_words.specs.declared.Refusal.{Refusal}
+use Rattle.lerc_words.specs.Res.{Res, ok, fail, _>>=_, refuse, require, little, each}
+use Rattle.lerc_words.specs.Lists.{tabulate, allTo}
+use Rattle.lerc_numeric.specs.Numeric.{same}
+use Rattle.lerc_numeric.specs.Kinds.{typeSize, valueOf}
+use Rattle.lerc_samples.specs.Samples.{stored}
+use Rattle.lerc_header.specs.declared.Header.{Header}
+use Rattle.lerc_header.specs.Limits.{depthLimit}
+use Rattle.lerc_header.specs.Header.{rangesAt, pairRight, held}
+use Rattle.lerc_planes.specs.declared.Ranges.{Ranges}
+use Rattle.lerc_planes.specs.declared.RangesAnswer.{RangesAnswer}
+use Rattle.lerc_planes.specs.declared.RangesAnswer.the-variants as ranges
+use Rattle.lerc_planes.specs.declared.RangesRead.{RangesRead}
+use Rattle.lerc_planes.specs.declared.PairsAnswer.{PairsAnswer}
+use Rattle.lerc_planes.specs.declared.PairsAnswer.the-variants as pairs
+use Rattle.lerc_planes.specs.declared.ConstantsAnswer.{ConstantsAnswer}
+use Rattle.lerc_planes.specs.declared.ConstantsAnswer.the-variants as constants
+use Rattle.lerc_planes.specs.declared.Constants.{Constants}
+
+-- "Min and max the same ..: constant, nothing read, all 64 entries as in the header."
+unfoldable pub uniformRanges : Header → Ranges
+uniformRanges h = record { at = rangesAt h; constant = true; min = replicate depthLimit (h .min); max = replicate depthLimit (h .max) }
+
+-- the i-th number from the ranges' place on, "in the blob's kind"
+unfoldable pub rangeNumber : List ℕ → Header → ℕ → ℕ
+rangeNumber s h i = valueOf (h .kind) (little (typeSize (h .kind)) s (rangesAt h + i * typeSize (h .kind)))
+
+-- a number for each depth; "entries past depth stay header min and max"
+unfoldable pub byDepth : ℕ → (ℕ → ℕ) → ℕ → List ℕ
+byDepth depth f d = tabulate depthLimit (λ i. cond (ltb i depth) (f i) d)
+
+-- behind the minima and the maxima
+abbrev pub rangesEnd : Header → ℕ
+rangesEnd h = rangesAt h + 2 * h .depth * typeSize (h .kind)
+
+-- "depth minima then depth maxima", "All pairs the same: constant."
+unfoldable pub codedRanges : List ℕ → Header → Ranges
+codedRanges s h =
+    let low = byDepth (h .depth) (rangeNumber s h) (h .min) in
+    let high = byDepth (h .depth) (λ i. rangeNumber s h (h .depth + i)) (h .max) in
+    record { at = rangesEnd h; constant = allTo (h .depth) (λ i. same (getD low i 0) (getD high i 0)); min = low; max = high }
+
+-- "a range number not finite, or maximum less than minimum"; "7 for the pairs below the depth"
+unfoldable pub pairsRight : ℕ → Ranges → Bool
+pairsRight depth r = allTo depth (λ i. pairRight (getD (r .min) i 0) (getD (r .max) i 0))
+
+-- "all of which must fit (1) before a number is judged"
+unfoldable pub rangesSays : List ℕ → Header → Res Ranges
+rangesSays s h =
+    cond (same (h .min) (h .max)) (ok (uniformRanges h))
+    ((do
+      _ ← require (leb (rangesEnd h) (length s)) 1
+      _ ← require (pairsRight (h .depth) (codedRanges s h)) 7
+      ok (codedRanges s h)))
+
+-- ---- read ranges: "only read ranges by itself, as upstream, does not look at valid"
+
+unfoldable pub readRangesSays : List ℕ → Header → Res Ranges
+readRangesSays b h = do
+  _ ← held h (length b)
+  rangesSays (take (h .size) b) h
+
+-- what is handed out with a refusal: "0 for each count and offset"
+abbrev pub noRanges : Ranges
+noRanges = record { at = 0; constant = false; min = replicate depthLimit 0; max = replicate depthLimit 0 }
+
+abbrev pub rangesSaid : Res Ranges → RangesRead
+rangesSaid (ok r) = record { answer = ranges.Read; ranges = r }
+rangesSaid (fail why) = record { answer = ranges.Refused why; ranges = noRanges }
+
+abbrev pub rangesRefused : RangesAnswer → Refusal
+rangesRefused ranges.Read = refuse 0
+rangesRefused (ranges.Refused r) = r
+
+-- ---- ranges by value: "7 for the pairs below the depth"; an array has no pair past its end
+
+unfoldable pub pairsSays : ℕ → Ranges → Res Bool
+pairsSays depth r = require (pairsRight (min depth depthLimit) r) 7
+
+abbrev pub pairsSaid : PairsAnswer → Res Bool
+pairsSaid pairs.Right = ok true
+pairsSaid (pairs.Refused r) = fail r
+
+abbrev pub pairsRefused : PairsAnswer → Refusal
+pairsRefused pairs.Right = refuse 0
+pairsRefused (pairs.Refused r) = r
+
+-- ---- the words of a constant body: "the minimum of each depth", stored
+
+unfoldable pub constantWords : ℕ → ℕ → List ℕ → Res (List ℕ)
+constantWords depth kind values = each (stored kind) (take depth values)
+
+abbrev pub constantsSaid : Res (List ℕ) → Constants
+constantsSaid (ok words) = record { answer = constants.Stored; words = words ++ drop (length words) (replicate depthLimit 0) }
+constantsSaid (fail r) = record { answer = constants.Refused r; words = replicate depthLimit 0 }
+
+abbrev pub constantsRefused : ConstantsAnswer → Refusal
+constantsRefused constants.Stored = refuse 0
+constantsRefused (constants.Refused r) = r

@@ -1,0 +1,65 @@
+-- P1 to P12 of the rules: one table, one claim, computed by the checker from the definitions that the code is proved against.
+-- Assumes nothing.
+use Prim.Native.Nat.{ℕ, zero, suc}
+use mathlib.Core.Path.{_≡_, refl}
+use mathlib.Core.Bool.{Bool, true, false, cond}
+use mathlib.Core.List.{List, [], _∷_, _++_, map}
+use lib.ListN.{length, replicate}
+use lib.Ieee.{size, span, climb}
+use Rattle.lerc_words.specs.Res.{Res, ok, fail, _>>=_, refuse, wordAt, little}
+use Rattle.lerc_words.specs.Lists.{from, allTo}
+use Rattle.lerc_numeric.specs.Numeric.{sum, mag, code}
+use Rattle.lerc_numeric.specs.Kinds.{narrowed, whole, cut}
+use Rattle.lerc_samples.specs.Samples.{stored}
+use Rattle.lerc_bits.specs.Bits.{Counts, digits, run, plain, allBelow, chosen, indexed, tabled, counts}
+use Rattle.lerc_mask.specs.Mask.{pixelValid, copyAt, repeatAt, endAt, formAt, stepAt, runs, maskRuns}
+
+-- what a case shows: numbers, or a refusal
+abbrev pub countsOf : List ℕ → Res (List ℕ)
+countsOf s = do
+  c ← counts s 0
+  ok (c .values)
+
+-- the valid ones of the first n pixels
+unfoldable pub validOf : ℕ → List ℕ → List ℕ
+validOf zero m = []
+validOf (suc p) m = validOf p m ++ cond (pixelValid m p) (p ∷ []) []
+
+abbrev pub validIn : ℕ → ℕ → List ℕ → Res (List ℕ)
+validIn pixels bytes s = do
+  m ← maskRuns bytes s
+  ok (validOf pixels m)
+
+abbrev pub word : ℕ → Res (List ℕ)
+word w = ok (w ∷ [])
+
+abbrev pub one : Res ℕ → Res (List ℕ)
+one r = do
+  w ← r
+  word w
+
+pub record Case : Type 0 where
+  pub got : Res (List ℕ)
+  pub want : Res (List ℕ)
+
+abbrev pub table : List Case
+table =
+    record { got = countsOf (0x82 ∷ 0x03 ∷ 0x39 ∷ []); want = ok (1 ∷ 2 ∷ 3 ∷ []) }
+    ∷ record { got = countsOf (0xA4 ∷ 0x03 ∷ 0x03 ∷ 0x95 ∷ 0x18 ∷ []); want = ok (0 ∷ 9 ∷ 5 ∷ []) }
+    ∷ record { got = countsOf (0xA4 ∷ 0x03 ∷ 0x03 ∷ 0x95 ∷ 0x1C ∷ []); want = fail (refuse 8) }
+    ∷ record { got = countsOf (0xC2 ∷ 0x01 ∷ 0x00 ∷ []); want = fail (refuse 8) }
+    ∷ record { got = countsOf (0x40 ∷ 0x00 ∷ 0x01 ∷ []); want = ok (replicate 256 0) }
+    ∷ record { got = countsOf (0x40 ∷ 0x01 ∷ 0x01 ∷ []); want = fail (refuse 8) }
+    ∷ record { got = validIn 10 2 (0x02 ∷ 0x00 ∷ 0xA0 ∷ 0x40 ∷ 0x00 ∷ 0x80 ∷ []); want = ok (0 ∷ 2 ∷ 9 ∷ []) }
+    ∷ record { got = word (sum 0x4340000000000000 0x4008000000000000); want = word 0x4340000000000002 }
+    ∷ record { got = word (sum 0x3FF0000000000000 0xBFF0000000000000); want = word 0 }
+    ∷ record { got = word (narrowed 0x3FF0000010000000); want = word 0x3F800000 }
+    ∷ record { got = one (stored 0 0xC060100000000000); want = word 128 }
+    ∷ record { got = one (stored 0 0x4060000000000000); want = fail (refuse 9) }
+    ∷ record { got = one (stored 1 0xBFE0000000000000); want = word 0 }
+    ∷ []
+
+pub cases : map (λ (c : Case). c .got) table ≡ map (λ (c : Case). c .want) table
+unfolding validOf counts plain tabled indexed run digits chosen allBelow wordAt little from allTo size span climb
+    pixelValid copyAt repeatAt endAt formAt stepAt runs sum mag code narrowed whole cut stored
+cases = refl

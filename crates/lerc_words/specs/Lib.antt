@@ -1,0 +1,2 @@
+pub mod Res
+pub mod Lists
