@@ -1,2 +1,4 @@
 pub mod Meaning
 pub mod Read
+pub mod Linear
+pub mod Parts

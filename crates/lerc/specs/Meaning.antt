@@ -13,7 +13,8 @@ use Rattle.lerc_planes.specs.declared.Ranges.{Ranges}
 use Rattle.lerc_planes.specs.Validity.{InForce, bytesOf, maskSays}
 use Rattle.lerc_planes.specs.Ranges.{rangesSays, constantWords}
 use Rattle.lerc_block.specs.Block.{Block, rawWords}
-use Rattle.lerc_image.specs.Blocks.{Chain, allBlocks, Way, rawFrom, blocksFrom, swept}
+use Rattle.lerc_image.specs.Sweep.{Way, rawFrom, blocksFrom, swept}
+use Rattle.lerc_image.specs.Blocks.{Chain, allBlocks}
 use Rattle.lerc_image.specs.Paint.{wordOf}
 
 -- "a constant, raw or block body", or an empty one
@@ -24,13 +25,20 @@ pub data Body : Type 0 where
   blocks : Chain → Body
 
 -- "1 is raw words, valid pixels in order, depth innermost"
-unfoldable pub bodyFrom : List ℕ → Header → Ranges → List ℕ → Way → Res Body
-bodyFrom s h r m (rawFrom at) = do
+unfoldable pub rawBody : List ℕ → Header → ℕ → Res Body
+rawBody s h at = do
   b ← rawWords s at (h .kind) (h .valid * h .depth)
   ok (raw (b .words) (b .next))
-bodyFrom s h r m (blocksFrom at) = do
-  c ← allBlocks s h r m at
+
+unfoldable pub blockBody : List ℕ → Header → List ℕ → List ℕ → ℕ → Res Body
+blockBody s h maxima m at = do
+  c ← allBlocks s h maxima m at
   ok (blocks c)
+
+-- what the sweep byte says
+abbrev pub bodyFrom : List ℕ → Header → Ranges → List ℕ → Way → Res Body
+bodyFrom s h r m (rawFrom at) = rawBody s h at
+bodyFrom s h r m (blocksFrom at) = blockBody s h (r .max) m at
 
 -- "A constant body writes the minimum of each depth."
 unfoldable pub constantBody : Header → Ranges → Res Body
@@ -44,7 +52,7 @@ bodySays s h m =
     cond (eqb (h .valid) 0) (ok empty)
     ((do
       r ← rangesSays s h
-      cond (r .constant) (constantBody h r) (swept s h (r .at) >>= bodyFrom s h r m)))
+      cond (r .constant) (constantBody h r) (swept s (h .kind) (h .error) (r .at) >>= bodyFrom s h r m)))
 
 -- "the end is 70" for an empty body
 abbrev pub endOf : Body → ℕ

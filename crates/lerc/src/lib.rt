@@ -1,6 +1,8 @@
 // Whole read: header, mask, ranges and body of one blob.
 use lerc_words::Refusal;
 
+mod linear;
+
 // How many blocks the body has, and where it ends.
 pub enum ReadAnswer {
     Whole { blocks: usize, end: usize },

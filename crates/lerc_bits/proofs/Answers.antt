@@ -1,87 +1,29 @@
 -- What each way of reading gives: one law for each place where the code returns.
 -- Assumes nothing.
 use mathlib.Core.Path.{_≡_, refl, sym, ap, _∙_}
-use mathlib.Core.Bool.{Bool, true, false, cond}
+use mathlib.Core.Bool.{true, false}
 use mathlib.Core.List.{List, [], _∷_, _++_}
-use Prim.Native.Nat.{ℕ, zero, suc, _+_, _-_, _*_, _/_, _%_, _^_, _≤_, _<_}
+use Prim.Native.Nat.{ℕ, zero, suc, _+_, _-_, _/_, _%_, _^_, _≤_, _<_}
 use native.Mathlib.Omega.{arith}
-use native.Mathlib.Nat.{mul-le-mul}
-use borrow.Author.Tests.{lt-ltb, le-ltb, le-leb, lt-leb}
-use lib.ListN.{length, getD, drop, length-append}
-use lib.Seq.{take-at}
+use borrow.Author.Tests.{lt-ltb, le-ltb, le-leb, lt-leb, eq-eqb, ne-eqb}
+use lib.ListN.{length, getD, drop}
 use Rattle.lerc_words.specs.declared.Refusal.{Refusal}
-use Rattle.lerc_words.specs.Res.{Res, ok, fail, _>>=_, refuse, little, wordAt}
-use Rattle.lerc_words.specs.Lists.{from, tabulate}
-use Rattle.lerc_words.proofs.Laws.{wordAt-ok, wordAt-no}
-use Rattle.lerc_words.proofs.Tables.{length-tabulate}
+use Rattle.lerc_words.specs.Lists.{over}
+use Rattle.lerc_words.specs.Res.{Res, ok, fail, refuse, wordAt}
+use Rattle.lerc_bits.specs.declared.Plan.{Plan}
+use Rattle.lerc_bits.specs.declared.PlanAnswer.{PlanAnswer}
+use Rattle.lerc_bits.specs.declared.PlanAnswer.the-variants as found
 use Rattle.lerc_bits.specs.declared.CountsAnswer.{CountsAnswer}
 use Rattle.lerc_bits.specs.declared.CountsAnswer.the-variants as answer
-use Rattle.lerc_bits.specs.Bits.{Counts, runBytes, digits, run, plain, allBelow, chosen, indexWidth, indexed, tabled, counts, Span, countsSaid, Decoded}
+use Rattle.lerc_bits.specs.Bits.{countBytes, plainPlan, tablePlan, fits, tabled, plan, planSaid, planRefused, run, chosen, allBelow, lookedUp, valuesOf, unpacked, Counts, counts, Span, countsSaid, countsRefused, Decoded}
 
-pub small-product : (n b : ℕ) → n ≤ 256 → b ≤ 31 → n * b ≤ 7936
-small-product n b h k = mul-le-mul {n₂ = 256} {m₂ = 31} h k
+-- ---- plans
 
-pub refused : {m : Res Counts} {r : Refusal} {old : List ℕ} → m ≡ fail r → Decoded m (answer.Refused r) old old
-refused e = rw e (record { says = refl; left = refl })
+pub fits-ok : (len : ℕ) (p : Plan) → p .next ≤ len → fits len p ≡ ok p
+fits-ok len p h = rw (le-leb (p .next) len h)
 
-pub given : {m : Res Counts} (values : List ℕ) (n : ℕ) {next : ℕ} {old new : List ℕ} → m ≡ ok (record { values = values; next = next }) → length values ≡ n
-    → new ≡ values ++ drop n old → Decoded m (answer.Counts n next) old new
-given values n e l d = rw (e, d) (record { says = rw (l); left = rw (l) })
-
-pub length-digits : (whole n bits : ℕ) → length (digits whole n bits) ≡ n
-unfolding digits
-length-digits whole n bits = length-tabulate n _
-
-pub length-chosen : (n : ℕ) (t is : List ℕ) → length (chosen n t is) ≡ n
-unfolding chosen
-length-chosen n t is = length-tabulate n _
-
-pub run-ok : (s : List ℕ) (at n bits : ℕ) → at + runBytes n bits ≤ length s → run s at n bits ≡ ok (digits (little (runBytes n bits) s at) n bits)
-unfolding run
-run-ok s at n bits h = rw (wordAt-ok (runBytes n bits) s at h)
-
-pub run-no : (s : List ℕ) (at n bits : ℕ) → length s < at + runBytes n bits → run s at n bits ≡ fail (refuse 1)
-unfolding run
-run-no s at n bits h = rw (wordAt-no (runBytes n bits) s at h)
-
-pub plain-ok : (s : List ℕ) (at n bits : ℕ) → at + runBytes n bits ≤ length s
-    → plain s at n bits ≡ ok (record { values = digits (little (runBytes n bits) s at) n bits; next = at + runBytes n bits })
-unfolding plain
-plain-ok s at n bits h = rw (run-ok s at n bits h)
-
-pub plain-no : (s : List ℕ) (at n bits : ℕ) → length s < at + runBytes n bits → plain s at n bits ≡ fail (refuse 1)
-unfolding plain
-plain-no s at n bits h = rw (run-no s at n bits h)
-
-module _ (s : List ℕ) (at entries n bits : ℕ) where
-  pub indexed-no : length s < at + runBytes (entries - 1) bits → indexed s at entries n bits ≡ fail (refuse 1)
-  unfolding indexed
-  indexed-no h = rw (run-no s at (entries - 1) bits h)
-
-  pub indexed-short : (w : ℕ) → w ≡ indexWidth entries → at + runBytes (entries - 1) bits ≤ length s
-      → length s < at + runBytes (entries - 1) bits + runBytes n w → indexed s at entries n bits ≡ fail (refuse 1)
-  unfolding indexed
-  indexed-short w e h k =
-      rw (run-ok s at (entries - 1) bits h, ← e, run-no s (at + runBytes (entries - 1) bits) n w k)
-
-  pub indexed-ok : (w : ℕ) → w ≡ indexWidth entries → at + runBytes (entries - 1) bits ≤ length s
-      → at + runBytes (entries - 1) bits + runBytes n w ≤ length s
-      → allBelow n entries (digits (little (runBytes n w) s (at + runBytes (entries - 1) bits)) n w) ≡ true
-      → indexed s at entries n bits ≡ ok (record {
-        values = chosen n (0 ∷ digits (little (runBytes (entries - 1) bits) s at) (entries - 1) bits) (digits (little (runBytes n w) s (at + runBytes (entries - 1) bits)) n w);
-        next = at + runBytes (entries - 1) bits + runBytes n w;
-      })
-  unfolding indexed
-  indexed-ok w e h k d =
-      rw (run-ok s at (entries - 1) bits h, ← e, run-ok s (at + runBytes (entries - 1) bits) n w k, d)
-
-  pub indexed-bad : (w : ℕ) → w ≡ indexWidth entries → at + runBytes (entries - 1) bits ≤ length s
-      → at + runBytes (entries - 1) bits + runBytes n w ≤ length s
-      → allBelow n entries (digits (little (runBytes n w) s (at + runBytes (entries - 1) bits)) n w) ≡ false
-      → indexed s at entries n bits ≡ fail (refuse 8)
-  unfolding indexed
-  indexed-bad w e h k d =
-      rw (run-ok s at (entries - 1) bits h, ← e, run-ok s (at + runBytes (entries - 1) bits) n w k, d)
+pub fits-no : (len : ℕ) (p : Plan) → len < p .next → fits len p ≡ fail (refuse 1)
+fits-no len p h = rw (lt-leb (p .next) len h)
 
 module _ (s : List ℕ) (at n bits : ℕ) where
   pub tabled-zero : bits ≡ 0 → tabled s at n bits ≡ fail (refuse 8)
@@ -96,40 +38,133 @@ module _ (s : List ℕ) (at n bits : ℕ) where
   unfolding tabled
   tabled-few v h e l = rw (lt-ltb 0 bits h, e, lt-leb 2 v l)
 
-  pub tabled-more : (v : ℕ) → 0 < bits → wordAt 1 s at ≡ ok v → 2 ≤ v → tabled s at n bits ≡ indexed s (at + 1) v n bits
+  pub tabled-more : (v : ℕ) → 0 < bits → wordAt 1 s at ≡ ok v → 2 ≤ v → tabled s at n bits ≡ fits (length s) (tablePlan n bits v (at + 1))
   unfolding tabled
   tabled-more v h e l = rw (lt-ltb 0 bits h, e, le-leb 2 v l)
 
+-- the code halves 4 for each step of h/64
+pub count-bytes : (h : ℕ) → h / 64 < 3 → 4 / 2 ^ (h / 64) ≡ countBytes h
+count-bytes h l = go (h / 64) l
+  where
+    go : (k : ℕ) → k < 3 → 4 / 2 ^ k ≡ getD (4 ∷ 2 ∷ 1 ∷ []) k 0
+    go zero l = refl
+    go (suc zero) l = refl
+    go (suc (suc zero)) l = refl
+    go (suc (suc (suc k))) l = absurd (omega arith)
+
+pub count-small : (h : ℕ) → countBytes h ≤ 4
+count-small h = go (h / 64)
+  where
+    go : (k : ℕ) → getD (4 ∷ 2 ∷ 1 ∷ []) k 0 ≤ 4
+    go zero = omega arith
+    go (suc zero) = omega arith
+    go (suc (suc zero)) = omega arith
+    go (suc (suc (suc k))) = omega arith
+
+-- the first byte was read, and so was the count
+pub record Headed (s : List ℕ) (at h n : ℕ) : Type 0 where
+  pub first : wordAt 1 s at ≡ ok h
+  pub known : h / 64 < 3
+  pub second : wordAt (countBytes h) s (at + 1) ≡ ok n
+
 module _ (s : List ℕ) (at : ℕ) where
-  pub counts-no : {r : Refusal} → wordAt 1 s at ≡ fail r → counts s at ≡ fail r
-  unfolding counts
-  counts-no e = rw (e)
+  pub plan-no : {r : Refusal} → wordAt 1 s at ≡ fail r → plan s at ≡ fail r
+  unfolding plan
+  plan-no e = rw (e)
 
-  pub counts-form : (h : ℕ) → wordAt 1 s at ≡ ok h → 3 ≤ h / 64 → counts s at ≡ fail (refuse 8)
-  unfolding counts
-  counts-form h e l = rw (e, le-ltb (h / 64) 3 l)
+  pub plan-form : (h : ℕ) → wordAt 1 s at ≡ ok h → 3 ≤ h / 64 → plan s at ≡ fail (refuse 8)
+  unfolding plan
+  plan-form h e l = rw (e, le-ltb (h / 64) 3 l)
 
-  module _ (h : ℕ) (e : wordAt 1 s at ≡ ok h) (l : h / 64 < 3) where
-    pub counts-short : {r : Refusal} → wordAt (4 / 2 ^ (h / 64)) s (at + 1) ≡ fail r → counts s at ≡ fail r
-    unfolding counts
-    counts-short d = rw (e, lt-ltb (h / 64) 3 l, d)
+  pub plan-short : (h : ℕ) {r : Refusal} → wordAt 1 s at ≡ ok h → h / 64 < 3 → wordAt (countBytes h) s (at + 1) ≡ fail r → plan s at ≡ fail r
+  unfolding plan
+  plan-short h e l d = rw (e, lt-ltb (h / 64) 3 l, d)
 
-    pub counts-many : (n : ℕ) → wordAt (4 / 2 ^ (h / 64)) s (at + 1) ≡ ok n → 256 < n → counts s at ≡ fail (refuse 8)
-    unfolding counts
-    counts-many n d k = rw (e, lt-ltb (h / 64) 3 l, d, lt-leb n 256 k)
+  module _ (h n : ℕ) (g : Headed s at h n) where
+    pub plan-many : 256 < n → plan s at ≡ fail (refuse 8)
+    unfolding plan
+    plan-many k = rw (g .first, lt-ltb (h / 64) 3 (g .known), g .second, lt-leb n 256 k)
 
-    pub counts-plain : (n : ℕ) → wordAt (4 / 2 ^ (h / 64)) s (at + 1) ≡ ok n → n ≤ 256 → h % 64 < 32 → counts s at ≡ plain s (at + 1 + 4 / 2 ^ (h / 64)) n (h % 32)
-    unfolding counts
-    counts-plain n d k t = rw (e, lt-ltb (h / 64) 3 l, d, le-leb n 256 k, lt-ltb (h % 64) 32 t)
+    pub plan-plain : n ≤ 256 → h / 32 % 2 ≡ 0 → plan s at ≡ fits (length s) (plainPlan n (h % 32) (at + 1 + countBytes h))
+    unfolding plan
+    plan-plain k t = rw (g .first, lt-ltb (h / 64) 3 (g .known), g .second, le-leb n 256 k, eq-eqb (h / 32 % 2) 0 t)
 
-    pub counts-tabled : (n : ℕ) → wordAt (4 / 2 ^ (h / 64)) s (at + 1) ≡ ok n → n ≤ 256 → 32 ≤ h % 64 → counts s at ≡ tabled s (at + 1 + 4 / 2 ^ (h / 64)) n (h % 32)
-    unfolding counts
-    counts-tabled n d k t = rw (e, lt-ltb (h / 64) 3 l, d, le-leb n 256 k, le-ltb (h % 64) 32 t)
+    pub plan-tabled : n ≤ 256 → (h / 32 % 2 ≡ 0 → ⊥) → plan s at ≡ tabled s (at + 1 + countBytes h) n (h % 32)
+    unfolding plan
+    plan-tabled k t = rw (g .first, lt-ltb (h / 64) 3 (g .known), g .second, le-leb n 256 k, ne-eqb (h / 32 % 2) 0 t)
 
--- ---- the promise leaves no room
+-- ---- counts
+
+pub counts-no : (s : List ℕ) (at : ℕ) {r : Refusal} → plan s at ≡ fail r → counts s at ≡ fail r
+unfolding counts
+counts-no s at e = rw (e)
+
+pub counts-by : (s : List ℕ) (at : ℕ) {p : Plan} → plan s at ≡ ok p → counts s at ≡ unpacked s p
+unfolding counts
+counts-by s at e = rw (e)
+
+module _ (s : List ℕ) (p : Plan) where
+  pub unpacked-plain : p .entries ≡ 0 → unpacked s p ≡ ok (record { values = run s (p .at) (p .n) (p .width); next = p .next })
+  unfolding unpacked valuesOf
+  unpacked-plain e = rw (e)
+
+  pub unpacked-table : 1 ≤ p .entries → allBelow (p .n) (p .entries) (run s (p .at) (p .n) (p .width)) ≡ true
+      → unpacked s p ≡ ok (record {
+        values = chosen (p .n) (0 ∷ run s (p .table) (p .entries - 1) (p .bits)) (run s (p .at) (p .n) (p .width));
+        next = p .next;
+      })
+  unfolding unpacked valuesOf lookedUp
+  unpacked-table h e = rw (ne-eqb (p .entries) 0 (λ z. omega arith), e)
+
+  pub unpacked-bad : 1 ≤ p .entries → allBelow (p .n) (p .entries) (run s (p .at) (p .n) (p .width)) ≡ false
+      → unpacked s p ≡ fail (refuse 8)
+  unfolding unpacked valuesOf lookedUp
+  unpacked-bad h e = rw (ne-eqb (p .entries) 0 (λ z. omega arith), e)
+
+-- ---- the promise of decode
+
+pub refused : {m : Res Counts} {r : Refusal} {old : List ℕ} → m ≡ fail r → Decoded m (answer.Refused r) old old
+refused e = rw e (record { says = refl; left = refl })
+
+pub given : {m : Res Counts} (values : List ℕ) (n : ℕ) {next : ℕ} {old new : List ℕ} → m ≡ ok (record { values = values; next = next }) → length values ≡ n
+    → new ≡ values ++ drop n old → Decoded m (answer.Counts n next) old new
+given values n e l d = rw (e, d) (record { says = rw (l); left = rw (l) })
 
 ok-inj : {x y : Span} → _≡_ {A = Res Span} (ok x) (ok y) → x ≡ y
 ok-inj e = cc
+
+-- ---- what an answer that was taken apart says
+
+pub inspect-ok : (s : List ℕ) (at : ℕ) {r : PlanAnswer} {p : Plan} → planSaid r ≡ plan s at → r ≡ found.Plan p → plan s at ≡ ok p
+inspect-ok s at e d = sym e ∙ ap planSaid d
+
+pub inspect-no : (s : List ℕ) (at : ℕ) {r : PlanAnswer} {q why : Refusal} → planSaid r ≡ plan s at → r ≡ found.Refused q → why ≡ planRefused r → plan s at ≡ fail why
+inspect-no s at e d f = sym e ∙ ap planSaid d ∙ ap fail (sym (f ∙ ap planRefused d))
+
+-- n values, which stand in front of what the array held, and their end
+pub record Given (m : Res Counts) (n next : ℕ) (old new : List ℕ) : Type 0 where
+  pub values : List ℕ
+  pub reads : m ≡ ok (record { values = values; next = next })
+  pub many : length values ≡ n
+  pub left : new ≡ over values old
+
+pub decode-ok : (m : Res Counts) {r : CountsAnswer} {n next : ℕ} {old new : List ℕ} → Decoded m r old new → r ≡ answer.Counts n next → Given m n next old new
+decode-ok (ok c) {r} {n} {next} g d =
+    let p = ok-inj (sym (ap countsSaid d) ∙ g .says) in
+    let x : n ≡ length (c .values) = ap (λ (z : Span). z .n) p in
+    let y : next ≡ c .next = ap (λ (z : Span). z .next) p in
+    record { values = c .values; reads = rw (y); many = sym x; left = g .left }
+decode-ok (fail q) g d = absurd (let e = ap countsSaid d in let z : _≡_ {A = ℕ} 0 1 = cc (g .says) in omega arith)
+
+pub decode-no : (m : Res Counts) {r : CountsAnswer} {q why : Refusal} {old new : List ℕ} → Decoded m r old new → r ≡ answer.Refused q → why ≡ countsRefused r
+    → (m ≡ fail why) × (new ≡ old)
+decode-no (ok c) g d f = absurd (let e = ap countsSaid d in let z : _≡_ {A = ℕ} 0 1 = cc (g .says) in omega arith)
+decode-no (fail w) {r} {q} {why} g d f =
+    let a : q ≡ w = cc (g .says, ap countsSaid d) in
+    let b : why ≡ q = f ∙ ap countsRefused d in
+    (ap fail (sym (b ∙ a)), g .left)
+
+-- ---- two outcomes that a promise allows coincide
 
 said-same : (a b : CountsAnswer) → countsSaid a ≡ countsSaid b → a ≡ b
 said-same (answer.Counts n next) (answer.Counts m to) e =
@@ -141,6 +176,11 @@ said-same (answer.Counts n next) (answer.Refused r) e = absurd (let z : _≡_ {A
 said-same (answer.Refused r) (answer.Counts m to) e = absurd (let z : _≡_ {A = ℕ} 0 1 = cc in omega arith)
 said-same (answer.Refused r) (answer.Refused q) e = let z : r ≡ q = cc in rw (z)
 
--- two outcomes that it allows coincide
 pub decoded-same : {m : Res Counts} {a b : CountsAnswer} {old x y : List ℕ} → Decoded m a old x → Decoded m b old y → (a ≡ b) × (x ≡ y)
 decoded-same {m} {a} {b} p q = (said-same a b (p .says ∙ sym (q .says)), p .left ∙ sym (q .left))
+
+pub plan-same : (a b : PlanAnswer) → planSaid a ≡ planSaid b → a ≡ b
+plan-same (found.Plan p) (found.Plan q) e = let z : p ≡ q = cc in rw (z)
+plan-same (found.Plan p) (found.Refused r) e = absurd (let z : _≡_ {A = ℕ} 0 1 = cc in omega arith)
+plan-same (found.Refused r) (found.Plan q) e = absurd (let z : _≡_ {A = ℕ} 0 1 = cc in omega arith)
+plan-same (found.Refused r) (found.Refused q) e = let z : r ≡ q = cc in rw (z)

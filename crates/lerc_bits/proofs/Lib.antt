@@ -2,4 +2,7 @@ pub mod Run
 pub mod IndexWidth
 pub mod Choose
 pub mod Answers
+pub mod Plans
+pub mod Values
 pub mod Local
+pub mod Trip

@@ -1,191 +1,112 @@
 -- Packed counts depend on their own bytes only, wherever these stand.
 -- Assumes nothing.
-use mathlib.Core.Path.{_≡_, refl, sym, ap, _∙_}
-use mathlib.Core.Bool.{Bool, true, false, cond}
-use mathlib.Core.List.{List, [], _∷_, _++_}
-use Prim.Native.Nat.{ℕ, zero, suc, _+_, _-_, _*_, _/_, _%_, _^_, _≤_, _<_}
+use mathlib.Core.Path.{_≡_, sym, ap, _∙_}
+use mathlib.Core.List.{List, _++_}
+use Prim.Native.Nat.{ℕ, _+_, _-_, _%_, _≤_}
 use native.Mathlib.Omega.{arith}
-use native.Mathlib.Nat.{add-assoc, add-zero}
-use borrow.Author.Tests.{leb-true}
-use lib.Dec.{ltb, leb}
-use lib.ListN.{length, getD}
-use Rattle.lerc_bits.proofs.Answers.{length-digits, length-chosen}
-use Rattle.lerc_words.specs.Res.{Res, ok, fail, _>>=_, require, little, wordAt}
-use Rattle.lerc_words.proofs.Laws.{Stays, bind-is, require-is, wordAt-is, wordAt-stays}
-use Rattle.lerc_bits.specs.Bits.{Counts, runBytes, digits, run, plain, allBelow, chosen, indexWidth, indexed, tabled, counts}
+use native.Mathlib.Nat.{add-assoc, add-zero, zero-add}
+use lib.ListN.{length, length-append}
+use lib.Seq.{getD-append-add}
+use Rattle.lerc_words.specs.Res.{ok, wordAt}
+use Rattle.lerc_words.proofs.Laws.{Stays, wordAt-stays, little-same}
+use Rattle.lerc_bits.specs.declared.Plan.{Plan}
+use Rattle.lerc_bits.specs.Bits.{runBytes, indexWidth, countBytes, plainPlan, tablePlan, plan, digits, run, unpacked, Counts, counts}
+use Rattle.lerc_bits.proofs.Answers.{Headed, counts-by, unpacked-plain, unpacked-table}
+use Rattle.lerc_bits.proofs.Plans.{Laid, laid-plain, laid-table, planned, plan-is, laid-spread, plan-ends}
+use Rattle.lerc_bits.proofs.Values.{Valued, valued-plain, valued-table, counts-is, counts-ends}
 
--- an end that lies k bytes on
-abbrev pub Ends : Counts → ℕ → ℕ → Type 0
-Ends c at k = c .next ≡ at + k
+-- the same plan, for bytes that stand at `to` and not at `at`
+abbrev pub moved : ℕ → ℕ → Plan → Plan
+moved at to p = record {
+  n = p .n;
+  bits = p .bits;
+  entries = p .entries;
+  table = p .table - at + to;
+  at = p .at - at + to;
+  width = p .width;
+  next = p .next - at + to;
+}
 
--- the same counts, ending elsewhere
-abbrev pub moved : Counts → ℕ → Counts
-moved c next = record { values = c .values; next = next }
+moved-plain : (n bits at to j : ℕ) → moved at to (plainPlan n bits (at + j)) ≡ plainPlan n bits (to + j)
+moved-plain n bits at to j =
+    let e : at + j - at + to ≡ to + j = omega arith in
+    let d : at + j + runBytes n bits - at + to ≡ to + j + runBytes n bits = omega arith in
+    rw (d, e)
 
-run-stays : (n bits j : ℕ) {s t : List ℕ} {at to k : ℕ} {vs : List ℕ} → run s (at + j) n bits ≡ ok vs → j + runBytes n bits ≤ k → Stays s at t to k → run t (to + j) n bits ≡ ok vs
-unfolding run
-run-stays n bits j {s} {t} {at} {to} e h l =
-    let b = bind-is (wordAt (runBytes n bits) s (at + j)) (λ whole. ok (digits whole n bits)) e in
-    let f = wordAt-stays (runBytes n bits) j (b .1) h l in
-    rw (f) (b .2)
-
-pub plain-stays : (n bits j : ℕ) {s t : List ℕ} {at to k : ℕ} {c : Counts} → plain s (at + j) n bits ≡ ok c → Ends c at k → Stays s at t to k
-    → plain t (to + j) n bits ≡ ok (moved c (to + k))
-unfolding plain
-plain-stays n bits j {s} {t} {at} {to} {k} {c} e d l =
-    let b = bind-is (run s (at + j) n bits) (λ vs. ok (record { values = vs; next = at + j + runBytes n bits })) e in
-    let q : at + j + runBytes n bits ≡ c .next = cc in
-    let v : b .0 ≡ c .values = cc in
-    let p : to + j + runBytes n bits ≡ to + k = omega arith in
-    let f = run-stays n bits j (b .1) (omega arith) l in
-    rw (f, p, v)
-
-pub indexed-stays : (entries n bits j : ℕ) {s t : List ℕ} {at to k : ℕ} {c : Counts} → indexed s (at + j) entries n bits ≡ ok c → Ends c at k → Stays s at t to k
-    → indexed t (to + j) entries n bits ≡ ok (moved c (to + k))
-unfolding indexed
-indexed-stays entries n bits j {s} {t} {at} {to} {k} {c} e d l =
+moved-table : (n bits entries at to j : ℕ) → moved at to (tablePlan n bits entries (at + j)) ≡ tablePlan n bits entries (to + j)
+moved-table n bits entries at to j =
     let m = runBytes (entries - 1) bits in
     let w = indexWidth entries in
-    let b = bind-is (run s (at + j) (entries - 1) bits) _ e in
-    let b2 = bind-is (run s (at + j + m) n w) _ (b .2) in
-    let b3 = bind-is (require (allBelow n entries (b2 .0)) 8) _ (b2 .2) in
-    let x : allBelow n entries (b2 .0) ≡ true = require-is _ 8 (b3 .1) in
-    let q : at + j + m + runBytes n w ≡ c .next = cc in
-    let v : chosen n (0 ∷ b .0) (b2 .0) ≡ c .values = cc in
-    let p : to + j + m + runBytes n w ≡ to + k = omega arith in
-    let f = run-stays (entries - 1) bits j (b .1) (omega arith) l in
-    let y : run s (at + (j + m)) n w ≡ ok (b2 .0) = rw (← add-assoc at j m) (b2 .1) in
-    let g : run t (to + j + m) n w ≡ ok (b2 .0) = rw (add-assoc to j m) (run-stays n w (j + m) y (omega arith) l) in
-    rw (f, g, x, p, v)
+    let e : at + j - at + to ≡ to + j = omega arith in
+    let f : at + j + m - at + to ≡ to + j + m = omega arith in
+    let d : at + j + m + runBytes n w - at + to ≡ to + j + m + runBytes n w = omega arith in
+    rw (d, f, e)
 
-pub plain-ends : (s : List ℕ) (at n bits : ℕ) {c : Counts} → plain s at n bits ≡ ok c → (at ≤ c .next) × (c .next ≤ length s)
-unfolding plain run
-plain-ends s at n bits {c} e =
-    let b = bind-is (run s at n bits) _ e in
-    let b1 = bind-is (wordAt (runBytes n bits) s at) _ (b .1) in
-    let q : at + runBytes n bits ≡ c .next = cc in
-    let i = wordAt-is (runBytes n bits) s at (b1 .0) (b1 .1) .inside in
-    (omega arith, omega arith)
+module _ {s t : List ℕ} {at to k : ℕ} (l : Stays s at t to k) where
+  laid-stays : (j h n : ℕ) {p : Plan} → Laid s (at + j) h n p → p .table ≤ at + k → Laid t (to + j) h n (moved at to p)
+  laid-stays j h n (laid-plain c e) g = laid-plain c (ap (moved at to) e ∙ moved-plain n (h % 32) at to j)
+  laid-stays j h n (laid-table v c b w m e) g =
+      let i : at + j + 1 ≤ at + k = rw (e) at g in
+      laid-table v c b (wordAt-stays 1 j w (omega arith) l) m
+      (ap (moved at to) e ∙ rw (add-assoc at j 1, add-assoc to j 1) (moved-table n (h % 32) v at to (j + 1)))
 
--- counts end behind their start, and within
-pub indexed-ends : (s : List ℕ) (at entries n bits : ℕ) {c : Counts} → indexed s at entries n bits ≡ ok c → (at ≤ c .next) × (c .next ≤ length s)
-unfolding indexed run
-indexed-ends s at entries n bits {c} e =
-    let m = runBytes (entries - 1) bits in
-    let w = indexWidth entries in
-    let b = bind-is (run s at (entries - 1) bits) _ e in
-    let b2 = bind-is (run s (at + m) n w) _ (b .2) in
-    let b3 = bind-is (require (allBelow n entries (b2 .0)) 8) _ (b2 .2) in
-    let b4 = bind-is (wordAt (runBytes n w) s (at + m)) _ (b2 .1) in
-    let q : at + m + runBytes n w ≡ c .next = cc in
-    let i = wordAt-is (runBytes n w) s (at + m) (b4 .0) (b4 .1) .inside in
-    (omega arith, omega arith)
+  headed-stays : (h n : ℕ) → Headed s at h n → 1 + countBytes h ≤ k → Headed t to h n
+  headed-stays h n g i =
+      let y : wordAt 1 s (at + 0) ≡ ok h = rw (add-zero) (g .first) in
+      let f : wordAt 1 t to ≡ ok h = rw (add-zero) at (wordAt-stays 1 0 y (omega arith) l) in
+      record { first = f; known = g .known; second = wordAt-stays (countBytes h) 1 (g .second) i l }
 
-pub tabled-ends : (s : List ℕ) (at n bits : ℕ) {c : Counts} → tabled s at n bits ≡ ok c → (at + 1 ≤ c .next) × (c .next ≤ length s)
-unfolding tabled
-tabled-ends s at n bits {c} e =
-    let b0 = bind-is (require (ltb 0 bits) 8) _ e in
-    let b = bind-is (wordAt 1 s at) _ (b0 .2) in
-    let b2 = bind-is (require (leb 2 (b .0)) 8) _ (b .2) in
-    let i = indexed-ends s (at + 1) (b .0) n bits (b2 .2) in
-    (i .0, i .1)
+  -- THE LOCALITY LAW of plans
+  pub plan-stays : {p : Plan} → plan s at ≡ ok p → p .next ≡ at + k → plan t to ≡ ok (moved at to p)
+  plan-stays {p} e d =
+      let g = plan-is s at e in
+      let c = countBytes (g .h) in
+      let i = laid-spread (g .laid) .starts in
+      let b = plan-ends s at e in
+      let x : Laid s (at + (1 + c)) (g .h) (g .n) p = rw (← add-assoc at 1 c) (g .laid) in
+      let y : Laid t (to + 1 + c) (g .h) (g .n) (moved at to p) = rw (add-assoc to 1 c) (laid-stays (1 + c) (g .h) (g .n) x (omega arith)) in
+      planned t to (record {
+        h = g .h;
+        n = g .n;
+        headed = headed-stays (g .h) (g .n) (g .headed) (omega arith);
+        few = g .few;
+        laid = y;
+        inside = omega (arith, l .room);
+      })
 
-pub tabled-stays : (n bits j : ℕ) {s t : List ℕ} {at to k : ℕ} {c : Counts} → tabled s (at + j) n bits ≡ ok c → Ends c at k → Stays s at t to k
-    → tabled t (to + j) n bits ≡ ok (moved c (to + k))
-unfolding tabled
-tabled-stays n bits j {s} {t} {at} {to} {k} {c} e d l =
-    let i = tabled-ends s (at + j) n bits e in
-    let b0 = bind-is (require (ltb 0 bits) 8) _ e in
-    let b = bind-is (wordAt 1 s (at + j)) _ (b0 .2) in
-    let b2 = bind-is (require (leb 2 (b .0)) 8) _ (b .2) in
-    let x0 : ltb 0 bits ≡ true = require-is _ 8 (b0 .1) in
-    let x2 : leb 2 (b .0) ≡ true = require-is _ 8 (b2 .1) in
-    let y : indexed s (at + (j + 1)) (b .0) n bits ≡ ok c = rw (← add-assoc at j 1) (b2 .2) in
-    let f = wordAt-stays 1 j (b .1) (omega arith) l in
-    let g : indexed t (to + j + 1) (b .0) n bits ≡ ok (moved c (to + k)) = rw (add-assoc to j 1) (indexed-stays (b .0) n bits (j + 1) y d l) in
-    rw (x0, f, x2) g
+  run-stays : (n bits q : ℕ) → at ≤ q → q + runBytes n bits ≤ at + k → run s q n bits ≡ run t (q - at + to) n bits
+  run-stays n bits q h g =
+      ap (λ (x : ℕ). digits x n bits)
+      (little-same (runBytes n bits) s t q (q - at + to) (λ i j.
+      let e : q + i ≡ at + (q - at + i) = omega arith in
+      let f : q - at + to + i ≡ to + (q - at + i) = omega arith in
+      rw (e, f) (l .same (q - at + i) (omega arith))))
 
-form-ends : (s : List ℕ) (at n bits : ℕ) (t : Bool) {c : Counts} → cond t (plain s at n bits) (tabled s at n bits) ≡ ok c → (at ≤ c .next) × (c .next ≤ length s)
-form-ends s at n bits true e = plain-ends s at n bits e
-form-ends s at n bits false e = let i = tabled-ends s at n bits e in (omega arith, i .1)
+  valued-stays : {p : Plan} {vs : List ℕ} → at ≤ p .table → p .table + runBytes (p .entries - 1) (p .bits) ≤ p .at → p .at + runBytes (p .n) (p .width) ≡ at + k → p .next ≡ at + k
+      → Valued s p vs → unpacked t (moved at to p) ≡ ok (record { values = vs; next = to + k })
+  valued-stays {p} a b c d (valued-plain z i) =
+      let e : p .next - at + to ≡ to + k = omega arith in
+      let f = run-stays (p .n) (p .width) (p .at) (omega arith) (omega arith) in
+      unpacked-plain t (moved at to p) z ∙ rw (e, i, f)
+  valued-stays {p} a b c d (valued-table h q i) =
+      let e : p .next - at + to ≡ to + k = omega arith in
+      let f = run-stays (p .n) (p .width) (p .at) (omega arith) (omega arith) in
+      let g = run-stays (p .entries - 1) (p .bits) (p .table) a (omega arith) in
+      unpacked-table t (moved at to p) h (rw (f) at q) ∙ rw (e, i, f, g)
 
-form-stays : (n bits w : ℕ) (z : Bool) {s t : List ℕ} {at to k : ℕ} {c : Counts} → cond z (plain s (at + 1 + w) n bits) (tabled s (at + 1 + w) n bits) ≡ ok c → Ends c at k
-    → Stays s at t to k → cond z (plain t (to + 1 + w) n bits) (tabled t (to + 1 + w) n bits) ≡ ok (moved c (to + k))
-form-stays n bits w true {s} {t} {at} {to} e d l =
-    rw (add-assoc to 1 w) (plain-stays n bits (1 + w) (rw (add-assoc at 1 w) at e) d l)
-form-stays n bits w false {s} {t} {at} {to} e d l =
-    rw (add-assoc to 1 w) (tabled-stays n bits (1 + w) (rw (add-assoc at 1 w) at e) d l)
+  -- and of counts
+  pub counts-stays : {c : Counts} → counts s at ≡ ok c → c .next ≡ at + k → counts t to ≡ ok (record { values = c .values; next = to + k })
+  counts-stays e d =
+      let g = counts-is s at e in
+      let r = laid-spread (plan-is s at (g .planned) .laid) in
+      let b = plan-ends s at (g .planned) in
+      let n : g .p .next ≡ at + k = g .ends ∙ d in
+      counts-by t to (plan-stays (g .planned) n) ∙ valued-stays (omega arith) (r .first) (r .second ∙ n) n (g .valued)
 
--- THE LOCALITY LAW
-pub counts-stays : {s t : List ℕ} (at to k : ℕ) {c : Counts} → counts s at ≡ ok c → Ends c at k → Stays s at t to k → counts t to ≡ ok (moved c (to + k))
-unfolding counts
-counts-stays {s} {t} at to k {c} e d l =
-    let b = bind-is (wordAt 1 s at) _ e in
-    let h = b .0 in
-    let b1 = bind-is (require (ltb (h / 64) 3) 8) _ (b .2) in
-    let wide = 4 / 2 ^ (h / 64) in
-    let b2 = bind-is (wordAt wide s (at + 1)) _ (b1 .2) in
-    let n = b2 .0 in
-    let b3 = bind-is (require (leb n 256) 8) _ (b2 .2) in
-    let x1 : ltb (h / 64) 3 ≡ true = require-is _ 8 (b1 .1) in
-    let x3 : leb n 256 ≡ true = require-is _ 8 (b3 .1) in
-    let ends = form-ends s (at + 1 + wide) n (h % 32) (ltb (h % 64) 32) (b3 .2) in
-    let y : wordAt 1 s (at + 0) ≡ ok h = rw (add-zero) (b .1) in
-    let f : wordAt 1 t to ≡ ok h = rw (add-zero) at (wordAt-stays 1 0 y (omega arith) l) in
-    let g = wordAt-stays wide 1 (b2 .1) (omega arith) l in
-    rw (f, x1, g, x3) (form-stays n (h % 32) wide (ltb (h % 64) 32) (b3 .2) d l)
-
--- packed counts end behind their start, and within
-pub counts-ends : (s : List ℕ) (at : ℕ) {c : Counts} → counts s at ≡ ok c → (at < c .next) × (c .next ≤ length s)
-unfolding counts
-counts-ends s at {c} e =
-    let b = bind-is (wordAt 1 s at) _ e in
-    let h = b .0 in
-    let b1 = bind-is (require (ltb (h / 64) 3) 8) _ (b .2) in
-    let wide = 4 / 2 ^ (h / 64) in
-    let b2 = bind-is (wordAt wide s (at + 1)) _ (b1 .2) in
-    let b3 = bind-is (require (leb (b2 .0) 256) 8) _ (b2 .2) in
-    let i = form-ends s (at + 1 + wide) (b2 .0) (h % 32) (ltb (h % 64) 32) (b3 .2) in
-    (omega arith, omega arith)
-
--- ---- how many there are
-
-plain-length : (s : List ℕ) (at n bits : ℕ) {c : Counts} → plain s at n bits ≡ ok c → length (c .values) ≡ n
-unfolding plain run
-plain-length s at n bits {c} e =
-    let b = bind-is (run s at n bits) _ e in
-    let b1 = bind-is (wordAt (runBytes n bits) s at) _ (b .1) in
-    let v : digits (b1 .0) n bits ≡ c .values = cc in
-    sym (ap length v) ∙ length-digits (b1 .0) n bits
-
-tabled-length : (s : List ℕ) (at n bits : ℕ) {c : Counts} → tabled s at n bits ≡ ok c → length (c .values) ≡ n
-unfolding tabled indexed
-tabled-length s at n bits {c} e =
-    let b0 = bind-is (require (ltb 0 bits) 8) _ e in
-    let b = bind-is (wordAt 1 s at) _ (b0 .2) in
-    let b1 = bind-is (require (leb 2 (b .0)) 8) _ (b .2) in
-    let m = runBytes (b .0 - 1) bits in
-    let w = indexWidth (b .0) in
-    let b2 = bind-is (run s (at + 1) (b .0 - 1) bits) _ (b1 .2) in
-    let b3 = bind-is (run s (at + 1 + m) n w) _ (b2 .2) in
-    let b4 = bind-is (require (allBelow n (b .0) (b3 .0)) 8) _ (b3 .2) in
-    let v : chosen n (0 ∷ b2 .0) (b3 .0) ≡ c .values = cc in
-    sym (ap length v) ∙ length-chosen n (0 ∷ b2 .0) (b3 .0)
-
-form-length : (s : List ℕ) (at n bits : ℕ) (t : Bool) {c : Counts} → cond t (plain s at n bits) (tabled s at n bits) ≡ ok c → length (c .values) ≡ n
-form-length s at n bits true e = plain-length s at n bits e
-form-length s at n bits false e = tabled-length s at n bits e
-
--- there are at most 256
-pub counts-few : (s : List ℕ) (at : ℕ) {c : Counts} → counts s at ≡ ok c → length (c .values) ≤ 256
-unfolding counts
-counts-few s at {c} e =
-    let b = bind-is (wordAt 1 s at) _ e in
-    let h = b .0 in
-    let b1 = bind-is (require (ltb (h / 64) 3) 8) _ (b .2) in
-    let wide = 4 / 2 ^ (h / 64) in
-    let b2 = bind-is (wordAt wide s (at + 1)) _ (b1 .2) in
-    let b3 = bind-is (require (leb (b2 .0) 256) 8) _ (b2 .2) in
-    let k : b2 .0 ≤ 256 = leb-true _ _ (require-is _ 8 (b3 .1)) in
-    let l = form-length s (at + 1 + wide) (b2 .0) (h % 32) (ltb (h % 64) 32) (b3 .2) in
-    omega arith
+-- bytes in front of them only move them
+pub counts-behind : (front s : List ℕ) {c : Counts} → counts s 0 ≡ ok c → counts (front ++ s) (length front) ≡ ok (record { values = c .values; next = length front + c .next })
+counts-behind front s {c} e =
+    let b = counts-ends s 0 e in
+    let l : length (front ++ s) ≡ length front + length s = length-append front s in
+    let m : Stays s 0 (front ++ s) (length front) (c .next) = record { same = λ i h. rw (zero-add) (sym (getD-append-add front s i 0)); room = omega arith } in
+    counts-stays m e (sym (zero-add (c .next)))

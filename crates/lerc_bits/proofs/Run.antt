@@ -1,30 +1,33 @@
--- A run of values is one wordAt, and each value is read from eight bytes.
+-- A run of values is one number, and each value is read from a few bytes.
 -- Assumes nothing.
-use mathlib.Core.Path.{_≡_, _∙_, sym, ap, refl}
-use mathlib.Core.List.{List, [], _∷_, _++_}
-use Prim.Native.Nat.{ℕ, zero, suc, _+_, _-_, _*_, _/_, _%_, _^_, _≤_, _<_}
+use mathlib.Core.Path.{_≡_, sym}
+use mathlib.Core.List.{List}
+use Prim.Native.Nat.{ℕ, suc, _+_, _-_, _*_, _/_, _%_, _^_, _≤_, _<_}
 use native.Mathlib.Omega.{arith}
-use native.Mathlib.Decide.{decLe}
-use native.Mathlib.Nat.{mul-assoc, mul-le-mul-right, suc-mul, add-mul-div-left, add-mul-mod-self-left, div-div-eq-div-mul, div-add-mod}
-use lib.Pow.{pow-add, pow-pos}
-use lib.ListN.{length, getD}
+use native.Mathlib.Decide.{decLe, decLt}
+use native.Mathlib.Nat.{mul-assoc, mul-le-mul, mul-le-mul-right, suc-mul, add-mul-div-left, add-mul-mod-self-left, div-div-eq-div-mul, div-add-mod, mod-lt}
+use lib.Pow.{pow-add, pow-pos, pow-mono}
+use lib.ListN.{length, getD, List·getD-eq-default}
 use Rattle.lerc_words.specs.Res.{little}
-use Rattle.lerc_words.specs.Lists.{from, tabulate}
 use Rattle.lerc_words.proofs.Laws.{Bytes, little-split, little-high, byte-pow}
+use Rattle.lerc_words.proofs.Tables.{length-tabulate, getD-tabulate}
 use Rattle.lerc_bits.specs.Bits.{runBytes, digits}
+
+pub small-product : (n b : ℕ) → n ≤ 256 → b ≤ 31 → n * b ≤ 7936
+small-product n b h k = mul-le-mul {n₂ = 256} {m₂ = 31} h k
 
 spread : (c r b e x : ℕ) → 8 * c ≡ r + (b + e) → 256 ^ c * x ≡ 2 ^ r * (2 ^ b * (2 ^ e * x))
 spread c r b e x t = rw (byte-pow c, t, pow-add 2 r (b + e), pow-add 2 b e, mul-assoc, mul-assoc)
 
 -- bytes above the digits that are asked for do not matter
-pub window : (c d r b : ℕ) (s : List ℕ) (q : ℕ) → r + b ≤ 8 * c → little (c + d) s q / 2 ^ r % 2 ^ b ≡ little c s q / 2 ^ r % 2 ^ b
+window : (c d r b : ℕ) (s : List ℕ) (q : ℕ) → r + b ≤ 8 * c → little (c + d) s q / 2 ^ r % 2 ^ b ≡ little c s q / 2 ^ r % 2 ^ b
 window c d r b s q h =
     let e = 8 * c - (r + b) in
     let x = little d s (q + c) in
     let t : 8 * c ≡ r + (b + e) = omega arith in
     rw (little-split c d s q, spread c r b e x t, add-mul-div-left (little c s q) (2 ^ b * (2 ^ e * x)) (pow-pos r), add-mul-mod-self-left)
 
-pub window-any : (c d r b : ℕ) (s : List ℕ) (q : ℕ) → r + b ≤ 8 * c → r + b ≤ 8 * d → little c s q / 2 ^ r % 2 ^ b ≡ little d s q / 2 ^ r % 2 ^ b
+window-any : (c d r b : ℕ) (s : List ℕ) (q : ℕ) → r + b ≤ 8 * c → r + b ≤ 8 * d → little c s q / 2 ^ r % 2 ^ b ≡ little d s q / 2 ^ r % 2 ^ b
 window-any c d r b s q h k = go (decLe c d)
   where
     go : Dec (c ≤ d) → little c s q / 2 ^ r % 2 ^ b ≡ little d s q / 2 ^ r % 2 ^ b
@@ -35,9 +38,10 @@ window-any c d r b s q h k = go (decLe c d)
         let e : d + (c - d) ≡ c = omega arith in
         rw (e) at (window d (c - d) r b s q k)
 
--- THE RUN LAW: b digits of a wordAt of m bytes, t digits up, stand in eight bytes
-pub digit-at : (m t b : ℕ) (s : List ℕ) (p : ℕ) → Bytes s → t + b ≤ 8 * m → b ≤ 57 → little m s p / 2 ^ t % 2 ^ b ≡ little 8 s (p + t / 8) / 2 ^ (t % 8) % 2 ^ b
-digit-at m t b s p y h l =
+-- b digits of a number of m bytes, t digits up, stand in any c bytes that hold so many
+pub digit-at : (m c t b : ℕ) (s : List ℕ) (p : ℕ) → Bytes s → t + b ≤ 8 * m → t % 8 + b ≤ 8 * c
+    → little m s p / 2 ^ t % 2 ^ b ≡ little c s (p + t / 8) / 2 ^ (t % 8) % 2 ^ b
+digit-at m c t b s p y h l =
     let i = t / 8 in
     let r = t % 8 in
     let j = m - i in
@@ -45,13 +49,38 @@ digit-at m t b s p y h l =
     let u : 2 ^ t ≡ 256 ^ i * 2 ^ r = rw (byte-pow i, ← pow-add 2 (8 * i) r, div-add-mod t 8) in
     let k : little m s p / 256 ^ i ≡ little j s (p + i) = rw (e) at (little-high i j s p y) in
     rw (u, ← div-div-eq-div-mul (little m s p) (256 ^ i) (2 ^ r), k)
-    (window-any j 8 r b s (p + i) (omega arith) (omega arith))
+    (window-any j c r b s (p + i) (omega arith) l)
 
--- value k of a run
-pub run-digit : (n b k : ℕ) (s : List ℕ) (p : ℕ) → Bytes s → k < n → b ≤ 57
-    → little (runBytes n b) s p / 2 ^ (k * b) % 2 ^ b ≡ little 8 s (p + k * b / 8) / 2 ^ (k * b % 8) % 2 ^ b
-run-digit n b k s p y h l =
+-- THE RUN LAW: value k of a run stands in the c bytes from its first on: five are enough for 33 bits, eight for 57
+pub run-digit : (c n b k : ℕ) (s : List ℕ) (p : ℕ) → Bytes s → k < n → b + 7 ≤ 8 * c
+    → little (runBytes n b) s p / 2 ^ (k * b) % 2 ^ b ≡ little c s (p + k * b / 8) / 2 ^ (k * b % 8) % 2 ^ b
+run-digit c n b k s p y h l =
     let a : suc k * b ≤ n * b = mul-le-mul-right b h in
     let e : suc k * b ≡ k * b + b = suc-mul k b in
     let w : k * b + b ≤ 8 * runBytes n b = omega arith in
-    digit-at (runBytes n b) (k * b) b s p y w l
+    digit-at (runBytes n b) c (k * b) b s p y w (omega arith)
+
+pub length-digits : (whole n bits : ℕ) → length (digits whole n bits) ≡ n
+unfolding digits
+length-digits whole n bits = length-tabulate n _
+
+pub digits-at : (whole n bits k : ℕ) → k < n → getD (digits whole n bits) k 0 ≡ whole / 2 ^ (k * bits) % 2 ^ bits
+unfolding digits
+digits-at whole n bits k l = getD-tabulate n (λ j. whole / 2 ^ (j * bits) % 2 ^ bits) k 0 l
+
+-- no digit reaches the base
+pub digits-small : (whole n bits k : ℕ) → getD (digits whole n bits) k 0 < 2 ^ bits
+digits-small whole n bits k = go (decLt k n)
+  where
+    go : Dec (k < n) → getD (digits whole n bits) k 0 < 2 ^ bits
+    go (yes l) = rw (digits-at whole n bits k l) (mod-lt (whole / 2 ^ (k * bits)) (pow-pos bits))
+    go (no l) =
+        let h : length (digits whole n bits) ≤ k = omega (arith, length-digits whole n bits) in
+        rw (List·getD-eq-default (digits whole n bits) 0 h) (pow-pos bits)
+
+-- a value fits 32 bits
+pub value-fits : (x bits : ℕ) → bits ≤ 31 → x % 2 ^ bits < 2 ^ 32
+value-fits x bits h =
+    let m : 2 ^ bits ≤ 2 ^ 31 = pow-mono {j = 31} h in
+    let w : x % 2 ^ bits < 2 ^ bits = mod-lt x (pow-pos bits) in
+    omega arith

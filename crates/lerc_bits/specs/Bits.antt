@@ -1,93 +1,156 @@
--- Packed counts. A run is one little-endian wordAt, whose digits in base 2^bits are its entries.
+-- Packed counts. A run is one little-endian number, whose digits in base 2^bits are its entries.
+-- The plan says where the runs stand, from the bytes in front of them; the counts are then read by the plan.
 -- Assumes nothing.
-use Prim.Native.Nat.{ℕ, zero, suc, _+_, _*_, _-_, _/_, _%_, _^_}
+use Prim.Native.Nat.{ℕ, _+_, _*_, _-_, _/_, _%_, _^_, _≤_}
 use mathlib.Core.Path.{_≡_}
-use mathlib.Core.Bool.{Bool, true, false, cond}
-use mathlib.Core.List.{List, [], _∷_, _++_}
-use lib.ListN.{length, getD, drop}
-use lib.Dec.{leb, ltb}
+use mathlib.Core.Bool.{Bool, cond}
+use mathlib.Core.List.{List, [], _∷_}
+use lib.ListN.{length, getD}
+use lib.Dec.{leb, ltb, eqb}
 use lib.Ieee.{size}
-use Rattle.lerc_words.specs.Res.{Res, ok, fail, _>>=_, require, wordAt, little}
-use Rattle.lerc_words.specs.Lists.{from, tabulate}
+use Rattle.lerc_words.specs.declared.Refusal.{Refusal}
+use Rattle.lerc_words.specs.Res.{Res, ok, fail, _>>=_, refuse, require, wordAt, little, after}
+use Rattle.lerc_words.specs.Lists.{tabulate, over, allTo}
+use Rattle.lerc_bits.specs.declared.Plan.{Plan}
+use Rattle.lerc_bits.specs.declared.PlanAnswer.{PlanAnswer}
+use Rattle.lerc_bits.specs.declared.PlanAnswer.the-variants as found
 use Rattle.lerc_bits.specs.declared.CountsAnswer.{CountsAnswer}
 use Rattle.lerc_bits.specs.declared.CountsAnswer.the-variants as answer
 
-pub record Counts : Type 0 where
-  pub values : List ℕ
-  pub next : ℕ
+-- ---- where the runs stand
 
+-- "Each run ends on a byte": the bytes of n numbers of `bits` bits
 abbrev pub runBytes : ℕ → ℕ → ℕ
 runBytes n bits = (n * bits + 7) / 8
 
--- the lowest n digits of a wordAt in base 2^bits
+-- "the least width w with 2^w at least entries" (that it is: index-enough, index-least)
+abbrev pub indexWidth : ℕ → ℕ
+indexWidth entries = size (entries - 1)
+
+-- "h/64 = 0, 1, 2 means a count n of 4, 2, 1 bytes"
+abbrev pub countBytes : ℕ → ℕ
+countBytes h = getD (4 ∷ 2 ∷ 1 ∷ []) (h / 64) 0
+
+-- "n values of `bits` bits", which start at `at`
+abbrev pub plainPlan : ℕ → ℕ → ℕ → Plan
+plainPlan n bits at =
+    record { n = n; bits = bits; entries = 0; table = at; at = at; width = bits; next = at + runBytes n bits }
+
+-- "entries-1 values (entry 0 is zero)", which start at `table`; "then n indices"
+abbrev pub tablePlan : ℕ → ℕ → ℕ → ℕ → Plan
+tablePlan n bits entries table =
+    let at = table + runBytes (entries - 1) bits in
+    let width = indexWidth entries in
+    record { n = n; bits = bits; entries = entries; table = table; at = at; width = width; next = at + runBytes n width }
+
+-- "its whole length must fit (1) before its content is judged": where the last run fits, so does each
+abbrev pub fits : ℕ → Plan → Res Plan
+fits len p = do
+  _ ← require (leb (p .next) len) 1
+  ok p
+
+-- "Set: bits 0 is, once n has been read, 8; one byte `entries`, under 2 is 8"
+unfoldable pub tabled : List ℕ → ℕ → ℕ → ℕ → Res Plan
+tabled s at n bits = do
+  _ ← require (ltb 0 bits) 8
+  entries ← wordAt 1 s at
+  _ ← require (leb 2 entries) 8
+  fits (length s) (tablePlan n bits entries (at + 1))
+
+-- "byte h; .. 3 is 8; n above 256 is 8; bits = h%32. Bit 5 clear: n values .. Set: .."
+unfoldable pub plan : List ℕ → ℕ → Res Plan
+plan s at = do
+  h ← wordAt 1 s at
+  _ ← require (ltb (h / 64) 3) 8
+  n ← wordAt (countBytes h) s (at + 1)
+  _ ← require (leb n 256) 8
+  let to = at + 1 + countBytes h
+  cond (eqb (h / 32 % 2) 0) (fits (length s) (plainPlan n (h % 32) to)) (tabled s to n (h % 32))
+
+-- ---- what the runs hold
+
+-- "lowest bit first": the lowest n digits of a number in base 2^bits
 unfoldable pub digits : ℕ → ℕ → ℕ → List ℕ
 digits whole n bits = tabulate n (λ k. whole / 2 ^ (k * bits) % 2 ^ bits)
 
-unfoldable pub run : List ℕ → ℕ → ℕ → ℕ → Res (List ℕ)
-run s at n bits = do
-  whole ← wordAt (runBytes n bits) s at
-  ok (digits whole n bits)
-
-unfoldable pub plain : List ℕ → ℕ → ℕ → ℕ → Res Counts
-plain s at n bits = do
-  values ← run s at n bits
-  ok (record { values = values; next = at + runBytes n bits })
-
--- the first n of a list are below b
-unfoldable pub allBelow : ℕ → ℕ → List ℕ → Bool
-allBelow zero b xs = true
-allBelow (suc n) b xs = cond (allBelow n b xs) (ltb (getD xs n 0) b) false
+-- n numbers of `bits` bits from `at` on
+abbrev pub run : List ℕ → ℕ → ℕ → ℕ → List ℕ
+run s at n bits = digits (little (runBytes n bits) s at) n bits
 
 -- the entries of a table that n indices name
 unfoldable pub chosen : ℕ → List ℕ → List ℕ → List ℕ
 chosen n table indices = tabulate n (λ k. getD table (getD indices k 0) 0)
 
--- the least w with 2^w at least `entries`
-abbrev pub indexWidth : ℕ → ℕ
-indexWidth entries = size (entries - 1)
+-- "an index at or above entries is 8"
+abbrev pub allBelow : ℕ → ℕ → List ℕ → Bool
+allBelow n entries indices = allTo n (λ k. ltb (getD indices k 0) entries)
 
--- a table of `entries` values, the first of them zero, and n indices into it
-unfoldable pub indexed : List ℕ → ℕ → ℕ → ℕ → ℕ → Res Counts
-indexed s at entries n bits = do
-  table ← run s at (entries - 1) bits
-  let to = at + runBytes (entries - 1) bits
-  indices ← run s to n (indexWidth entries)
-  _ ← require (allBelow n entries indices) 8
-  ok (record { values = chosen n (0 ∷ table) indices; next = to + runBytes n (indexWidth entries) })
+-- what the indices name in the table, whose "entry 0 is zero"
+unfoldable pub lookedUp : List ℕ → Plan → List ℕ → Res (List ℕ)
+lookedUp s p indices = do
+  _ ← require (allBelow (p .n) (p .entries) indices) 8
+  ok (chosen (p .n) (0 ∷ run s (p .table) (p .entries - 1) (p .bits)) indices)
 
-unfoldable pub tabled : List ℕ → ℕ → ℕ → ℕ → Res Counts
-tabled s at n bits = do
-  _ ← require (ltb 0 bits) 8
-  entries ← wordAt 1 s at
-  _ ← require (leb 2 entries) 8
-  indexed s (at + 1) entries n bits
+-- "Bit 5 clear": the n numbers themselves. "Set": what they name
+unfoldable pub valuesOf : List ℕ → Plan → Res (List ℕ)
+valuesOf s p = let numbers = run s (p .at) (p .n) (p .width) in cond (eqb (p .entries) 0) (ok numbers) (lookedUp s p numbers)
 
+pub record Counts : Type 0 where
+  pub values : List ℕ
+  pub next : ℕ
+
+-- the counts that a plan leads to
+unfoldable pub unpacked : List ℕ → Plan → Res Counts
+unpacked s p = do
+  vs ← valuesOf s p
+  ok (record { values = vs; next = p .next })
+
+-- the packed counts at `at`: "Reading goes front to back and the first failing read decides the number"
 unfoldable pub counts : List ℕ → ℕ → Res Counts
 counts s at = do
-  h ← wordAt 1 s at
-  _ ← require (ltb (h / 64) 3) 8
-  let wide = 4 / 2 ^ (h / 64)
-  n ← wordAt wide s (at + 1)
-  _ ← require (leb n 256) 8
-  cond (ltb (h % 64) 32) (plain s (at + 1 + wide) n (h % 32)) (tabled s (at + 1 + wide) n (h % 32))
+  p ← plan s at
+  unpacked s p
 
--- what an answer says: how many, and where they end
+-- ---- the answers: "A refusal carries its number"
+
+abbrev pub planSaid : PlanAnswer → Res Plan
+planSaid (found.Plan p) = ok p
+planSaid (found.Refused r) = fail r
+
+-- why; 0 where it was not refused
+abbrev pub planRefused : PlanAnswer → Refusal
+planRefused (found.Plan p) = refuse 0
+planRefused (found.Refused r) = r
+
+-- how many, and where they end
 pub record Span : Type 0 where
   pub n : ℕ
   pub next : ℕ
+
+abbrev pub span : Counts → Res Span
+span c = ok (record { n = length (c .values); next = c .next })
 
 abbrev pub countsSaid : CountsAnswer → Res Span
 countsSaid (answer.Counts n next) = ok (record { n = n; next = next })
 countsSaid (answer.Refused r) = fail r
 
-abbrev pub span : Counts → Res Span
-span c = ok (record { n = length (c .values); next = c .next })
+-- why; 0 where they were not refused
+abbrev pub countsRefused : CountsAnswer → Refusal
+countsRefused (answer.Counts n next) = refuse 0
+countsRefused (answer.Refused r) = r
 
--- the values stand in front; a refusal leaves the array
-abbrev pub countsLeft : Res Counts → List ℕ → List ℕ
-countsLeft (ok c) old = c .values ++ drop (length (c .values)) old
-countsLeft (fail r) old = old
-
+-- the values stand in front, and the entries behind them keep what they held;
+-- a refusal "leaves every lent slice unchanged"
 pub record Decoded (m : Res Counts) (r : CountsAnswer) (old new : List ℕ) : Type 0 where
   pub says : countsSaid r ≡ (m >>= span)
-  pub left : new ≡ countsLeft m old
+  pub left : new ≡ after m old (λ c. over (c .values) old)
+
+-- what every plan keeps to, in a slice of `len` bytes
+pub record Kept (len : ℕ) (p : Plan) : Type 0 where
+  pub few : p .n ≤ 256
+  pub narrow : p .bits ≤ 31
+  pub slim : p .width ≤ 31
+  pub short : p .entries ≤ 255
+  pub tabled : p .table ≤ p .at
+  pub begun : p .at ≤ p .next
+  pub inside : p .next ≤ len

@@ -1,24 +1,171 @@
 // Packed counts: bit-stuffed runs and lookup tables.
 ghost use mathlib.Core.Path.{_≡_};
 ghost use mathlib.Core.List.{_++_};
-ghost use Prim.Native.Nat.{ℕ, _+_, _-_, _*_, _≤_, _<_};
-ghost use mathlib.Core.Bool.{Bool, true, false};
-ghost use lib.ListN.{length, drop, getD, replicate};
-ghost use lib.Ieee.{size};
-ghost use Rattle.lerc_words.specs.Res.{little};
-ghost use Rattle.lerc_bits.specs.Bits.{runBytes, digits, allBelow, chosen, indexWidth, plain, indexed, tabled, counts, Decoded};
+ghost use mathlib.Core.Bool.{true};
+ghost use Prim.Native.Nat.{_≤_};
+ghost use lib.ListN.{length, drop};
+ghost use Rattle.lerc_bits.specs.Bits.{runBytes, indexWidth, plainPlan, tablePlan, fits, tabled, plan, planSaid, planRefused, run, chosen, allBelow, unpacked, counts, countsRefused, Decoded, Kept};
 use lerc_words::Refusal;
 use lerc_words::WordAnswer;
+
+// where packed counts stand: n values, or n indices into a table of `entries` values
+pub struct Plan {
+    pub n: usize,
+    // the width of a value
+    pub bits: usize,
+    // 0 where there is no table
+    pub entries: usize,
+    // where the table's values start
+    pub table: usize,
+    // where the n values or indices start, and the width of each
+    pub at: usize,
+    pub width: usize,
+    // where they end
+    pub next: usize,
+}
+
+pub enum PlanAnswer {
+    Plan(Plan),
+    Refused(Refusal),
+}
+
+impl PlanAnswer {
+    // why it was refused; number 0 where it was not
+    pub fn refusal(self) -> Refusal
+        ensures { λ r. ⌜ r ≡ planRefused self ⌝ }
+    {
+        match self {
+            PlanAnswer::Plan(_p) => Refusal { number: 0 },
+            PlanAnswer::Refused(why) => why,
+        }
+    }
+}
 
 pub enum CountsAnswer {
     Counts { n: usize, next: usize },
     Refused(Refusal),
 }
 
+impl CountsAnswer {
+    // why they were refused; number 0 where they were not
+    pub fn refusal(self) -> Refusal
+        ensures { λ r. ⌜ r ≡ countsRefused self ⌝ }
+    {
+        match self {
+            CountsAnswer::Counts { n: _n, next: _next } => Refusal { number: 0 },
+            CountsAnswer::Refused(why) => why,
+        }
+    }
+}
+
+fn run_bytes(n: usize, bits: usize) -> usize
+    requires { ⌜ (n ≤ 256) × (bits ≤ 31) ⌝ }
+    ensures { λ r. ⌜ (r ≡ runBytes n bits) × (r ≤ 992) ⌝ }
+{
+    (n * bits + 7) / 8
+}
+
+// the least w with 2^w at least `entries`
+fn index_width(entries: usize) -> usize
+    requires { ⌜ (1 ≤ entries) × (entries ≤ 255) ⌝ }
+    ensures { λ r. ⌜ (r ≡ indexWidth entries) × (r ≤ 8) ⌝ }
+{
+    (64 - u64::leading_zeros(entries as u64 - 1)) as usize
+}
+
+fn plan_plain(len: usize, n: usize, bits: usize, at: usize) -> PlanAnswer
+    requires { ⌜ (n ≤ 256) × (bits ≤ 31) × (at ≤ len) ⌝ }
+    ensures { λ r. ⌜ planSaid r ≡ fits len (plainPlan n bits at) ⌝ }
+{
+    let size = run_bytes(n, bits);
+    if len - at < size {
+        return PlanAnswer::Refused(Refusal { number: 1 });
+    }
+    PlanAnswer::Plan(Plan {
+        n,
+        bits,
+        entries: 0,
+        table: at,
+        at,
+        width: bits,
+        next: at + size,
+    })
+}
+
+fn plan_table(len: usize, n: usize, bits: usize, entries: usize, table: usize) -> PlanAnswer
+    requires { ⌜ (n ≤ 256) × (bits ≤ 31) × (1 ≤ entries) × (entries ≤ 255) × (table ≤ len) ⌝ }
+    ensures { λ r. ⌜ planSaid r ≡ fits len (tablePlan n bits entries table) ⌝ }
+{
+    let width = index_width(entries);
+    let first = run_bytes(entries - 1, bits);
+    let size = first + run_bytes(n, width);
+    if len - table < size {
+        return PlanAnswer::Refused(Refusal { number: 1 });
+    }
+    let at = table + first;
+    PlanAnswer::Plan(Plan {
+        n,
+        bits,
+        entries,
+        table,
+        at,
+        width,
+        next: table + size,
+    })
+}
+
+// bit 5 is set: a table comes first
+fn inspect_table(s: &[u8], at: usize, n: usize, bits: usize) -> PlanAnswer
+    requires { ⌜ (n ≤ 256) × (bits ≤ 31) ⌝ }
+    ensures { λ r. ⌜ planSaid r ≡ tabled (now (s .entry)) at n bits ⌝ }
+{
+    if bits == 0 {
+        return PlanAnswer::Refused(Refusal { number: 8 });
+    }
+    let a = lerc_words::word(s, at, 1);
+    let WordAnswer::Word(entries) = a else {
+        let why = a.refusal();
+        return PlanAnswer::Refused(why);
+    };
+    if entries < 2 {
+        return PlanAnswer::Refused(Refusal { number: 8 });
+    }
+    plan_table(s.len(), n, bits, entries as usize, at + 1)
+}
+
+// where the packed counts at `start` stand; their values are not looked at
+pub fn inspect(s: &[u8], start: usize) -> PlanAnswer
+    ensures { λ r. ⌜ planSaid r ≡ plan (now (s .entry)) start ⌝ }
+{
+    let a = lerc_words::word(s, start, 1);
+    let WordAnswer::Word(h) = a else {
+        let why = a.refusal();
+        return PlanAnswer::Refused(why);
+    };
+    if 3 <= h / 64 {
+        return PlanAnswer::Refused(Refusal { number: 8 });
+    }
+    let size: usize = 4 >> (h / 64);
+    let b = lerc_words::word(s, start + 1, size);
+    let WordAnswer::Word(n) = b else {
+        let why = b.refusal();
+        return PlanAnswer::Refused(why);
+    };
+    if 256 < n {
+        return PlanAnswer::Refused(Refusal { number: 8 });
+    }
+    let at = start + 1 + size;
+    let bits = (h % 32) as usize;
+    if h / 32 % 2 == 0 {
+        return plan_plain(s.len(), n as usize, bits, at);
+    }
+    inspect_table(s, at, n as usize, bits)
+}
+
 // n values of `bits` bits each, lowest bit first, from the byte at `at` on
 fn unpack(s: &[u8], at: usize, n: usize, bits: usize, out: &mut [u32])
     requires { ⌜ (n ≤ 256) × (bits ≤ 31) × (at ≤ length (now s)) × (n ≤ length (now out)) ⌝ }
-    ensures { λ r. ⌜ now (out .exit) ≡ digits (little (runBytes n bits) (now (s .entry)) at) n bits ++ drop n (now (out .entry)) ⌝ }
+    ensures { λ r. ⌜ now (out .exit) ≡ run (now (s .entry)) at n bits ++ drop n (now (out .entry)) ⌝ }
 {
     let base: u64 = 1 << bits;
     let mut bit = 0;
@@ -32,21 +179,13 @@ fn unpack(s: &[u8], at: usize, n: usize, bits: usize, out: &mut [u32])
     }
 }
 
-// the least w with 2^w at least `entries`
-fn width(entries: u64) -> usize
-    requires { ⌜ 1 ≤ entries ⌝ }
-    ensures { λ r. ⌜ r ≡ indexWidth entries ⌝ }
-{
-    (64 - u64::leading_zeros(entries - 1)) as usize
-}
-
-fn all_below(index: &[u32], n: usize, entries: u64) -> bool
+fn all_below(index: &[u32], n: usize, entries: usize) -> bool
     requires { ⌜ n ≤ length (now index) ⌝ }
     ensures { λ r. ⌜ r ≡ allBelow n entries (now (index .entry)) ⌝ }
 {
     let mut k = 0;
     while k < n {
-        if entries <= index[k] as u64 {
+        if entries <= index[k] as usize {
             return false;
         }
         k += 1;
@@ -54,7 +193,7 @@ fn all_below(index: &[u32], n: usize, entries: u64) -> bool
     true
 }
 
-fn look_up(table: &[u32], index: &[u32], n: usize, entries: u64, out: &mut [u32])
+fn look_up(table: &[u32], index: &[u32], n: usize, entries: usize, out: &mut [u32])
     requires { ⌜ (n ≤ length (now index)) × (entries ≤ length (now table)) × (n ≤ length (now out)) ⌝ }
     requires { ⌜ allBelow n entries (now index) ≡ true ⌝ }
     ensures { λ r. ⌜ now (out .exit) ≡ chosen n (now (table .entry)) (now (index .entry)) ++ drop n (now (out .entry)) ⌝ }
@@ -67,108 +206,40 @@ fn look_up(table: &[u32], index: &[u32], n: usize, entries: u64, out: &mut [u32]
     }
 }
 
-fn read_plain(s: &[u8], at: usize, n: usize, bits: usize, out: &mut [u32; 256]) -> CountsAnswer
-    requires { ⌜ (n ≤ 256) × (bits ≤ 31) × (at ≤ length (now s)) ⌝ }
-    ensures { λ r. ⌜ Decoded (plain (now (s .entry)) at n bits) r (now (out .entry)) (now (out .exit)) ⌝ }
+// what the indices name, unless one of them is too large
+fn decode_table(s: &[u8], p: Plan, out: &mut [u32; 256]) -> CountsAnswer
+    requires { ⌜ Kept (length (now s)) p × (1 ≤ p .entries) ⌝ }
+    ensures { λ r. ⌜ Decoded (unpacked (now (s .entry)) p) r (now (out .entry)) (now (out .exit)) ⌝ }
 {
-    let size = (n * bits + 7) / 8;
-    if s.len() - at < size {
-        return CountsAnswer::Refused(Refusal { number: 1 });
-    }
-    unpack(s, at, n, bits, out);
-    CountsAnswer::Counts { n, next: at + size }
-}
-
-fn read_indexed(
-    s: &[u8],
-    at: usize,
-    entries: u64,
-    n: usize,
-    bits: usize,
-    out: &mut [u32; 256],
-) -> CountsAnswer
-    requires { ⌜ (n ≤ 256) × (bits ≤ 31) × (at ≤ length (now s)) × (1 ≤ entries) × (entries ≤ 255) ⌝ }
-    ensures { λ r. ⌜ Decoded (indexed (now (s .entry)) at entries n bits) r (now (out .entry)) (now (out .exit)) ⌝ }
-{
-    let more = entries as usize - 1;
-    let size = (more * bits + 7) / 8;
-    if s.len() - at < size {
-        return CountsAnswer::Refused(Refusal { number: 1 });
-    }
-    let to = at + size;
-    let w = width(entries);
-    let rest = (n * w + 7) / 8;
-    if s.len() - to < rest {
-        return CountsAnswer::Refused(Refusal { number: 1 });
-    }
     let mut table = [0u32; 256];
-    unpack(s, at, more, bits, &mut table[1..]);
+    unpack(s, p.table, p.entries - 1, p.bits, &mut table[1..]);
     let mut index = [0u32; 256];
-    unpack(s, to, n, w, &mut index);
-    if all_below(&index, n, entries) {
-        look_up(&table, &index, n, entries, out);
-        return CountsAnswer::Counts { n, next: to + rest };
+    unpack(s, p.at, p.n, p.width, &mut index);
+    if all_below(&index, p.n, p.entries) {
+        look_up(&table, &index, p.n, p.entries, out);
+        return CountsAnswer::Counts {
+            n: p.n,
+            next: p.next,
+        };
     }
     CountsAnswer::Refused(Refusal { number: 8 })
-}
-
-fn read_tabled(s: &[u8], at: usize, n: usize, bits: usize, out: &mut [u32; 256]) -> CountsAnswer
-    requires { ⌜ (n ≤ 256) × (bits ≤ 31) ⌝ }
-    ensures { λ r. ⌜ Decoded (tabled (now (s .entry)) at n bits) r (now (out .entry)) (now (out .exit)) ⌝ }
-{
-    if bits == 0 {
-        return CountsAnswer::Refused(Refusal { number: 8 });
-    }
-    let a = lerc_words::word(s, at, 1);
-    let WordAnswer::Word(entries) = a else {
-        let why = a.refusal();
-        return CountsAnswer::Refused(why);
-    };
-    if entries < 2 {
-        return CountsAnswer::Refused(Refusal { number: 8 });
-    }
-    read_indexed(s, at + 1, entries, n, bits, out)
 }
 
 // packed counts at `start`: their values to the front of `out`, or a refusal, which leaves `out`
 pub fn decode(s: &[u8], start: usize, out: &mut [u32; 256]) -> CountsAnswer
     ensures { λ r. ⌜ Decoded (counts (now (s .entry)) start) r (now (out .entry)) (now (out .exit)) ⌝ }
 {
-    let a = lerc_words::word(s, start, 1);
-    let WordAnswer::Word(h) = a else {
+    let a = inspect(s, start);
+    let PlanAnswer::Plan(p) = a else {
         let why = a.refusal();
         return CountsAnswer::Refused(why);
     };
-    if 3 <= h / 64 {
-        return CountsAnswer::Refused(Refusal { number: 8 });
+    if p.entries == 0 {
+        unpack(s, p.at, p.n, p.width, out);
+        return CountsAnswer::Counts {
+            n: p.n,
+            next: p.next,
+        };
     }
-    let wide: usize = 4 >> (h / 64);
-    let b = lerc_words::word(s, start + 1, wide);
-    let WordAnswer::Word(n) = b else {
-        let why = b.refusal();
-        return CountsAnswer::Refused(why);
-    };
-    if 256 < n {
-        return CountsAnswer::Refused(Refusal { number: 8 });
-    }
-    let at = start + 1 + wide;
-    let bits = (h % 32) as usize;
-    if h % 64 < 32 {
-        return read_plain(s, at, n as usize, bits, out);
-    }
-    read_tabled(s, at, n as usize, bits, out)
-}
-
-pub struct CountsRead {
-    pub answer: CountsAnswer,
-    pub values: [u32; 256],
-}
-
-// the same by value: zeros behind the values, and all zeros on a refusal
-pub fn read_counts(s: &[u8], start: usize) -> CountsRead
-    ensures { λ r. ⌜ Decoded (counts (now (s .entry)) start) (r .answer) (replicate 256 0) (r .values) ⌝ }
-{
-    let mut values = [0u32; 256];
-    let answer = decode(s, start, &mut values);
-    CountsRead { answer, values }
+    decode_table(s, p, out)
 }

@@ -71,6 +71,10 @@ key = 0x20326372654C
 abbrev pub version : ℕ
 version = 4
 
+-- "2: key or version differs"
+unfoldable pub keyRight : List ℕ → Bool
+keyRight b = eqb (little 6 b 0) key && eqb (little 4 b 6) version
+
 -- "little-endian; offsets in bytes"
 unfoldable pub headerOf : List ℕ → Header
 headerOf b =
@@ -92,7 +96,7 @@ headerOf b =
 unfoldable pub headerSays : List ℕ → Res Header
 headerSays b = do
   _ ← require (leb headerBytes (length b)) 1
-  _ ← require (eqb (little 6 b 0) key && eqb (little 4 b 6) version) 2
+  _ ← require (keyRight b) 2
   _ ← held (headerOf b) (length b)
   ok (headerOf b)
 

@@ -1,8 +1,32 @@
 // The header of a blob: its fields, the rules it is held to, and the sizes that follow from it.
+ghost use mathlib.Core.Path.{_≡_};
+ghost use Prim.Native.Nat.{ℕ, _+_, _<_, _≤_};
+ghost use Rattle.lerc_words.specs.Res.{little};
+ghost use Rattle.lerc_header.specs.Shape as Sizes;
+ghost use Rattle.lerc_header.specs.Header as Rules;
+ghost use Rattle.lerc_header.specs.Limits.{sideways, sideLimit};
+use lerc_numeric::is_finite;
+use lerc_numeric::less;
 use lerc_words::Refusal;
+use lerc_words::peek;
 
 // The most depths an image may have, and so the length of every array by depth.
 pub const DEPTHS: usize = 64;
+
+// The other ceilings.
+const SIDEWAYS: u32 = 4096;
+
+const CELLS: u64 = 4_194_304;
+
+const SIDE: u32 = 16;
+
+const SIZE: u32 = 16_777_216;
+
+const HEADER: usize = 70;
+
+const KEY: u64 = 0x2032_6372_654C;
+
+const VERSION: u32 = 4;
 
 pub struct Header {
     pub rows: u32,
@@ -45,4 +69,170 @@ pub enum HeaderAnswer {
 pub enum HeldAnswer {
     Held(Extent),
     Refused(Refusal),
+}
+
+impl HeaderAnswer {
+    // why it was refused; number 0 where it was not
+    pub fn refusal(self) -> Refusal
+        ensures { λ r. ⌜ r ≡ Rules.headerRefused self ⌝ }
+    {
+        match self {
+            HeaderAnswer::Read(_h) => Refusal { number: 0 },
+            HeaderAnswer::Refused(why) => why,
+        }
+    }
+}
+
+impl HeldAnswer {
+    // why it was refused; number 0 where it was not
+    pub fn refusal(self) -> Refusal
+        ensures { λ r. ⌜ r ≡ Rules.heldRefused self ⌝ }
+    {
+        match self {
+            HeldAnswer::Held(_e) => Refusal { number: 0 },
+            HeldAnswer::Refused(why) => why,
+        }
+    }
+}
+
+// sign clear and below 2^1023, the binary64 0x7FE0_0000_0000_0000; -0.0 has the sign
+fn error_right(e: u64) -> bool
+    ensures { λ r. ⌜ r ≡ Rules.errorRight e ⌝ }
+{
+    e < 0x7FE0_0000_0000_0000
+}
+
+// both finite, the maximum not less than the minimum
+pub fn pair_right(low: u64, high: u64) -> bool
+    ensures { λ r. ⌜ r ≡ Rules.pairRight low high ⌝ }
+{
+    is_finite(low) & is_finite(high) & !less(high, low)
+}
+
+// The fields have 32 bits, so that no product or sum of two wraps in 64.
+fn fields_right(h: Header) -> bool
+    ensures { λ r. ⌜ r ≡ Rules.fieldsRight h ⌝ }
+{
+    (0 < h.rows)
+        & (0 < h.columns)
+        & (0 < h.depth)
+        & (0 < h.side)
+        & (h.valid as u64 <= h.rows as u64 * h.columns as u64)
+        & (h.kind <= 7)
+        & error_right(h.error)
+        & pair_right(h.min, h.max)
+        & (HEADER as u64 + h.mask as u64 <= h.size as u64)
+}
+
+// The three factors are judged before their product, which would wrap.
+fn within_ceilings(h: Header) -> bool
+    ensures { λ r. ⌜ r ≡ Rules.withinCeilings h ⌝ }
+{
+    let factors = (h.rows <= SIDEWAYS) & (h.columns <= SIDEWAYS) & (h.depth as usize <= DEPTHS);
+    if factors {
+        (h.rows as u64 * h.columns as u64 * h.depth as u64 <= CELLS)
+            & (h.side <= SIDE)
+            & (h.size <= SIZE)
+    } else {
+        false
+    }
+}
+
+// how many strips of a side cover a length
+fn strips(side: usize, n: usize) -> usize
+    requires { ⌜ (0 < side) × (side ≤ sideLimit) × (n ≤ sideways) ⌝ }
+    ensures { λ r. ⌜ r ≡ Sizes.strips side n ⌝ }
+{
+    (n + side - 1) / side
+}
+
+fn measure(h: Header) -> Extent
+    requires { ⌜ Sizes.Shaped (Rules.shapeOf h) ⌝ }
+    ensures { λ r. ⌜ r ≡ Rules.extentOf h ⌝ }
+{
+    let rows = h.rows as usize;
+    let columns = h.columns as usize;
+    let depth = h.depth as usize;
+    let side = h.side as usize;
+    let pixels = rows * columns;
+    Extent {
+        shape: Shape {
+            rows,
+            columns,
+            depth,
+            side,
+        },
+        pixels,
+        cells: pixels * depth,
+        mask: (pixels + 7) / 8,
+        blocks: strips(side, rows) * strips(side, columns) * depth,
+        ranges: HEADER + h.mask as usize,
+        size: h.size as usize,
+    }
+}
+
+impl Header {
+    // the sizes that follow, where the header keeps the rules and a slice of `len` bytes holds its blob
+    pub fn held(self, len: usize) -> HeldAnswer
+        ensures { λ r. ⌜ Rules.heldSaid r ≡ Rules.held self len ⌝ }
+    {
+        if !fields_right(self) {
+            return HeldAnswer::Refused(Refusal { number: 3 });
+        }
+        if !within_ceilings(self) {
+            return HeldAnswer::Refused(Refusal { number: 4 });
+        }
+        if len < self.size as usize {
+            return HeldAnswer::Refused(Refusal { number: 1 });
+        }
+        HeldAnswer::Held(measure(self))
+    }
+}
+
+// the four bytes at `at`
+fn quad(b: &[u8], at: usize) -> u32
+    ensures { λ r. ⌜ r ≡ little 4 (now (b .entry)) at ⌝ }
+{
+    (peek(b, at) % 0x1_0000_0000) as u32
+}
+
+fn key_right(b: &[u8]) -> bool
+    ensures { λ r. ⌜ r ≡ Rules.keyRight (now (b .entry)) ⌝ }
+{
+    (peek(b, 0) % 0x1_0000_0000_0000 == KEY) & (quad(b, 6) == VERSION)
+}
+
+fn fields(b: &[u8]) -> Header
+    ensures { λ r. ⌜ r ≡ Rules.headerOf (now (b .entry)) ⌝ }
+{
+    Header {
+        rows: quad(b, 14),
+        columns: quad(b, 18),
+        depth: quad(b, 22),
+        valid: quad(b, 26),
+        side: quad(b, 30),
+        size: quad(b, 34),
+        kind: quad(b, 38),
+        error: peek(b, 42),
+        min: peek(b, 50),
+        max: peek(b, 58),
+        mask: quad(b, 66),
+    }
+}
+
+pub fn read_header(blob: &[u8]) -> HeaderAnswer
+    ensures { λ r. ⌜ Rules.headerSaid r ≡ Rules.headerSays (now (blob .entry)) ⌝ }
+{
+    if blob.len() < HEADER {
+        return HeaderAnswer::Refused(Refusal { number: 1 });
+    }
+    if !key_right(blob) {
+        return HeaderAnswer::Refused(Refusal { number: 2 });
+    }
+    let h = fields(blob);
+    let answer = h.held(blob.len());
+    let HeldAnswer::Held(_extent) = answer else {
+        return HeaderAnswer::Refused(answer.refusal());
+    };
+    HeaderAnswer::Read(h)
 }

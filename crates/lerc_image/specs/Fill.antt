@@ -26,7 +26,7 @@ fillSays b h r m list n room = do
   _ ← require (ltb n (e .blocks)) 11
   _ ← require (leb (e .mask) (length m) && leb (e .blocks) (length list) && leb (e .cells) room) 5
   _ ← require (pairsRight (h .depth) r) 7
-  blockAt (take (h .size) b) h r m n (getD list n 0)
+  blockAt (take (h .size) b) h (r .max) m n (getD list n 0)
 
 -- "Fill reports words written, which is its tile's valid pixels"
 abbrev pub fillCount : Header → List ℕ → ℕ → Block → Res ℕ

@@ -16,12 +16,13 @@ use Rattle.lerc_planes.specs.declared.Ranges.{Ranges}
 use Rattle.lerc_planes.specs.Ranges.{pairsRight}
 use Rattle.lerc_image.specs.declared.WalkAnswer.{WalkAnswer}
 use Rattle.lerc_image.specs.declared.WalkAnswer.the-variants as answer
-use Rattle.lerc_image.specs.Blocks.{Chain, allBlocks, Way, rawFrom, blocksFrom, swept}
+use Rattle.lerc_image.specs.Sweep.{Way, rawFrom, blocksFrom, swept}
+use Rattle.lerc_image.specs.Blocks.{Chain, allBlocks}
 
 -- "10: walk on a body not in blocks"
 unfoldable pub walked : List ℕ → Header → Ranges → List ℕ → Way → Res Chain
 walked s h r m (rawFrom at) = fail (refuse 10)
-walked s h r m (blocksFrom at) = allBlocks s h r m at
+walked s h r m (blocksFrom at) = allBlocks s h (r .max) m at
 
 -- 3, 4, 1, 5, 7; "Empty, constant and raw bodies give a walk 10"; then "check every block, values included"
 unfoldable pub walkSays : List ℕ → Header → Ranges → List ℕ → ℕ → Res Chain
@@ -30,7 +31,7 @@ walkSays b h r m room = do
   _ ← require (leb (e .mask) (length m) && leb (e .blocks) room) 5
   _ ← require (pairsRight (h .depth) r) 7
   _ ← require (ltb 0 (h .valid) && not (r .constant)) 10
-  way ← swept (take (h .size) b) h (r .at)
+  way ← swept (take (h .size) b) (h .kind) (h .error) (r .at)
   walked (take (h .size) b) h r m way
 
 -- the count of blocks and where the last one ends

@@ -1,6 +1,11 @@
 // Tiles of an image, its blocks by number, walking them and filling one.
 use lerc_words::Refusal;
 
+mod sweep;
+
+pub use sweep::WayAnswer;
+pub use sweep::read_sweep;
+
 pub struct Tile {
     pub x: usize,
     pub y: usize,

@@ -1,78 +1,81 @@
--- What a run says, and what follows from it.
+-- What a run says, what follows from it, and the bytes that it gives.
 -- Assumes nothing.
-use mathlib.Core.Path.{_≡_, refl, sym, ap, _∙_}
-use mathlib.Core.Bool.{Bool, true, false, cond}
-use mathlib.Core.List.{List, [], _∷_, _++_}
-use Prim.{Unit, tt}
-use Prim.Native.Nat.{ℕ, zero, suc, _+_, _-_, _*_, _/_, _%_, _^_, _≤_, _<_}
+use mathlib.Core.Path.{_≡_, refl, ap}
+use mathlib.Core.Bool.{_&&_}
+use mathlib.Core.List.{List, _∷_, _++_}
+use Prim.{tt}
+use Prim.Native.Nat.{ℕ, zero, suc, _+_, _-_, _*_, _≤_, _<_}
+use native.Mathlib.Decide.{decLt}
 use native.Mathlib.Omega.{arith}
-use native.Mathlib.Numerals.{add-one}
-use native.Mathlib.Nat.{one-mul}
-use borrow.Author.Tests.{lt-ltb, le-ltb, le-leb, lt-leb, eq-eqb, ne-eqb, ltb-true, ltb-false, leb-true, eqb-true, eqb-false}
+use borrow.Author.Tests.{lt-ltb, le-ltb, le-leb, lt-leb, eq-eqb, ne-eqb, ltb-true, leb-true, eqb-true}
 use lib.Dec.{leb, ltb, eqb}
-use lib.ListN.{length, getD, take, drop, replicate, length-take, length-drop, length-replicate, getD-replicate}
-use lib.Seq.{take-take, getD-take, getD-drop}
+use lib.ListN.{length, getD, take, drop, replicate, length-take, length-drop, length-replicate, getD-replicate, List·getD-append, List·getD-eq-default}
+use lib.Seq.{take-take, getD-take, getD-drop, getD-append-add}
 use lib.Count.{ones}
 use Rattle.lerc_words.specs.Res.{little}
-use Rattle.lerc_words.proofs.Laws.{Bytes, little-lt}
+use Rattle.lerc_words.proofs.Laws.{Bytes, Stands, little-lt, cond-elim, and-is}
 use Rattle.lerc_mask.specs.declared.Step.{Step}
-use Rattle.lerc_mask.specs.declared.Step.the-variants.{Copy, Repeat, End, Wrong}
-use Rattle.lerc_mask.specs.Mask.{copyAt, repeatAt, endAt, formAt, stepAt, onesAll}
+use Rattle.lerc_mask.specs.declared.Step.the-variants.{Wrong}
+use Rattle.lerc_mask.specs.Mask.{copyAt, repeatAt, endAt, signedAt, stepAt}
+use Rattle.lerc_mask.specs.Passes.{onesAll, Fits}
 use Rattle.lerc_mask.proofs.Tally.{all-repeat}
 
-pub le-two : (s : List ℕ) (at : ℕ) → little 2 s at ≡ getD s at 0 + 256 * getD s (at + 1) 0
-unfolding little
-le-two s at = rw (add-one) (omega arith)
+-- ---- what a run says
 
 pub step-short : (s : List ℕ) (at left : ℕ) → length s < at + 2 → stepAt s at left ≡ Wrong
 unfolding stepAt
 step-short s at left h = rw (lt-leb (at + 2) (length s) h)
 
-module _ (s : List ℕ) (at left n : ℕ) (h : at + 2 ≤ length s) (v : n ≡ little 2 s at) where
+module _ (s : List ℕ) (at left n : ℕ) (h : Stands 2 s at n) where
   pub step-end : n ≡ 32768 → stepAt s at left ≡ endAt (length s) (at + 2) left
-  unfolding stepAt formAt
-  step-end e = rw (le-leb (at + 2) (length s) h, ← v, eq-eqb n 32768 e)
+  unfolding stepAt signedAt
+  step-end e = rw (le-leb (at + 2) (length s) (h .inside), ← h .value, eq-eqb n 32768 e)
 
   pub step-copy : n < 32768 → stepAt s at left ≡ copyAt (length s) (at + 2) left n
-  unfolding stepAt formAt
+  unfolding stepAt signedAt
   step-copy e =
       let d : n ≡ 32768 → ⊥ = λ z. omega arith in
-      rw (le-leb (at + 2) (length s) h, ← v, ne-eqb n 32768 d, lt-ltb n 32768 e)
+      rw (le-leb (at + 2) (length s) (h .inside), ← h .value, ne-eqb n 32768 d, lt-ltb n 32768 e)
 
-  pub step-repeat : 32768 < n → stepAt s at left ≡ repeatAt (length s) (at + 2) left (65536 - n)
-  unfolding stepAt formAt
-  step-repeat e =
-      let d : n ≡ 32768 → ⊥ = λ z. omega arith in
-      let f : 32768 ≤ n = omega arith in
-      rw (le-leb (at + 2) (length s) h, ← v, ne-eqb n 32768 d, le-ltb n 32768 f)
+  pub step-repeat : (n ≡ 32768 → ⊥) → 32768 ≤ n → stepAt s at left ≡ repeatAt (length s) (at + 2) left (65536 - n)
+  unfolding stepAt signedAt
+  step-repeat d f = rw (le-leb (at + 2) (length s) (h .inside), ← h .value, ne-eqb n 32768 d, le-ltb n 32768 f)
 
--- what follows of the section and of what is left
-abbrev pub Facts : ℕ → ℕ → ℕ → Step → Type 0
-Facts len at left (Copy n) = (1 ≤ n) × (at + 2 + n ≤ len) × (n ≤ left)
-Facts len at left (Repeat n) = (1 ≤ n) × (at + 3 ≤ len) × (n ≤ left)
-Facts len at left End = (at + 2 ≡ len) × (left ≡ 0)
-Facts len at left Wrong = Unit
+-- ---- what follows of the section and of what is left
 
-cond-elim : {A : Type 0} (P : A → Type 0) (b : Bool) {x y : A} → (b ≡ true → P x) → (b ≡ false → P y) → P (cond b x y)
-cond-elim P true f g = f refl
-cond-elim P false f g = g refl
+module _ (len at left : ℕ) where
+  fits-copy : (n : ℕ) → Fits len at left (copyAt len (at + 2) left n)
+  unfolding copyAt
+  fits-copy n = cond-elim (Fits len at left) (ltb 0 n && leb (at + 2 + n) len && leb n left) (λ e.
+      let f = and-is (ltb 0 n && leb (at + 2 + n) len) (leb n left) e in
+      let g = and-is (ltb 0 n) (leb (at + 2 + n) len) (f .0) in
+      (ltb-true _ _ (g .0), leb-true _ _ (g .1), leb-true _ _ (f .1))) (λ _. tt)
 
-pub step-facts : (s : List ℕ) (at left : ℕ) → Bytes s → Facts (length s) at left (stepAt s at left)
-unfolding stepAt formAt endAt copyAt repeatAt
-step-facts s at left b =
+  fits-repeat : (n : ℕ) → 1 ≤ n → Fits len at left (repeatAt len (at + 2) left n)
+  unfolding repeatAt
+  fits-repeat n h = cond-elim (Fits len at left) (ltb (at + 2) len && leb n left) (λ e.
+      let f = and-is (ltb (at + 2) len) (leb n left) e in
+      let g = ltb-true (at + 2) len (f .0) in
+      (h, omega arith, leb-true _ _ (f .1))) (λ _. tt)
+
+  fits-end : Fits len at left (endAt len (at + 2) left)
+  unfolding endAt
+  fits-end = cond-elim (Fits len at left) (eqb (at + 2) len && eqb left 0) (λ e.
+      let f = and-is (eqb (at + 2) len) (eqb left 0) e in
+      (eqb-true _ _ (f .0), eqb-true _ _ (f .1))) (λ _. tt)
+
+pub step-fits : (s : List ℕ) (at left : ℕ) → Bytes s → Fits (length s) at left (stepAt s at left)
+unfolding stepAt signedAt
+step-fits s at left b =
     let len = length s in
     let n = little 2 s at in
-    let w : n < 65536 = little-lt 2 s at b in
-    let P = Facts len at left in
-    cond-elim P (leb (at + 2) len)
-    (λ h. cond-elim P (eqb n 32768)
-    (λ e. cond-elim P (eqb (at + 2) len) (λ f. cond-elim P (eqb left 0) (λ g. (eqb-true _ _ f, eqb-true _ _ g)) (λ g. tt)) (λ f. tt))
-    (λ e. cond-elim P (ltb n 32768)
-    (λ f. cond-elim P (ltb 0 n) (λ g. cond-elim P (leb (at + 2 + n) len) (λ i. cond-elim P (leb n left) (λ j. (ltb-true _ _ g, leb-true _ _ i, leb-true _ _ j)) (λ j. tt)) (λ i. tt)) (λ g. tt))
-    (λ f. cond-elim P (ltb (at + 2) len)
-    (λ g. cond-elim P (leb (65536 - n) left) (λ j. (omega arith, let z = ltb-true (at + 2) len g in omega arith, leb-true _ _ j)) (λ j. tt))
-    (λ g. tt))))
-    (λ h. tt)
+    let P = Fits len at left in
+    let h : n < 65536 = little-lt 2 s at b in
+    let k : 1 ≤ 65536 - n = omega arith in
+    cond-elim P (leb (at + 2) len) (λ _. cond-elim P (eqb n 32768) (λ _. fits-end len at left) (λ _. cond-elim P (ltb n 32768) (λ _. fits-copy len at left n) (λ _. fits-repeat len at left (65536 - n) k))) (λ _. tt)
+
+pub step-told : (s : List ℕ) (at left : ℕ) {r : Step} → Bytes s → r ≡ stepAt s at left → (r ≡ stepAt s at left) × Fits (length s) at left r
+step-told s at left b e = (e, rw (e) (step-fits s at left b))
 
 -- ---- the bytes of a run
 
@@ -95,3 +98,31 @@ all-repeated n b = rw (take-repeat (n - 1) n b (omega arith)) (all-repeat (n - 1
 
 pub last-repeated : (n b : ℕ) → 1 ≤ n → getD (replicate n b) (n - 1) 0 ≡ b
 last-repeated n b h = getD-replicate n (n - 1) b 0 (omega arith)
+
+-- ---- they are bytes
+
+inside : (xs : List ℕ) → ((i : ℕ) → i < length xs → getD xs i 0 < 256) → Bytes xs
+inside xs h i = go (decLt i (length xs))
+  where
+    go : Dec (i < length xs) → getD xs i 0 < 256
+    go (yes l) = h i l
+    go (no l) =
+        let k : length xs ≤ i = omega arith in
+        rw (List·getD-eq-default xs 0 k) (omega arith)
+
+pub bytes-part : (s : List ℕ) (from n : ℕ) → Bytes s → Bytes (take n (drop from s))
+bytes-part s from n b = inside (take n (drop from s)) (λ i l.
+    let k : i < n = omega (arith, length-take n (drop from s)) in
+    rw (getD-take n (drop from s) i 0 k, getD-drop) (b (from + i)))
+
+pub bytes-repeat : (n b : ℕ) → b < 256 → Bytes (replicate n b)
+bytes-repeat n b h = inside (replicate n b) (λ i l. rw (getD-replicate n i b 0 (rw (length-replicate) at l)) h)
+
+pub bytes-append : (xs ys : List ℕ) → Bytes xs → Bytes ys → Bytes (xs ++ ys)
+bytes-append xs ys p q i = go (decLt i (length xs))
+  where
+    go : Dec (i < length xs) → getD (xs ++ ys) i 0 < 256
+    go (yes l) = rw (List·getD-append xs ys 0 i l) (p i)
+    go (no l) =
+        let e : i ≡ length xs + (i - length xs) = omega arith in
+        rw (e, getD-append-add) (q (i - length xs))

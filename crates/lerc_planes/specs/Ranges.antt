@@ -8,7 +8,7 @@ use lib.ListN.{length, getD, take, drop, replicate}
 use lib.Dec.{leb, ltb, eqb}
 use Rattle.lerc_words.specs.declared.Refusal.{Refusal}
 use Rattle.lerc_words.specs.Res.{Res, ok, fail, _>>=_, refuse, require, little, each}
-use Rattle.lerc_words.specs.Lists.{tabulate, allTo}
+use Rattle.lerc_words.specs.Lists.{tabulate, over, allTo}
 use Rattle.lerc_numeric.specs.Numeric.{same}
 use Rattle.lerc_numeric.specs.Kinds.{typeSize, valueOf}
 use Rattle.lerc_samples.specs.Samples.{stored}
@@ -29,23 +29,26 @@ use Rattle.lerc_planes.specs.declared.Constants.{Constants}
 unfoldable pub uniformRanges : Header → Ranges
 uniformRanges h = record { at = rangesAt h; constant = true; min = replicate depthLimit (h .min); max = replicate depthLimit (h .max) }
 
--- the i-th number from the ranges' place on, "in the blob's kind"
-unfoldable pub rangeNumber : List ℕ → Header → ℕ → ℕ
-rangeNumber s h i = valueOf (h .kind) (little (typeSize (h .kind)) s (rangesAt h + i * typeSize (h .kind)))
+-- the i-th number of a kind from a place on
+unfoldable pub numberAt : ℕ → List ℕ → ℕ → ℕ → ℕ
+numberAt kind s at i = valueOf kind (little (typeSize kind) s (at + i * typeSize kind))
 
 -- a number for each depth; "entries past depth stay header min and max"
 unfoldable pub byDepth : ℕ → (ℕ → ℕ) → ℕ → List ℕ
 byDepth depth f d = tabulate depthLimit (λ i. cond (ltb i depth) (f i) d)
 
--- behind the minima and the maxima
-abbrev pub rangesEnd : Header → ℕ
-rangesEnd h = rangesAt h + 2 * h .depth * typeSize (h .kind)
+-- behind the minima, and behind the maxima
+abbrev pub maximaAt : Header → ℕ
+maximaAt h = rangesAt h + h .depth * typeSize (h .kind)
 
--- "depth minima then depth maxima", "All pairs the same: constant."
+abbrev pub rangesEnd : Header → ℕ
+rangesEnd h = maximaAt h + h .depth * typeSize (h .kind)
+
+-- "depth minima then depth maxima in the blob's kind", "All pairs the same: constant."
 unfoldable pub codedRanges : List ℕ → Header → Ranges
 codedRanges s h =
-    let low = byDepth (h .depth) (rangeNumber s h) (h .min) in
-    let high = byDepth (h .depth) (λ i. rangeNumber s h (h .depth + i)) (h .max) in
+    let low = byDepth (h .depth) (numberAt (h .kind) s (rangesAt h)) (h .min) in
+    let high = byDepth (h .depth) (numberAt (h .kind) s (maximaAt h)) (h .max) in
     record { at = rangesEnd h; constant = allTo (h .depth) (λ i. same (getD low i 0) (getD high i 0)); min = low; max = high }
 
 -- "a range number not finite, or maximum less than minimum"; "7 for the pairs below the depth"
@@ -99,7 +102,7 @@ unfoldable pub constantWords : ℕ → ℕ → List ℕ → Res (List ℕ)
 constantWords depth kind values = each (stored kind) (take depth values)
 
 abbrev pub constantsSaid : Res (List ℕ) → Constants
-constantsSaid (ok words) = record { answer = constants.Stored; words = words ++ drop (length words) (replicate depthLimit 0) }
+constantsSaid (ok words) = record { answer = constants.Stored; words = over words (replicate depthLimit 0) }
 constantsSaid (fail r) = record { answer = constants.Refused r; words = replicate depthLimit 0 }
 
 abbrev pub constantsRefused : ConstantsAnswer → Refusal

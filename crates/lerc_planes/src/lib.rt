@@ -2,6 +2,15 @@
 use lerc_header::DEPTHS;
 use lerc_words::Refusal;
 
+mod depths;
+mod validity;
+
+pub use depths::convert;
+pub use depths::pairs;
+pub use depths::read_ranges;
+pub use validity::mask_in_force;
+pub use validity::prepare_mask;
+
 // Which mask is in force, and how long it is.
 pub enum MaskAnswer {
     Kept(usize),

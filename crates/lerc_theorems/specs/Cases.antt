@@ -12,7 +12,7 @@ use Rattle.lerc_numeric.specs.Numeric.{sum, mag, code}
 use Rattle.lerc_numeric.specs.Kinds.{narrowed, whole, cut}
 use Rattle.lerc_samples.specs.Samples.{stored}
 use Rattle.lerc_bits.specs.Bits.{Counts, digits, run, plain, allBelow, chosen, indexed, tabled, counts}
-use Rattle.lerc_mask.specs.Mask.{pixelValid, copyAt, repeatAt, endAt, formAt, stepAt, runs, maskRuns}
+use Rattle.lerc_mask.specs.Mask.{pixelValid, copyAt, repeatAt, endAt, signedAt, stepAt, runs, maskRuns}
 
 -- what a case shows: numbers, or a refusal
 abbrev pub countsOf : List ℕ → Res (List ℕ)
@@ -61,5 +61,5 @@ table =
 
 pub cases : map (λ (c : Case). c .got) table ≡ map (λ (c : Case). c .want) table
 unfolding validOf counts plain tabled indexed run digits chosen allBelow wordAt little from allTo size span climb
-    pixelValid copyAt repeatAt endAt formAt stepAt runs sum mag code narrowed whole cut stored
+  pixelValid copyAt repeatAt endAt signedAt stepAt runs sum mag code narrowed whole cut stored
 cases = refl

@@ -1,14 +1,15 @@
 -- Laws of little-endian numbers.
 -- Assumes nothing.
 use mathlib.Core.Path.{_≡_, _∙_, sym, ap, refl}
-use mathlib.Core.List.{List}
-use mathlib.Core.Bool.{Bool, true, false}
+use mathlib.Core.List.{List, [], _∷_, _++_}
+use mathlib.Core.Bool.{Bool, true, false, cond, _&&_}
 use Prim.Native.Nat.{ℕ, zero, suc, _+_, _-_, _*_, _/_, _%_, _^_, _≤_, _<_, min}
 use native.Mathlib.Decide.{decLe}
 use native.Mathlib.Omega.{arith}
 use native.Mathlib.Nat.{pow-suc, pow-succ', pow-zero, pow-le-pow-right, mul-assoc, mul-zero, mul-add, mul-comm, zero-add, add-assoc, add-zero, suc-add, add-suc, one-mul, mul-add-div, add-mul-mod-self-left, add-mul-div-left, div-eq-of-lt, mod-eq-of-lt, one-le-pow}
 use lib.ListN.{length, getD, List·getD-eq-default}
-use Rattle.lerc_words.specs.Res.{Res, ok, fail, _>>=_, refuse, require, little, wordAt, wordSays, wordSaid, wordRefused}
+use lib.Seq.{getD-append-add}
+use Rattle.lerc_words.specs.Res.{Res, ok, fail, _>>=_, refuse, require, each, little, wordAt, wordSays, wordSaid, wordRefused, accepts}
 use Rattle.lerc_words.specs.declared.WordAnswer.{WordAnswer}
 use Rattle.lerc_words.specs.declared.WordAnswer.the-variants as word
 use Rattle.lerc_words.specs.declared.Refusal.{Refusal}
@@ -195,3 +196,46 @@ wordAt-stays n j {s} {t} {at} {to} {k} {v} e h l =
     let z : getD s (at + (j + i)) 0 ≡ getD t (to + (j + i)) 0 = l .same (j + i) (omega arith) in
     sym (rw (← add-assoc at j i, ← add-assoc to j i) at z) in
     wordAt-ok n t (to + j) g ∙ ap ok (little-same n t s (to + j) (at + j) f ∙ sym (wordAt-is n s (at + j) v e .value))
+
+-- bytes in front of a list only move it
+pub little-behind : (n : ℕ) (front rest : List ℕ) → little n (front ++ rest) (length front) ≡ little n rest 0
+little-behind n front rest =
+    little-same n (front ++ rest) rest (length front) 0 (λ i h. rw (zero-add) (getD-append-add front rest i 0))
+
+-- what was accepted is a value, and what was not is a refusal
+pub accepts-is : {A : Type 0} (m : Res A) → accepts m ≡ true → (a : A) × (m ≡ ok a)
+accepts-is (ok a) e = (a, refl)
+accepts-is (fail r) e = absurd (let z : _≡_ {A = ℕ} 0 1 = cc in omega arith)
+
+pub accepts-not : {A : Type 0} (m : Res A) → accepts m ≡ false → (r : Refusal) × (m ≡ fail r)
+accepts-not (ok a) e = absurd (let z : _≡_ {A = ℕ} 0 1 = cc in omega arith)
+accepts-not (fail r) e = (r, refl)
+
+-- what could not be read passes the end
+pub wordAt-fails : (n : ℕ) (s : List ℕ) (at : ℕ) {r : Refusal} → wordAt n s at ≡ fail r → length s < at + n
+wordAt-fails n s at {r} e = go (decLe (at + n) (length s))
+  where
+    go : Dec (at + n ≤ length s) → length s < at + n
+    go (yes p) = absurd (let h = wordAt-ok n s at p in let z : _≡_ {A = ℕ} 0 1 = cc in omega arith)
+    go (no q) = omega arith
+
+pub ok-is : {A : Type 0} {a b : A} → ok a ≡ ok b → a ≡ b
+ok-is e = cc
+
+-- one answer for each
+pub each-length : {A B : Type 0} (f : A → Res B) (xs : List A) {ys : List B} → each f xs ≡ ok ys → length ys ≡ length xs
+unfolding each
+each-length f [] e = ap length (sym (ok-is e))
+each-length f (x ∷ xs) e =
+    let (y, p, e) = bind-is (f x) _ e in
+    let (zs, q, e) = bind-is (each f xs) _ e in
+    ap length (sym (ok-is e)) ∙ ap suc (each-length f xs q)
+
+-- what holds of both branches of a choice holds of the choice
+pub cond-elim : {A : Type 0} (P : A → Type 0) (b : Bool) {x y : A} → (b ≡ true → P x) → (b ≡ false → P y) → P (cond b x y)
+cond-elim P true f g = f refl
+cond-elim P false f g = g refl
+
+pub and-is : (a b : Bool) → (a && b) ≡ true → (a ≡ true) × (b ≡ true)
+and-is true b e = (refl, e)
+and-is false b e = absurd (let z : _≡_ {A = ℕ} 0 1 = cc in omega arith)

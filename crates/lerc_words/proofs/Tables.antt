@@ -2,13 +2,15 @@
 -- Assumes nothing.
 use mathlib.Core.Path.{_≡_, _∙_, sym, ap, refl}
 use mathlib.Core.List.{List, [], _∷_, _++_, append-assoc}
+use mathlib.Core.Bool.{Bool, true, false, _&&_}
 use Prim.Native.Nat.{ℕ, zero, suc, _+_, _-_, _≤_, _<_}
 use native.Mathlib.Omega.{arith}
+use native.Mathlib.Decide.{decLt}
 use native.Mathlib.Numerals.{add-one}
 use native.Mathlib.Nat.{zero-add, not-suc-le-zero, le-of-suc-le-suc}
-use lib.ListN.{length, getD, set, take, drop, length-append, length-drop}
-use lib.Seq.{set-at, drop-cons, append-snoc, getD-append-add}
-use Rattle.lerc_words.specs.Lists.{from, tabulate}
+use lib.ListN.{length, getD, set, take, drop, length-append, length-drop, replicate, length-take}
+use lib.Seq.{set-at, drop-cons, append-snoc, getD-append-add, ext-getD, getD-take}
+use Rattle.lerc_words.specs.Lists.{from, tabulate, allTo, over}
 
 pub length-from : {A : Type 0} (n i : ℕ) (f : ℕ → A) → length (from n i f) ≡ n
 unfolding from
@@ -67,3 +69,66 @@ table-more k f old h =
 
 pub length-table : (k : ℕ) (f : ℕ → ℕ) (old : List ℕ) → k ≤ length old → length (tabulate k f ++ drop k old) ≡ length old
 length-table k f old h = simp (length-append, length-tabulate, length-drop) (omega arith)
+
+-- ---- a test of every place
+
+pub all-more : (k : ℕ) (p : ℕ → Bool) → allTo k p ≡ true → p k ≡ true → allTo (k + 1) p ≡ true
+unfolding allTo
+all-more k p h e = rw (add-one) (rw (h, e))
+
+pub all-same : (n : ℕ) (p q : ℕ → Bool) → ((k : ℕ) → k < n → p k ≡ q k) → allTo n p ≡ allTo n q
+unfolding allTo
+all-same zero p q h = refl
+all-same (suc n) p q h = rw (h n (omega arith), all-same n p q (λ k l. h k (omega arith)))
+
+pub all-true : (n : ℕ) (p : ℕ → Bool) → ((k : ℕ) → k < n → p k ≡ true) → allTo n p ≡ true
+unfolding allTo
+all-true zero p h = refl
+all-true (suc n) p h = rw (h n (omega arith), all-true n p (λ k l. h k (omega arith)))
+
+-- one place that fails decides
+pub all-fails : (n k : ℕ) (p : ℕ → Bool) → k < n → p k ≡ false → allTo n p ≡ false
+unfolding allTo
+all-fails zero k p h e = absurd (not-suc-le-zero h)
+all-fails (suc n) k p h e = go (decLt k n) (λ l. all-fails n k p l e)
+  where
+    last : (t : Bool) → p n ≡ false → (t && p n) ≡ false
+    last true d = d
+    last false d = refl
+
+    go : Dec (k < n) → (k < n → allTo n p ≡ false) → (allTo n p && p n) ≡ false
+    go (yes l) f = rw (f l)
+    go (no l) f = let d : k ≡ n = omega arith in last (allTo n p) (rw (d) at e)
+
+pub all-each : (n k : ℕ) (p : ℕ → Bool) → allTo n p ≡ true → k < n → p k ≡ true
+all-each n k p h l = go (p k) refl
+  where
+    go : (t : Bool) → p k ≡ t → p k ≡ true
+    go true e = e
+    go false e = let f = all-fails n k p l e in absurd (let z : _≡_ {A = ℕ} 0 1 = cc in omega arith)
+
+pub all-suc : (n : ℕ) (p : ℕ → Bool) → allTo (suc n) p ≡ (allTo n p && p n)
+unfolding allTo
+all-suc n p = refl
+
+pub all-none : (p : ℕ → Bool) → allTo 0 p ≡ true
+unfolding allTo
+all-none p = refl
+
+-- ---- tables that are known by another name
+
+pub replicate-from : {A : Type 0} (n i : ℕ) (w : A) → replicate n w ≡ from n i (λ _. w)
+unfolding from
+replicate-from zero i w = refl
+replicate-from {A} (suc n) i w = ap (λ (l : List A). w ∷ l) (replicate-from n (suc i) w)
+
+pub take-tabulate : (n : ℕ) (xs : List ℕ) → n ≤ length xs → take n xs ≡ tabulate n (λ i. getD xs i 0)
+take-tabulate n xs h =
+    ext-getD 0 (take n xs) (tabulate n (λ i. getD xs i 0)) (simp (length-take, length-tabulate) (omega arith))
+    (λ i l.
+    let m : i < n = omega (arith, simp length-take at l) in
+    rw (getD-take n xs i 0 m, getD-tabulate {A = ℕ} n _ i 0 m))
+
+-- a table in front of what was there
+pub table-over : (n : ℕ) (f : ℕ → ℕ) (old : List ℕ) → tabulate n f ++ drop n old ≡ over (tabulate n f) old
+table-over n f old = rw (length-tabulate)

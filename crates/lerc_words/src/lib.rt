@@ -1,6 +1,6 @@
 // Little-endian words, and the refusal that every answer carries.
 ghost use mathlib.Core.Path.{_≡_};
-ghost use Prim.Native.Nat.{ℕ, _+_, _*_, _<_};
+ghost use Prim.Native.Nat.{ℕ, _+_, _*_, _<_, min};
 ghost use lib.ListN.{length};
 ghost use Rattle.lerc_words.specs.Res.{little, wordSaid, wordSays, wordRefused};
 
@@ -66,6 +66,18 @@ pub fn peek(s: &[u8], at: usize) -> u64
         + 4294967296 * quad(s[at + 4], s[at + 5], s[at + 6], s[at + 7])
 }
 
+// `size` bytes from `at` on, at most eight; past the end they count as zero
+pub fn bytes(s: &[u8], at: usize, size: usize) -> u64
+    ensures { λ r. ⌜ r ≡ little (min size 8) (now (s .entry)) at ⌝ }
+{
+    let v = peek(s, at);
+    if 8 <= size {
+        return v;
+    }
+    let base: u64 = 1 << (8 * size);
+    v % base
+}
+
 // the word of `size` bytes at `at`; more than eight bytes, or past the end: 1
 pub fn word(s: &[u8], at: usize, size: usize) -> WordAnswer
     ensures { λ r. ⌜ wordSaid r ≡ wordSays (now (s .entry)) at size ⌝ }
@@ -79,10 +91,5 @@ pub fn word(s: &[u8], at: usize, size: usize) -> WordAnswer
     if s.len() - size < at {
         return WordAnswer::Refused(Refusal { number: 1 });
     }
-    let v = peek(s, at);
-    if size == 8 {
-        return WordAnswer::Word(v);
-    }
-    let base: u64 = 1 << (8 * size);
-    WordAnswer::Word(v % base)
+    WordAnswer::Word(bytes(s, at, size))
 }

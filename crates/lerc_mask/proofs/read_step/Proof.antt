@@ -1,161 +1,91 @@
-use borrow.Author.Needs.{needs}
-use Prim.Native.Nat.{ℕ, zero, suc, _≤_, _<_, _-_, _+_, _*_, _/_, _%_, _^_, min}
-use mathlib.Core.Path.{_≡_, _∙_, sym, ap, refl}
-use mathlib.Core.Bool.{Bool, true, false}
-use mathlib.Core.Logic.{⊎-elim}
-use mathlib.Core.List.{List, [], _∷_, _++_}
+use mathlib.Core.Path.{_∙_, sym, ap}
 use native.Mathlib.Omega.{arith}
-use native.Mathlib.Numerals.{add-one}
-use borrow.Author.Tests.{lt-ltb, le-ltb, le-leb, lt-leb, eq-eqb, ne-eqb}
 use denote.Ref.{now}
-use lib.ListN.{length, getD, set, take, drop, replicate}
-use mathlib.Core.List.{append-nil}
-use native.Mathlib.Nat.{mul-le-mul-left, div-one}
-use lib.Count.{ones, ones-le}
-use lib.Seq.{paste, length-paste, take-all, take-length}
-use lib.ListN.{length-replicate}
-use Rattle.lerc_words.specs.Res.{little}
-use Rattle.lerc_words.proofs.Laws.{Bytes, little-lt}
-use Rattle.lerc_mask.specs.declared.Step.the-variants.{Copy, Repeat, End, Wrong}
-use Rattle.lerc_mask.specs.Mask.{onesAll, validBelow, stepAt, goOn, putOn, putOut}
-use Rattle.lerc_mask.proofs.Tally.{all-take, all-le, valid-byte, valid-bytes, valid-past}
-use Rattle.lerc_mask.proofs.Steps.{Facts, le-two, step-short, step-end, step-copy, step-repeat, step-facts, length-copied, all-copied, last-copied, all-repeated, last-repeated}
+use Rattle.lerc_words.specs.Res.{wordSaid}
+use Rattle.lerc_words.proofs.Laws.{Bytes, Stands, wordAt-is, wordAt-fails, word-at, read-ok, little-lt}
+use Rattle.lerc_mask.proofs.Steps.{step-told, step-short, step-end, step-copy, step-repeat}
+use borrow.Author.Needs.{needs}
 use Rattle.lerc_mask.proofs.read_step.Statement.{statement}
 use Rattle.lerc_mask.proofs.read_step.Tie as tie
-use Rattle.lerc_mask.proofs.read_step.Reads as reads
-use Rattle.lerc_mask.proofs.read_step.Lts as lts
-use Rattle.lerc_mask.proofs.copy_at.Reads as copy-at-reads
-use Rattle.lerc_mask.proofs.end_at.Reads as end-at-reads
-use Rattle.lerc_mask.proofs.repeat_at.Reads as repeat-at-reads
-use Rattle.lerc_mask.proofs.wide.Reads as wide-reads
 
--- src/lib.rt:147:9
+bytes : (c : tie.After-shared-slice-known) → Bytes (now (c .before .args .s))
+bytes c i = omega (arith, c .shared-slice-known .given i)
+
+-- the two bytes that were read
+stands : (c : tie.After-known-told) → Stands 2 (now (c .before .before .before .before .before .args .s)) (c .before .before .before .before .before .args .at) (c .before .read .given .0 .0)
+stands c =
+    let a = c .before .before .before .before .before .args in
+    wordAt-is 2 (now (a .s)) (a .at) (c .before .read .given .0 .0) (read-ok (now (a .s)) (a .at) 2 (omega arith) (c .before .before .before .word .ensures) (c .before .read .given .1))
+
+word-requires : tie.Need-word-requires
+word-requires c κs = search needs
+
+enum-known-read : tie.Need-enum-known-read
+enum-known-read c = search needs
+
+enum-told : tie.Need-enum-told
+enum-told c = search needs
+
 returns : tie.Need-returns
 returns c =
-    let a = c .before .before .args in
-    sym (step-short (now (a .s)) (a .at) (a .left) (omega arith))
+    let a = c .before .before .before .before .args in
+    let s = now (a .s) in
+    let e = sym (word-at s (a .at) 2 (omega arith)) ∙ sym (c .before .before .word .ensures) ∙ ap wordSaid (c .enum-told .given .1) in
+    step-told s (a .at) (a .left) (bytes (c .before .before .before)) (sym (step-short s (a .at) (a .left) (wordAt-fails 2 s (a .at) e)))
 
--- src/lib.rt:150:9
-returns-2 : tie.Need-returns-2
-returns-2 c =
-    let a = c .before .before .before .args in
-    sym (step-short (now (a .s)) (a .at) (a .left) (omega arith))
-
--- src/lib.rt:152:18
-shared-slice-read-wide : tie.Need-shared-slice-read-wide
-shared-slice-read-wide c = search needs
-
--- src/lib.rt:152:13
-wide-requires : tie.Need-wide-requires
-wide-requires c κs = search needs
-
--- src/lib.rt:152:40
-add-wide : tie.Need-add-wide
-add-wide c = search needs
-
--- src/lib.rt:152:38
-shared-slice-read-wide-2 : tie.Need-shared-slice-read-wide-2
-shared-slice-read-wide-2 c = search needs
-
--- src/lib.rt:152:33
-wide-requires-2 : tie.Need-wide-requires-2
-wide-requires-2 c κs = search needs
-
--- src/lib.rt:152:27
-mul-n : tie.Need-mul-n
-mul-n c =
-    let a = c .before .before .before .before .before .before .before .args in
-    let g = c .before .before .before .before .before .before .shared-slice-known .given in
-    omega (arith, c .before .before .wide .ensures, c .wide2 .ensures, g (a .at), g (a .at + 1))
-
--- src/lib.rt:152:13
-add-n : tie.Need-add-n
-add-n c =
-    let a = c .before .before .before .before .before .before .before .args in
-    let g = c .before .before .before .before .before .before .shared-slice-known .given in
-    omega (arith, c .before .before .wide .ensures, c .wide2 .ensures, g (a .at), g (a .at + 1))
-
--- src/lib.rt:154:28
 add-end-at : tie.Need-add-end-at
-add-end-at c = search needs
+add-end-at c = omega (arith, stands (c .before) .inside)
 
--- src/lib.rt:154:9
 end-at-requires : tie.Need-end-at-requires
 end-at-requires c κs = search needs
 
--- src/lib.rt:154:9
+returns-2 : tie.Need-returns-2
+returns-2 c =
+    let a = c .before .before .before .before .before .before .before .args in
+    step-told (now (a .s)) (a .at) (a .left) (bytes (c .before .before .before .before .before .before)) (c .end-at .ensures ∙ sym (step-end (now (a .s)) (a .at) (a .left) _ (stands (c .before .before)) (c .before .if1 .taken)))
+
+add-copy-at : tie.Need-add-copy-at
+add-copy-at c = omega (arith, stands (c .before .before) .inside)
+
+copy-at-requires : tie.Need-copy-at-requires
+copy-at-requires c κs = (stands (c .before .before) .inside, omega arith)
+
 returns-3 : tie.Need-returns-3
 returns-3 c =
-    let a = c .before .before .before .before .before .before .before .before .before .args in
-    let s = now (a .s) in
-    let n = c .before .before .before .before .wide .result + 256 * c .before .before .wide2 .result in
-    let v : n ≡ little 2 s (a .at) = rw (c .before .before .before .before .wide .ensures, c .before .before .wide2 .ensures) (sym (le-two s (a .at))) in
-    let h : a .at + 2 ≤ length s = omega arith in
-    c .end-at .ensures ∙ sym (step-end s (a .at) (a .left) n h v (c .before .if3 .taken))
+    let a = c .before .before .before .before .before .before .before .before .args in
+    step-told (now (a .s)) (a .at) (a .left) (bytes (c .before .before .before .before .before .before .before)) (c .copy-at .ensures ∙ sym (step-copy (now (a .s)) (a .at) (a .left) _ (stands (c .before .before .before)) (c .before .if2 .taken)))
 
--- src/lib.rt:157:29
-add-copy-at : tie.Need-add-copy-at
-add-copy-at c = search needs
-
--- src/lib.rt:157:9
-copy-at-requires : tie.Need-copy-at-requires
-copy-at-requires c κs = search needs
-
--- src/lib.rt:157:9
-returns-4 : tie.Need-returns-4
-returns-4 c =
-    let a = c .before .before .before .before .before .before .before .before .before .before .args in
-    let s = now (a .s) in
-    let n = c .before .before .before .before .before .wide .result + 256 * c .before .before .before .wide2 .result in
-    let v : n ≡ little 2 s (a .at) = rw (c .before .before .before .before .before .wide .ensures, c .before .before .before .wide2 .ensures) (sym (le-two s (a .at))) in
-    let h : a .at + 2 ≤ length s = omega arith in
-    c .copy-at .ensures ∙ sym (step-copy s (a .at) (a .left) n h v (c .before .if4 .taken))
-
--- src/lib.rt:159:20
 add-repeat-at : tie.Need-add-repeat-at
-add-repeat-at c = search needs
+add-repeat-at c = omega (arith, stands (c .before .before) .inside)
 
--- src/lib.rt:159:34
 sub-repeat-at : tie.Need-sub-repeat-at
 sub-repeat-at c =
-    let a = c .before .before .before .before .before .before .before .before .before .args in
-    let g = c .before .before .before .before .before .before .before .before .shared-slice-known .given in
-    omega (arith, c .before .before .before .before .wide .ensures, c .before .before .wide2 .ensures, g (a .at), g (a .at + 1))
+    let a = c .before .before .before .before .before .before .before .args in
+    omega (arith, stands (c .before .before) .value, little-lt 2 (now (a .s)) (a .at) (bytes (c .before .before .before .before .before .before)))
 
--- src/lib.rt:159:5
 repeat-at-requires : tie.Need-repeat-at-requires
 repeat-at-requires c κs = search needs
 
--- src/lib.rt:142:1
-returns-5 : tie.Need-returns-5
-returns-5 c =
-    let a = c .before .before .before .before .before .before .before .before .before .before .args in
-    let s = now (a .s) in
-    let n = c .before .before .before .before .before .wide .result + 256 * c .before .before .before .wide2 .result in
-    let v : n ≡ little 2 s (a .at) = rw (c .before .before .before .before .before .wide .ensures, c .before .before .before .wide2 .ensures) (sym (le-two s (a .at))) in
-    let h : a .at + 2 ≤ length s = omega arith in
-    c .repeat-at .ensures ∙ sym (step-repeat s (a .at) (a .left) n h v (let z = c .before .before .if3 .left in omega arith))
+returns-4 : tie.Need-returns-4
+returns-4 c =
+    let a = c .before .before .before .before .before .before .before .before .args in
+    step-told (now (a .s)) (a .at) (a .left) (bytes (c .before .before .before .before .before .before .before)) (c .repeat-at .ensures ∙ sym (step-repeat (now (a .s)) (a .at) (a .left) _ (stands (c .before .before .before)) (c .before .before .if1 .left) (c .before .if2 .left)))
 
 pub read-step-spec : {M : Type 1} → statement M
 read-step-spec =
     tie.close
     (tie.spec
+    word-requires
+    enum-known-read
+    enum-told
     returns
-    returns-2
-    shared-slice-read-wide
-    wide-requires
-    add-wide
-    shared-slice-read-wide-2
-    wide-requires-2
-    mul-n
-    add-n
     add-end-at
     end-at-requires
-    returns-3
+    returns-2
     add-copy-at
     copy-at-requires
-    returns-4
+    returns-3
     add-repeat-at
     sub-repeat-at
     repeat-at-requires
-    returns-5)
+    returns-4)

@@ -1,0 +1,91 @@
+-- The images of bodies without blocks: what the code paints is the meaning's word at each valid cell.
+-- Assumes nothing.
+use mathlib.Core.Path.{_≡_, _∙_, sym, ap, refl}
+use mathlib.Core.Bool.{Bool, true, false, cond, _&&_, and-eq-true-iff}
+use mathlib.Core.List.{List, [], _∷_, _++_}
+use Prim.Native.Nat.{ℕ, zero, suc, _+_, _-_, _*_, _/_, _%_, _≤_, _<_}
+use native.Mathlib.Decide.{decLt}
+use native.Mathlib.Omega.{arith}
+use native.Mathlib.Nat.{div-lt-iff-lt-mul, mod-lt, mul-le-mul-right, suc-mul}
+use native.Mathlib.Numerals.{add-one}
+use lib.ListN.{length, getD, take, drop, List·getD-append, take-append-drop, length-take}
+use lib.Dec.{ltb}
+use borrow.Author.Tests.{ltb-true}
+use Rattle.lerc_words.specs.Res.{little}
+use Rattle.lerc_words.specs.Lists.{tabulate, over, count}
+use Rattle.lerc_words.proofs.Tables.{getD-tabulate}
+use Rattle.lerc_words.proofs.Counts.{count-more, count-mono}
+use Rattle.lerc_header.specs.declared.Header.{Header}
+use Rattle.lerc_header.specs.declared.Shape.{Shape}
+use Rattle.lerc_header.specs.Header.{shapeOf}
+use Rattle.lerc_header.specs.Shape.{pixels, cells}
+use Rattle.lerc_mask.specs.Mask.{pixelValid, validBelow}
+use Rattle.lerc_image.specs.Geometry.{isValidCell}
+use Rattle.lerc_image.specs.Paint.{painted}
+use Rattle.lerc_image.proofs.Painting.{painted-none, painted-words}
+use Rattle.lerc.specs.Meaning.{Body, empty, constant, raw, blocks, cellWord}
+use Rattle.lerc.specs.Linear.{depthWord, rawWord}
+use Rattle.lerc.proofs.Pixels.{valid-more}
+
+-- ---- a valid cell
+
+pub record ValidAt (h : Shape) (m : List ℕ) (c : ℕ) : Type 0 where
+  pub below : c < cells h
+  pub valid : pixelValid m (c / h .depth) ≡ true
+
+pub valid-at : (h : Shape) (m : List ℕ) (c : ℕ) → isValidCell h m c ≡ true → ValidAt h m c
+unfolding isValidCell
+valid-at h m c e =
+    let u = and-eq-true-iff _ _ .0 e in
+    record { below = ltb-true _ _ (u .0); valid = u .1 }
+
+-- its pixel is one of the image's
+pub valid-pixel : (h : Shape) (m : List ℕ) (c : ℕ) → 0 < h .depth → ValidAt h m c → c / h .depth < pixels h
+valid-pixel h m c d v = div-lt-iff-lt-mul d .1 (v .below)
+
+-- a valid pixel has fewer valid pixels before it than there are
+pub valid-before : (m : List ℕ) (p n : ℕ) → p < n → pixelValid m p ≡ true → validBelow p m < validBelow n m
+valid-before m p n l e =
+    let k : p + 1 ≤ n = omega arith in
+    omega (arith, valid-more m p e, count-mono (p + 1) n (pixelValid m) k)
+
+-- ---- no valid pixel at all
+
+pub image-empty : (h : Shape) (m image : List ℕ) (word : ℕ → ℕ) → 0 < h .depth → validBelow (pixels h) m ≡ 0 → image ≡ painted image (isValidCell h m) word
+image-empty h m image word d e = painted-none image word (isValidCell h m) (λ c l. go c (isValidCell h m c) refl)
+  where
+    go : (c : ℕ) (b : Bool) → isValidCell h m c ≡ b → isValidCell h m c ≡ false
+    go c true q =
+        let v = valid-at h m c q in
+        absurd (let k = valid-before m (c / h .depth) (pixels h) (valid-pixel h m c d v) (v .valid) in omega arith)
+    go c false q = q
+
+-- ---- constant
+
+pub image-constant : (h : Header) (m image words rest : List ℕ) (end : ℕ) → 0 < h .depth → length words ≡ h .depth
+    → painted image (isValidCell (shapeOf h) m) (depthWord (shapeOf h) (words ++ rest)) ≡ painted image (isValidCell (shapeOf h) m) (cellWord h m (constant words end))
+unfolding cellWord
+image-constant h m image words rest end d e =
+    painted-words image (depthWord (shapeOf h) (words ++ rest)) (cellWord h m (constant words end)) (isValidCell (shapeOf h) m)
+    (λ c q. let l : c % h .depth < length words = rw (e) (mod-lt c d) in List·getD-append words rest 0 (c % h .depth) l)
+
+-- ---- raw
+
+pub image-raw : (h : Header) (s m image : List ℕ) (at size end : ℕ) → 0 < h .depth → validBelow (pixels (shapeOf h)) m ≡ h .valid
+    → painted image (isValidCell (shapeOf h) m) (rawWord s at size (shapeOf h) m)
+    ≡ painted image (isValidCell (shapeOf h) m) (cellWord h m (raw (tabulate (h .valid * h .depth) (λ k. little size s (at + k * size))) end))
+unfolding cellWord
+image-raw h s m image at size end d e =
+    painted-words image (rawWord s at size (shapeOf h) m) (cellWord h m (raw (tabulate (h .valid * h .depth) (λ k. little size s (at + k * size))) end)) (isValidCell (shapeOf h) m)
+    (λ c q.
+    let v = valid-at (shapeOf h) m c q in
+    let b : validBelow (c / h .depth) m < h .valid = rw (← e) (valid-before m (c / h .depth) (pixels (shapeOf h)) (valid-pixel (shapeOf h) m c d v) (v .valid)) in
+    let l : validBelow (c / h .depth) m * h .depth + c % h .depth < h .valid * h .depth =
+    omega (arith, mod-lt c d, suc-mul (validBelow (c / h .depth) m) (h .depth), mul-le-mul-right (h .depth) b) in
+    sym (getD-tabulate (h .valid * h .depth) (λ k. little size s (at + k * size)) (validBelow (c / h .depth) m * h .depth + c % h .depth) 0 l))
+
+-- ---- the mask
+
+-- a part of a slice put where it stands changes nothing
+pub over-itself : (n : ℕ) (s : List ℕ) → n ≤ length s → over (take n s) s ≡ s
+over-itself n s l = let e : length (take n s) ≡ n = simp length-take (omega arith) in rw (e) (take-append-drop n s)

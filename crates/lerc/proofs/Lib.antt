@@ -1,0 +1,2 @@
+pub mod Pixels
+pub mod Bodies

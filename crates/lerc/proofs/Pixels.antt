@@ -1,0 +1,181 @@
+-- Cells pixel by pixel: what one cell, and what one pixel, adds to a painted image.
+-- Assumes nothing.
+use mathlib.Core.Path.{_≡_, _∙_, sym, ap, refl}
+use mathlib.Core.Bool.{Bool, true, false, cond, _&&_, _||_, and-false, and-eq-true-iff}
+use mathlib.Core.Logic.{_≢_}
+use mathlib.Core.List.{List}
+use Prim.Native.Nat.{ℕ, zero, suc, _+_, _-_, _*_, _/_, _%_, _≤_, _<_}
+use native.Mathlib.Decide.{decLt, decLe}
+use native.Mathlib.Omega.{arith}
+use lib.Arith.{digits-div, digits-mod, digits-lt}
+use lib.Dec.{ltb, leb}
+use lib.ListN.{length, getD, set}
+use borrow.Author.Tests.{lt-ltb, le-ltb, le-leb, lt-leb, ltb-true, leb-true}
+use Rattle.lerc_header.specs.declared.Shape.{Shape}
+use native.Mathlib.Nat.{mul-le-mul, mul-le-mul-right, suc-mul, add-mul, add-zero, add-assoc}
+use native.Mathlib.Numerals.{add-one}
+use Rattle.lerc_words.specs.Res.{little}
+use Rattle.lerc_words.proofs.Counts.{count-more, count-mono}
+use Rattle.lerc_header.specs.Shape.{cells, Shaped}
+use Rattle.lerc_mask.specs.Mask.{pixelValid, validBelow}
+use Rattle.lerc_image.specs.Geometry.{isValidCell}
+use Rattle.lerc_image.specs.Paint.{painted}
+use Rattle.lerc_image.proofs.Painting.{length-painted, painted-none, painted-same, painted-set, painted-twice, painted-words}
+use Rattle.lerc.specs.Linear.{within, validUpto, rawWord}
+
+-- ---- the cells of one pixel
+
+pub within-none : (base c : ℕ) → within base 0 c ≡ false
+unfolding within
+within-none base c = go (decLe base c)
+  where
+    go : Dec (base ≤ c) → (leb base c && ltb c (base + 0)) ≡ false
+    go (yes p) = rw (le-leb base c p, le-ltb c (base + 0) (omega arith))
+    go (no p) = rw (lt-leb base c (omega arith))
+
+pub within-in : (base n c : ℕ) → base ≤ c → c < base + n → within base n c ≡ true
+unfolding within
+within-in base n c p q = rw (le-leb base c p, lt-ltb c (base + n) q)
+
+pub within-out : (base n c : ℕ) → (base ≤ c → c < base + n → ⊥) → within base n c ≡ false
+unfolding within
+within-out base n c f = go (decLe base c) (decLt c (base + n))
+  where
+    go : Dec (base ≤ c) → Dec (c < base + n) → (leb base c && ltb c (base + n)) ≡ false
+    go (yes p) (yes q) = absurd (f p q)
+    go (yes p) (no q) = rw (le-leb base c p, le-ltb c (base + n) (omega arith))
+    go (no p) q = rw (lt-leb base c (omega arith))
+
+within-other : (base d c : ℕ) → c ≢ base + d → within base (d + 1) c ≡ within base d c
+within-other base d c f = go (decLe base c) (decLt c (base + d))
+  where
+    go : Dec (base ≤ c) → Dec (c < base + d) → within base (d + 1) c ≡ within base d c
+    go (yes p) (yes q) = rw (within-in base (d + 1) c p (omega arith), within-in base d c p q)
+    go (yes p) (no q) =
+        let g : c ≢ base + d = f in
+        rw (within-out base (d + 1) c (λ u w. f (omega arith)), within-out base d c (λ u w. q w))
+    go (no p) q = rw (within-out base (d + 1) c (λ u w. p u), within-out base d c (λ u w. p u))
+
+-- one cell more
+pub cell-more : (im : List ℕ) (word : ℕ → ℕ) (base d : ℕ) → base + d < length im
+    → set (painted im (within base d) word) (base + d) (word (base + d)) ≡ painted im (within base (d + 1)) word
+cell-more im word base d l =
+    painted-set im word (within base d) (within base (d + 1)) (base + d) l (within-in base (d + 1) (base + d) (omega arith) (omega arith)) (within-other base d)
+
+pub cells-none : (im : List ℕ) (word : ℕ → ℕ) (base : ℕ) → im ≡ painted im (within base 0) word
+cells-none im word base = painted-none im word (within base 0) (λ c l. within-none base c)
+
+-- ---- the valid cells below a pixel
+
+module _ (h : Shape) (m : List ℕ) where
+  pub upto-none : (im : List ℕ) (word : ℕ → ℕ) → im ≡ painted im (validUpto h m 0) word
+  unfolding validUpto
+  upto-none im word = painted-none im word (validUpto h m 0) (λ c l. rw (le-ltb c 0 (omega arith)) (and-false (isValidCell h m c)))
+
+  pub upto-all : (im : List ℕ) (word : ℕ → ℕ) → painted im (validUpto h m (cells h)) word ≡ painted im (isValidCell h m) word
+  unfolding validUpto isValidCell
+  upto-all im word = painted-same im word (validUpto h m (cells h)) (isValidCell h m) (λ c l. go c (decLt c (cells h)))
+    where
+      go : (c : ℕ) → Dec (c < cells h) → ((ltb c (cells h) && pixelValid m (c / h .depth)) && ltb c (cells h)) ≡ (ltb c (cells h) && pixelValid m (c / h .depth))
+      go c (yes p) = rw (lt-ltb c (cells h) p) (and-yes (pixelValid m (c / h .depth)))
+        where
+          and-yes : (b : Bool) → (b && true) ≡ b
+          and-yes true = refl
+          and-yes false = refl
+      go c (no p) = rw (le-ltb c (cells h) (omega arith))
+
+module _ (h : Shape) (m : List ℕ) (p : ℕ) (here : p < h .rows * h .columns) where
+  -- a cell of pixel p
+  at-pixel : (c : ℕ) → p * h .depth ≤ c → c < p * h .depth + h .depth → isValidCell h m c ≡ pixelValid m p
+  unfolding isValidCell
+  at-pixel c a b =
+      let r : c - p * h .depth < h .depth = omega arith in
+      let e : p * h .depth + (c - p * h .depth) ≡ c = omega arith in
+      let d : c / h .depth ≡ p = rw (e) at (digits-div p r) in
+      let l : c < cells h = rw (e) at (digits-lt here r) in
+      rw (lt-ltb c (cells h) l, d)
+
+  -- where a cell lies: before the pixel, in it, or behind
+  place : {P : Type 0} (c : ℕ) → (c < p * h .depth → P) → (p * h .depth ≤ c → c < p * h .depth + h .depth → P) → (p * h .depth + h .depth ≤ c → P) → P
+  place {P} c f g k = go (decLt c (p * h .depth)) (decLt c (p * h .depth + h .depth))
+    where
+      go : Dec (c < p * h .depth) → Dec (c < p * h .depth + h .depth) → P
+      go (yes a) b = f a
+      go (no a) (yes b) = g (omega arith) b
+      go (no a) (no b) = k (omega arith)
+
+  skips : pixelValid m p ≡ false → (c : ℕ) → validUpto h m (p * h .depth) c ≡ validUpto h m (p * h .depth + h .depth) c
+  unfolding validUpto
+  skips e c = place c
+      (λ a. rw (lt-ltb c (p * h .depth) a, lt-ltb c (p * h .depth + h .depth) (omega arith)))
+      (λ a b. rw (at-pixel c a b, e))
+      (λ a. rw (le-ltb c (p * h .depth) (omega arith), le-ltb c (p * h .depth + h .depth) a))
+
+
+  adds : pixelValid m p ≡ true → (c : ℕ) → (within (p * h .depth) (h .depth) c || validUpto h m (p * h .depth) c) ≡ validUpto h m (p * h .depth + h .depth) c
+  unfolding validUpto
+  adds e c = place c
+      (λ a. rw (within-out (p * h .depth) (h .depth) c (λ u w. omega arith), lt-ltb c (p * h .depth) a, lt-ltb c (p * h .depth + h .depth) (omega arith)))
+      (λ a b. rw (within-in (p * h .depth) (h .depth) c a b, at-pixel c a b, e, lt-ltb c (p * h .depth + h .depth) b))
+      (λ a. rw (within-out (p * h .depth) (h .depth) c (λ u w. omega arith), le-ltb c (p * h .depth) (omega arith), le-ltb c (p * h .depth + h .depth) a))
+
+  -- a pixel that is not valid adds nothing
+  pub pixel-skips : (im : List ℕ) (word : ℕ → ℕ) → pixelValid m p ≡ false
+      → painted im (validUpto h m (p * h .depth)) word ≡ painted im (validUpto h m (p * h .depth + h .depth)) word
+  pixel-skips im word e = painted-same im word _ _ (λ c l. skips e c)
+
+  -- a valid one adds its cells
+  pub pixel-adds : (im : List ℕ) (word other : ℕ → ℕ) → pixelValid m p ≡ true
+      → ((c : ℕ) → p * h .depth ≤ c → c < p * h .depth + h .depth → other c ≡ word c)
+      → painted (painted im (validUpto h m (p * h .depth)) word) (within (p * h .depth) (h .depth)) other ≡ painted im (validUpto h m (p * h .depth + h .depth)) word
+  unfolding within
+  pixel-adds im word other e f =
+      let now : List ℕ = painted im (validUpto h m (p * h .depth)) word in
+      let w : painted now (within (p * h .depth) (h .depth)) other ≡ painted now (within (p * h .depth) (h .depth)) word =
+      painted-words now other word (within (p * h .depth) (h .depth))
+      (λ c t. let u = and-eq-true-iff _ _ .0 t in f c (leb-true _ _ (u .0)) (ltb-true _ _ (u .1))) in
+      w ∙ painted-twice im word (validUpto h m (p * h .depth)) (within (p * h .depth) (h .depth)) ∙ painted-same im word _ _ (λ c l. adds e c)
+
+  -- the pixel's cells lie in the image
+  pub pixel-fits : (room : ℕ) → cells h ≤ room → p * h .depth + h .depth ≤ room
+  pixel-fits room l = omega (arith, mul-le-mul-right (h .depth) here, suc-mul p (h .depth))
+
+-- the pixels of an image are few
+pub pixels-few : (h : Shape) → Shaped h → h .rows * h .columns ≤ 16777216
+pixels-few h s = mul-le-mul (s .rows .1) (s .columns .1)
+
+-- the depth of a pixel's cell
+pub pixel-depth : (p depth c : ℕ) → p * depth ≤ c → c < p * depth + depth → c % depth ≡ c - p * depth
+pixel-depth p depth c a b =
+    let r : c - p * depth < depth = omega arith in
+    let e : p * depth + (c - p * depth) ≡ c = omega arith in
+    rw (e) at (digits-mod p r)
+
+-- ---- the words of a raw body: depth by depth, valid pixel by valid pixel
+
+-- a valid pixel is one more
+pub valid-more : (m : List ℕ) (p : ℕ) → pixelValid m p ≡ true → validBelow (p + 1) m ≡ validBelow p m + 1
+valid-more m p e = rw (count-more p (pixelValid m), e)
+
+pub valid-less : (m : List ℕ) (p : ℕ) → pixelValid m p ≡ false → validBelow (p + 1) m ≡ validBelow p m
+valid-less m p e = rw (count-more p (pixelValid m), e) (add-zero _)
+
+-- where the words behind a valid pixel's begin
+pub raw-next : (m : List ℕ) (p depth size : ℕ) → pixelValid m p ≡ true → validBelow (p + 1) m * depth * size ≡ validBelow p m * depth * size + depth * size
+raw-next m p depth size e = rw (valid-more m p e, add-one, suc-mul (validBelow p m) depth) (add-mul (validBelow p m * depth) depth size)
+
+-- a valid pixel's words lie among those of all
+pub raw-fits : (m : List ℕ) (pixels p depth size : ℕ) → pixelValid m p ≡ true → p < pixels → validBelow p m * depth * size + depth * size ≤ validBelow pixels m * depth * size
+raw-fits m pixels p depth size e l =
+    let k : p + 1 ≤ pixels = omega arith in
+    rw (← raw-next m p depth size e) (mul-le-mul-right size (mul-le-mul-right depth (count-mono (p + 1) pixels (pixelValid m) k)))
+
+-- the word of a valid pixel's cell
+pub raw-word : (s : List ℕ) (at size : ℕ) (h : Shape) (m : List ℕ) (p c : ℕ) → p * h .depth ≤ c → c < p * h .depth + h .depth
+    → little size s (at + validBelow p m * h .depth * size + (c - p * h .depth) * size) ≡ rawWord s at size h m c
+raw-word s at size h m p c a b =
+    let r : c - p * h .depth < h .depth = omega arith in
+    let e : p * h .depth + (c - p * h .depth) ≡ c = omega arith in
+    let d : c / h .depth ≡ p = rw (e) at (digits-div p r) in
+    let g : (validBelow p m * h .depth + (c - p * h .depth)) * size ≡ validBelow p m * h .depth * size + (c - p * h .depth) * size = add-mul (validBelow p m * h .depth) (c - p * h .depth) size in
+    rw (d, pixel-depth p (h .depth) c a b, g, add-assoc)

@@ -1,0 +1,4 @@
+pub mod Filling
+pub mod Answers
+pub mod Steps
+pub mod Words

@@ -1,0 +1,115 @@
+use borrow.Author.Needs.{needs}
+use Prim.Native.Nat.{ℕ, _≤_, _<_, _-_, _+_, _*_, min}
+use mathlib.Core.Path.{_≡_, _∙_, sym, ap, refl}
+use mathlib.Core.List.{_++_}
+use native.Mathlib.Omega.{arith}
+use Rattle.lerc_samples.specs.Samples.{storedSaid, storedRefused}
+use Rattle.lerc_block.proofs.Answers.{said-ok, said-no}
+use Rattle.lerc_block.proofs.Steps.{converted-all, converted-no}
+use denote.Ref.{now}
+use lib.ListN.{length, getD, drop}
+use Rattle.lerc_words.proofs.Each.{Staged, staged-none, staged-length, staged-more, staged-fails, staged-done}
+use Rattle.lerc_block.specs.Steps.{stepWord, Converted}
+use Rattle.lerc_block.proofs.convert.Statement.{statement}
+use Rattle.lerc_block.proofs.convert.Tie as tie
+use Rattle.lerc_block.proofs.convert.Reads as reads
+use Rattle.lerc_block.proofs.convert.Lts as lts
+use Rattle.lerc_block.proofs.step.Reads as step-reads
+use Rattle.lerc_samples.proofs.StoredAnswer.refusal.Reads as refusal-reads
+
+abbrev Inv-loop : tie.InvT-loop
+Inv-loop counts next kind error top offset out₀ k₀ out k = Staged (stepWord kind error top offset) counts k out₀ out
+
+abbrev μ-loop : tie.MeasureT-loop
+μ-loop counts next kind error top offset out₀ k₀ out k = length counts - k
+
+loop-holds : tie.Need-loop-holds Inv-loop μ-loop
+loop-holds c =
+    let a = c .before .before .args in
+    staged-none (stepWord (a .kind) (a .error) (a .top) (a .offset)) (now (a .counts)) (now (a .out)) (omega arith)
+
+mul-step : tie.Need-mul-step Inv-loop μ-loop
+mul-step c = search needs
+
+shared-slice-read-step : tie.Need-shared-slice-read-step Inv-loop μ-loop
+shared-slice-read-step c = search needs
+
+step-requires : tie.Need-step-requires Inv-loop μ-loop
+step-requires c κs = search needs
+
+enum-known-a : tie.Need-enum-known-a Inv-loop μ-loop
+enum-known-a c = search needs
+
+enum-told : tie.Need-enum-told Inv-loop μ-loop
+enum-told c = search needs
+
+refusal-requires : tie.Need-refusal-requires Inv-loop μ-loop
+refusal-requires c κs = search needs
+
+same-length : tie.Need-same-length Inv-loop μ-loop
+same-length c =
+    let l = c .before .before .before .before .before .before in
+    let a = l .before .before .before .args in
+    staged-length (stepWord (a .kind) (a .error) (a .top) (a .offset)) (now (a .counts)) (l .loop .k) (now (a .out)) (l .loop .out) (l .loop .inv)
+
+returns : tie.Need-returns Inv-loop μ-loop
+returns c =
+    let l = c .before .before .before .before .before .before in
+    let a = l .before .before .before .args in
+    converted-no (staged-fails (stepWord (a .kind) (a .error) (a .top) (a .offset)) (now (a .counts)) (l .loop .k) (now (a .out)) (l .loop .out) (l .loop .inv) (c .before .before .before .before .before .loop-test .taken) (said-no storedSaid (c .before .before .before .step .ensures) (c .before .enum-told .given .1) storedRefused (c .refusal .ensures) refl))
+
+mul-out : tie.Need-mul-out Inv-loop μ-loop
+mul-out c = search needs
+
+slice-write-out : tie.Need-slice-write-out Inv-loop μ-loop
+slice-write-out c =
+    let l = c .before .before .before .before .before .before in
+    let a = l .before .before .before .args in
+    omega (arith, staged-length (stepWord (a .kind) (a .error) (a .top) (a .offset)) (now (a .counts)) (l .loop .k) (now (a .out)) (l .loop .out) (l .loop .inv))
+
+add-k : tie.Need-add-k Inv-loop μ-loop
+add-k c = search needs
+
+loop-less : tie.Need-loop-less Inv-loop μ-loop
+loop-less c = search needs
+
+loop-again : tie.Need-loop-again Inv-loop μ-loop
+loop-again c =
+    let l = c .before .before .before .before .before .before in
+    let a = l .before .before .before .args in
+    staged-more (stepWord (a .kind) (a .error) (a .top) (a .offset)) (now (a .counts)) (l .loop .k) (now (a .out)) (l .loop .out) (l .loop .inv) _ (c .before .before .before .before .before .loop-test .taken) (said-ok storedSaid (c .before .before .before .step .ensures) (c .before .a .given .1) refl)
+
+same-length-2 : tie.Need-same-length-2 Inv-loop μ-loop
+same-length-2 c =
+    let l = c .before in
+    let a = l .before .before .before .args in
+    staged-length (stepWord (a .kind) (a .error) (a .top) (a .offset)) (now (a .counts)) (l .loop .k) (now (a .out)) (l .loop .out) (l .loop .inv)
+
+returns-2 : tie.Need-returns-2 Inv-loop μ-loop
+returns-2 c =
+    let l = c .before in
+    let a = l .before .before .before .args in
+    converted-all (l .loop .inv .front) (staged-done (stepWord (a .kind) (a .error) (a .top) (a .offset)) (now (a .counts)) (l .loop .k) (now (a .out)) (l .loop .out) (l .loop .inv) (c .loop-test .left)) (l .loop .inv .is)
+
+pub convert-spec : {M : Type 1} → statement M
+convert-spec =
+    tie.close
+    (tie.spec
+    Inv-loop
+    μ-loop
+    loop-holds
+    mul-step
+    shared-slice-read-step
+    step-requires
+    enum-known-a
+    enum-told
+    refusal-requires
+    same-length
+    returns
+    mul-out
+    slice-write-out
+    add-k
+    loop-less
+    loop-again
+    same-length-2
+    returns-2)

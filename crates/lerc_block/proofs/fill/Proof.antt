@@ -1,0 +1,75 @@
+use borrow.Author.Needs.{needs}
+use Prim.Native.Nat.{ℕ, _≤_, _<_, _-_, _+_, _*_, min}
+use mathlib.Core.Path.{_≡_, _∙_, sym, ap, refl}
+use mathlib.Core.List.{List, _++_}
+use native.Mathlib.Omega.{arith}
+use denote.Ref.{now}
+use lib.ListN.{length, getD, drop}
+use Rattle.lerc_block.proofs.Filling.{Filling, filling-none, filling-length, filling-more, filling-done, tabulate-constant}
+use Rattle.lerc_block.proofs.fill.Statement.{statement}
+use Rattle.lerc_block.proofs.fill.Tie as tie
+use Rattle.lerc_block.proofs.fill.Reads as reads
+use Rattle.lerc_block.proofs.fill.Lts as lts
+
+abbrev Inv-loop : tie.InvT-loop
+Inv-loop v n out₀ k₀ out k = Filling (λ j. v) n k out₀ out
+
+abbrev μ-loop : tie.MeasureT-loop
+μ-loop v n out₀ k₀ out k = n - k
+
+loop-holds : tie.Need-loop-holds Inv-loop μ-loop
+loop-holds c =
+    let a = c .args in
+    filling-none (λ j. a .v) (a .n) (now (a .out)) (omega arith)
+
+mul-out : tie.Need-mul-out Inv-loop μ-loop
+mul-out c = search needs
+
+slice-write-out : tie.Need-slice-write-out Inv-loop μ-loop
+slice-write-out c =
+    let l = c .before in
+    let a = l .before .args in
+    let f : ℕ → ℕ = λ j. a .v in
+    omega (arith, filling-length f (a .n) (l .loop .k) (now (a .out)) (l .loop .out) (l .loop .inv))
+
+add-k : tie.Need-add-k Inv-loop μ-loop
+add-k c = search needs
+
+loop-less : tie.Need-loop-less Inv-loop μ-loop
+loop-less c = search needs
+
+loop-again : tie.Need-loop-again Inv-loop μ-loop
+loop-again c =
+    let l = c .before in
+    let a = l .before .args in
+    let f : ℕ → ℕ = λ j. a .v in
+    filling-more f (a .n) (l .loop .k) (now (a .out)) (l .loop .out) (l .loop .inv) (a .v) (c .loop-test .taken) refl
+
+same-length : tie.Need-same-length Inv-loop μ-loop
+same-length c =
+    let l = c .before in
+    let a = l .before .args in
+    let f : ℕ → ℕ = λ j. a .v in
+    filling-length f (a .n) (l .loop .k) (now (a .out)) (l .loop .out) (l .loop .inv)
+
+returns : tie.Need-returns Inv-loop μ-loop
+returns c =
+    let l = c .before in
+    let a = l .before .args in
+    let f : ℕ → ℕ = λ j. a .v in
+    filling-done f (a .n) (l .loop .k) (now (a .out)) (l .loop .out) (l .loop .inv) (c .loop-test .left) ∙ ap (λ (t : List ℕ). t ++ drop (a .n) (now (a .out))) (tabulate-constant (a .n) (a .v))
+
+pub fill-spec : {M : Type 1} → statement M
+fill-spec =
+    tie.close
+    (tie.spec
+    Inv-loop
+    μ-loop
+    loop-holds
+    mul-out
+    slice-write-out
+    add-k
+    loop-less
+    loop-again
+    same-length
+    returns)

@@ -1,0 +1,19 @@
+-- What the code that converts counts into a spare array does; not part of the rules.
+-- Assumes nothing.
+use Prim.Native.Nat.{ℕ}
+use mathlib.Core.Path.{_≡_}
+use mathlib.Core.List.{List}
+use Rattle.lerc_words.specs.Res.{Res, ok, _>>=_}
+use Rattle.lerc_words.specs.Lists.{over}
+use Rattle.lerc_samples.specs.Samples.{stored}
+use Rattle.lerc_block.specs.Block.{stepValue, blockSaid}
+use Rattle.lerc_block.specs.declared.BlockAnswer.{BlockAnswer}
+
+-- the word of count q
+abbrev pub stepWord : ℕ → ℕ → ℕ → ℕ → ℕ → Res ℕ
+stepWord kind error top offset q = stored kind (stepValue error top offset q)
+
+-- all words stand in front and `next` is answered, or the first refusal is; nothing is said of a refusal's array
+pub record Converted (m : Res (List ℕ)) (next : ℕ) (r : BlockAnswer) (old new : List ℕ) : Type 0 where
+  pub says : blockSaid r ≡ (m >>= λ words. ok next)
+  pub words : (front : List ℕ) → m ≡ ok front → new ≡ over front old

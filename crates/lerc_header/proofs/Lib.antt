@@ -1,0 +1,3 @@
+pub mod Sizes
+pub mod Largest
+pub mod Kept

@@ -1,0 +1,22 @@
+use native.Mathlib.Omega.{arith}
+use denote.Ref.{now}
+use Rattle.lerc_header.specs.Header.{keyRight}
+use Rattle.lerc_words.proofs.Laws.{little-word}
+use borrow.Author.Needs.{needs}
+use Rattle.lerc_header.proofs.key_right.Statement.{statement}
+use Rattle.lerc_header.proofs.key_right.Tie as tie
+
+peek-requires : tie.Need-peek-requires
+peek-requires c κs = search needs
+
+quad-requires : tie.Need-quad-requires
+quad-requires c κs = search needs
+
+returns : tie.Need-returns
+unfolding keyRight
+returns c =
+    let s = now (c .before .before .before .args .b) in
+    rw (c .before .peek .ensures, little-word 6 s 0 (λ i. omega (arith, c .before .before .shared-slice-known .given i)) (omega arith), c .quad .ensures)
+
+pub key-right-spec : {M : Type 1} → statement M
+key-right-spec = tie.close (tie.spec peek-requires quad-requires returns)

@@ -1,0 +1,4 @@
+pub mod RangesTable
+pub mod RangesLaws
+pub mod ValidityAnswers
+pub mod ValidityLaws

@@ -1,0 +1,65 @@
+use borrow.Author.Needs.{needs}
+use Prim.Native.Nat.{_≤_, _-_}
+use mathlib.Core.Path.{_≡_, sym}
+use native.Mathlib.Omega.{arith}
+use Rattle.lerc_planes.specs.Ranges.{pairsRight}
+use Rattle.lerc_planes.proofs.RangesTable.{pairs-none, pairs-more}
+use Rattle.lerc_planes.proofs.depths.pairs_right.Statement.{statement}
+use Rattle.lerc_planes.proofs.depths.pairs_right.Tie as tie
+
+abbrev Inv-loop : tie.InvT-loop
+Inv-loop depth r all₀ i₀ all i = (i ≤ depth) × (all ≡ pairsRight i r)
+
+abbrev μ-loop : tie.MeasureT-loop
+μ-loop depth r all₀ i₀ all i = depth - i
+
+loop-holds : tie.Need-loop-holds Inv-loop μ-loop
+loop-holds c = (omega arith, sym (pairs-none _))
+
+mul-pair-right : tie.Need-mul-pair-right Inv-loop μ-loop
+mul-pair-right c = search needs
+
+element-copy-out-pair-right : tie.Need-element-copy-out-pair-right Inv-loop μ-loop
+element-copy-out-pair-right c = search needs
+
+mul-pair-right-2 : tie.Need-mul-pair-right-2 Inv-loop μ-loop
+mul-pair-right-2 c = search needs
+
+element-copy-out-pair-right-2 : tie.Need-element-copy-out-pair-right-2 Inv-loop μ-loop
+element-copy-out-pair-right-2 c = search needs
+
+pair-right-requires : tie.Need-pair-right-requires Inv-loop μ-loop
+pair-right-requires c κs = search needs
+
+add-i : tie.Need-add-i Inv-loop μ-loop
+add-i c = search needs
+
+loop-less : tie.Need-loop-less Inv-loop μ-loop
+loop-less c = search needs
+
+loop-again : tie.Need-loop-again Inv-loop μ-loop
+loop-again c =
+    let l = c .before .before .before .before in
+    (omega arith, rw (pairs-more, l .loop .inv .1, c .pair-right .ensures))
+
+returns : tie.Need-returns Inv-loop μ-loop
+returns c =
+    let e : c .before .loop .i ≡ c .before .before .args .depth = omega arith in
+    rw (c .before .loop .inv .1, e)
+
+pub pairs-right-spec : {M : Type 1} → statement M
+pairs-right-spec =
+    tie.close
+    (tie.spec
+    Inv-loop
+    μ-loop
+    loop-holds
+    mul-pair-right
+    element-copy-out-pair-right
+    mul-pair-right-2
+    element-copy-out-pair-right-2
+    pair-right-requires
+    add-i
+    loop-less
+    loop-again
+    returns)

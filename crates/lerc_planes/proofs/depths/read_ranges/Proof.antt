@@ -1,0 +1,72 @@
+use mathlib.Core.Path.{_∙_, sym, ap}
+use native.Mathlib.Omega.{arith}
+use denote.Ref.{now}
+use lib.ListN.{length, length-take}
+use Rattle.lerc_words.specs.Res.{fail}
+use Rattle.lerc_header.specs.Header.{heldSaid, heldRefused}
+use Rattle.lerc_header.proofs.Kept.{held-size, held-shaped}
+use Rattle.lerc_planes.specs.Ranges.{readRangesSays}
+use borrow.Author.Needs.{needs}
+use Rattle.lerc_planes.proofs.depths.read_ranges.Statement.{statement}
+use Rattle.lerc_planes.proofs.depths.read_ranges.Tie as tie
+
+held-requires : tie.Need-held-requires
+held-requires c κs = search needs
+
+enum-known-held : tie.Need-enum-known-held
+enum-known-held c = search needs
+
+enum-told : tie.Need-enum-told
+enum-told c = search needs
+
+refusal-requires : tie.Need-refusal-requires
+refusal-requires c κs = search needs
+
+refused-requires : tie.Need-refused-requires
+refused-requires c κs = search needs
+
+returns : tie.Need-returns
+unfolding readRangesSays
+returns c =
+    let w = c .before .before .enum-told .given .1 in
+    rw (
+      c .refused .ensures,
+      sym (c .before .before .before .before .held .ensures) ∙ ap heldSaid w ∙ ap fail (sym (c .before .refusal .ensures ∙ ap heldRefused w)),
+    )
+
+cast-size : tie.Need-cast-size
+cast-size c = search needs
+
+slice-aggregate-ranges-in : tie.Need-slice-aggregate-ranges-in
+slice-aggregate-ranges-in c =
+    let d = c .before .before .before in
+    let a = d .before .before .before .before .args in
+    let q = sym (d .before .before .held .ensures) ∙ ap heldSaid (d .held2 .given .1) in
+    simp length-take (omega (arith, held-size (a .h) (length (now (a .blob))) q))
+
+ranges-in-requires : tie.Need-ranges-in-requires
+ranges-in-requires c κs =
+    let d = c .before .before .before in
+    let a = d .before .before .before .before .args in
+    held-shaped (a .h) (length (now (a .blob))) (sym (d .before .before .held .ensures) ∙ ap heldSaid (d .held2 .given .1)) .depth .1
+
+returns-2 : tie.Need-returns-2
+unfolding readRangesSays
+returns-2 c =
+    let d = c .before .before .before .before in
+    rw (c .ranges-in .ensures, sym (d .before .before .held .ensures) ∙ ap heldSaid (d .held2 .given .1))
+
+pub read-ranges-spec : {M : Type 1} → statement M
+read-ranges-spec =
+    tie.close
+    (tie.spec
+    held-requires
+    enum-known-held
+    enum-told
+    refusal-requires
+    refused-requires
+    returns
+    cast-size
+    slice-aggregate-ranges-in
+    ranges-in-requires
+    returns-2)

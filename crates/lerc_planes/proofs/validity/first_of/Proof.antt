@@ -1,0 +1,22 @@
+use borrow.Author.Needs.{needs}
+use borrow.Author.Tests.{le-leb, lt-leb}
+use native.Mathlib.Omega.{arith}
+use lib.ListN.{length-take}
+use Rattle.lerc_planes.proofs.validity.first_of.Statement.{statement}
+use Rattle.lerc_planes.proofs.validity.first_of.Tie as tie
+
+slice-aggregate-result : tie.Need-slice-aggregate-result
+slice-aggregate-result c = simp length-take (omega arith)
+
+slice-aggregate-result-2 : tie.Need-slice-aggregate-result-2
+slice-aggregate-result-2 c = search needs
+
+returns : tie.Need-returns
+returns c = rw (le-leb _ _ (c .before .if1 .taken))
+
+returns-2 : tie.Need-returns-2
+returns-2 c = rw (lt-leb _ _ (c .before .if1 .left))
+
+pub first-of-spec : {M : Type 1} → statement M
+first-of-spec =
+    tie.close (tie.spec slice-aggregate-result slice-aggregate-result-2 returns returns-2)

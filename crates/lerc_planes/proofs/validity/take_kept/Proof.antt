@@ -1,0 +1,41 @@
+use borrow.Author.Needs.{needs}
+use borrow.Author.Tests.{not-true, not-false}
+use mathlib.Core.Path.{_≡_, _∙_, sym, ap}
+use native.Mathlib.Omega.{arith}
+use denote.Ref.{now}
+use lib.ListN.{length, take, length-take}
+use Rattle.lerc_header.specs.declared.Extent.{Extent}
+use Rattle.lerc_header.specs.Header.{shapeOf}
+use Rattle.lerc_header.specs.Shape.{maskLength}
+use Rattle.lerc_planes.specs.Validity.{kept}
+use Rattle.lerc_planes.proofs.ValidityAnswers.{refused, reuses, kept-no, kept-count, kept-ok}
+use Rattle.lerc_planes.proofs.validity.take_kept.Statement.{statement}
+use Rattle.lerc_planes.proofs.validity.take_kept.Tie as tie
+
+returns : tie.Need-returns
+returns c =
+    let a = c .before .before .args in
+    λ spare. refused (kept-no (a .h) (a .reuse) (now (a .kept)) (not-true (a .reuse) (c .if1 .taken)))
+
+count-requires : tie.Need-count-requires
+count-requires c κs = search needs
+
+cast-if2 : tie.Need-cast-if2
+cast-if2 c = search needs
+
+returns-2 : tie.Need-returns-2
+returns-2 c =
+    let a = c .before .before .before .before .before .args in
+    let same = rw (c .before .before .before .before .before .pre .0) at (c .before .before .count .ensures) in
+    λ spare. refused (kept-count (a .h) (a .reuse) (now (a .kept)) (not-false (a .reuse) (c .before .before .before .if1 .left)) (rw (same) at (c .if2 .taken)))
+
+returns-3 : tie.Need-returns-3
+returns-3 c =
+    let a = c .before .before .before .before .before .args in
+    let same = rw (c .before .before .before .before .before .pre .0) at (c .before .before .count .ensures) in
+    let n : length (take (maskLength (shapeOf (a .h))) (now (a .kept))) ≡ maskLength (shapeOf (a .h)) = rw (length-take) (omega arith) in
+    let d : maskLength (shapeOf (a .h)) ≡ a .e .mask = sym (ap (λ (e : Extent). e .mask) (c .before .before .before .before .before .pre .0)) in
+    λ spare. reuses _ _ (kept-ok (a .h) (a .reuse) (now (a .kept)) (not-false (a .reuse) (c .before .before .before .if1 .left)) (rw (same) at (c .if2 .left))) (n ∙ d)
+
+pub take-kept-spec : {M : Type 1} → statement M
+take-kept-spec = tie.close (tie.spec returns count-requires cast-if2 returns-2 returns-3)

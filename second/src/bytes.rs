@@ -1,0 +1,21 @@
+//! Reading bytes of a slice that ends at the declared size.
+
+use crate::refusal::{Refusal, PASSES_SIZE};
+
+pub(crate) fn part(bytes: &[u8], at: usize, length: usize) -> Result<&[u8], Refusal> {
+    // A place given by a caller may be any number, so the sum may pass usize.
+    let end = at.checked_add(length).ok_or(PASSES_SIZE)?;
+    bytes.get(at..end).ok_or(PASSES_SIZE)
+}
+
+pub(crate) fn byte(bytes: &[u8], at: usize) -> Result<u8, Refusal> {
+    bytes.get(at).copied().ok_or(PASSES_SIZE)
+}
+
+/// At most eight bytes as an unsigned number, the lowest byte first.
+pub(crate) fn little(bytes: &[u8]) -> u64 {
+    bytes
+        .iter()
+        .rev()
+        .fold(0, |word, &byte| word << 8 | u64::from(byte))
+}

@@ -1,0 +1,31 @@
+//! A reader of one Lerc2 version 4 blob, written from the rules alone.
+//!
+//! The steps can be called one by one ([`read_header`], [`prepare_mask`],
+//! [`read_ranges`], [`walk`], [`fill`]) or all at once ([`read`]). Numbers are
+//! handed around as the bits of a binary64; cells are native words, which are
+//! the sample's own bits, zero-extended.
+//!
+//! A refusal is its number alone and leaves every lent slice as it was, except
+//! that an accepted new mask stays in the spare.
+
+mod block;
+mod body;
+mod bytes;
+pub mod exact;
+mod header;
+mod mask;
+mod numbers;
+mod packed;
+mod ranges;
+pub mod refusal;
+mod text;
+mod tile;
+
+pub use body::{fill, read, walk};
+pub use header::{read_header, Header};
+pub use mask::{is_valid, prepare_mask, Mask};
+pub use numbers::{is_finite, less, narrow, number, same, scaled, stored, sum, word_size};
+pub use packed::{packed_counts, MOST_COUNTS};
+pub use ranges::{read_ranges, Ranges, MOST_DEPTH};
+pub use refusal::Refusal;
+pub use text::{program_text, MOST_BYTES, MOST_CELLS};

@@ -1,0 +1,180 @@
+//! Slices to lend, with a mark in every place, so that it shows what a reader
+//! wrote.
+
+use second::{fill, prepare_mask, read, read_header, read_ranges, walk};
+use second::{is_valid, Header, Mask, Refusal};
+
+pub const KEPT: u8 = 0x5A;
+pub const SPARE: u8 = 0xC3;
+pub const LIST: usize = 777_777;
+pub const IMAGE: u64 = 0xDEAD_BEEF_0BAD_CAFE;
+/// Places that no reader may touch.
+const BEHIND: usize = 3;
+
+#[derive(Clone, Debug, PartialEq, Eq)]
+pub struct Lent {
+    pub kept: Vec<u8>,
+    pub spare: Vec<u8>,
+    pub list: Vec<usize>,
+    pub image: Vec<u64>,
+}
+
+impl Lent {
+    pub fn of(mask: usize, blocks: usize, cells: usize) -> Lent {
+        Lent {
+            kept: vec![KEPT; mask],
+            spare: vec![SPARE; mask],
+            list: vec![LIST; blocks],
+            image: vec![IMAGE; cells],
+        }
+    }
+
+    /// A little more than the header needs.
+    pub fn behind(header: &Header) -> Lent {
+        Lent::of(
+            header.mask_length() + BEHIND,
+            header.blocks() + BEHIND,
+            header.cells() + BEHIND,
+        )
+    }
+
+    /// Enough for the blob, or for any small one if its header is refused.
+    pub fn to_read(bytes: &[u8]) -> Lent {
+        match read_header(bytes) {
+            Ok(header) => Lent::behind(&header),
+            Err(_) => Lent::of(8, 8, 8),
+        }
+    }
+
+    pub fn read(&mut self, bytes: &[u8], reuse: bool) -> Result<(Header, usize, usize), Refusal> {
+        read(
+            bytes,
+            reuse,
+            &mut self.kept,
+            &mut self.spare,
+            &mut self.list,
+            &mut self.image,
+        )
+    }
+}
+
+/// Reads a blob that must be accepted, and gives what the slices hold then.
+pub fn accepted(bytes: &[u8]) -> (Header, usize, usize, Lent) {
+    let mut lent = Lent::to_read(bytes);
+    let (header, blocks, end) = lent.read(bytes, false).expect("a blob within the rules");
+    (header, blocks, end, lent)
+}
+
+/// The cells of a blob that must be accepted; invalid ones are `IMAGE`.
+pub fn cells(bytes: &[u8]) -> Vec<u64> {
+    let (header, _, _, lent) = accepted(bytes);
+    lent.image[..header.cells()].to_vec()
+}
+
+/// The number of a blob that must be refused before its mask is accepted.
+pub fn refused(bytes: &[u8]) -> Refusal {
+    refused_with(bytes, None)
+}
+
+/// The number of a blob that must be refused once its mask is accepted.
+pub fn refused_after(bytes: &[u8], mask: &[u8]) -> Refusal {
+    refused_with(bytes, Some(mask))
+}
+
+fn refused_with(bytes: &[u8], mask: Option<&[u8]>) -> Refusal {
+    let mut lent = Lent::to_read(bytes);
+    let mut expected = lent.clone();
+    if let Some(mask) = mask {
+        expected.spare[..mask.len()].copy_from_slice(mask);
+    }
+    let refusal = lent.read(bytes, false).expect_err("a refusal");
+    assert_eq!(lent, expected, "refused {refusal}, and slices changed");
+    refusal
+}
+
+/// Reads a blob as a whole and in steps, and compares all that both give.
+pub fn whole_and_steps(bytes: &[u8], reuse: bool, lent: &Lent) -> Result<Lent, Refusal> {
+    let mut whole = lent.clone();
+    let answer = whole.read(bytes, reuse);
+    let mut steps = lent.clone();
+    let stepwise = read_in_steps(bytes, reuse, &mut steps);
+    match stepwise {
+        Steps::Done(header, blocks, end) => {
+            assert_eq!(answer, Ok((header, blocks, end)));
+            assert_eq!(whole, steps);
+        }
+        Steps::NotBlocks => match answer {
+            Ok((header, blocks, end)) => {
+                assert!(blocks == 0 && end <= header.size as usize);
+                check_untouched(&header, lent, &whole);
+            }
+            Err(_) => assert_eq!(whole, steps),
+        },
+        Steps::Refused(refusal) => {
+            assert_eq!(answer, Err(refusal));
+            assert_eq!(whole, steps);
+        }
+    }
+    answer.map(|_| whole)
+}
+
+/// Only valid cells are written, and no list.
+fn check_untouched(header: &Header, before: &Lent, after: &Lent) {
+    assert_eq!(before.list, after.list);
+    for (cell, (old, new)) in before.image.iter().zip(&after.image).enumerate() {
+        let pixel = cell / header.depth as usize;
+        let written = cell < header.cells() && is_valid(&after.kept, pixel);
+        assert!(written || old == new);
+    }
+}
+
+enum Steps {
+    Done(Header, usize, usize),
+    NotBlocks,
+    Refused(Refusal),
+}
+
+fn read_in_steps(bytes: &[u8], reuse: bool, lent: &mut Lent) -> Steps {
+    match blocks_in_steps(bytes, reuse, lent) {
+        Ok((header, blocks, end)) => Steps::Done(header, blocks, end),
+        Err(10) => Steps::NotBlocks,
+        Err(refusal) => Steps::Refused(refusal),
+    }
+}
+
+fn blocks_in_steps(
+    bytes: &[u8],
+    reuse: bool,
+    lent: &mut Lent,
+) -> Result<(Header, usize, usize), Refusal> {
+    let header = read_header(bytes)?;
+    let place = prepare_mask(bytes, &header, reuse, &lent.kept, &mut lent.spare)?;
+    let mask = match place {
+        Mask::Kept(length) => lent.kept[..length].to_vec(),
+        Mask::Spare(length) => lent.spare[..length].to_vec(),
+    };
+    if header.valid == 0 {
+        lent.kept[..mask.len()].copy_from_slice(&mask);
+        return Ok((header, 0, 70));
+    }
+    let ranges = read_ranges(bytes, &header)?;
+    let (blocks, end) = walk(bytes, &header, &ranges, &mask, &mut lent.list)?;
+    let mut written = 0;
+    // Any order must do.
+    for number in (0..blocks).rev() {
+        let list = &lent.list;
+        written += fill(
+            bytes,
+            &header,
+            &ranges,
+            &mask,
+            list,
+            number,
+            &mut lent.image,
+        )?;
+    }
+    assert_eq!(blocks, header.blocks());
+    assert_eq!(written, header.valid as usize * header.depth as usize);
+    lent.kept[..mask.len()].copy_from_slice(&mask);
+    Ok((header, blocks, end))
+}
