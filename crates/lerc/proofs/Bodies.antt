@@ -6,7 +6,14 @@ use mathlib.Core.List.{List, [], _∷_, _++_}
 use Prim.Native.Nat.{ℕ, zero, suc, _+_, _-_, _*_, _/_, _%_, _≤_, _<_}
 use native.Mathlib.Decide.{decLt}
 use native.Mathlib.Omega.{arith}
-use native.Mathlib.Nat.{div-lt-iff-lt-mul, mod-lt, mul-le-mul-right, suc-mul}
+use native.Mathlib.Nat.{div-lt-iff-lt-mul, mod-lt, mul-le-mul, mul-le-mul-right, suc-mul}
+use Rattle.lerc_words.specs.Res.{ok}
+use Rattle.lerc_numeric.specs.Kinds.{typeSize}
+use Rattle.lerc_header.specs.declared.Extent.{Extent}
+use Rattle.lerc_header.specs.Limits.{cellLimit}
+use Rattle.lerc_header.specs.Header.{held}
+use Rattle.lerc_header.proofs.Kept.{held-shaped, held-valid}
+use Rattle.lerc_numeric.proofs.Integers.{size-le}
 use native.Mathlib.Numerals.{add-one}
 use lib.ListN.{length, getD, take, drop, List·getD-append, take-append-drop, length-take}
 use lib.Dec.{ltb}
@@ -89,3 +96,11 @@ image-raw h s m image at size end d e =
 -- a part of a slice put where it stands changes nothing
 pub over-itself : (n : ℕ) (s : List ℕ) → n ≤ length s → over (take n s) s ≡ s
 over-itself n s l = let e : length (take n s) ≡ n = simp length-take (omega arith) in rw (e) (take-append-drop n s)
+
+-- ---- sizes of a raw body
+
+pub valid-cells : (h : Header) (n : ℕ) {e : Extent} → held h n ≡ ok e → h .valid * h .depth ≤ cellLimit
+valid-cells h n k = omega (arith, held-shaped h n k .few, mul-le-mul-right (h .depth) (held-valid h n k))
+
+pub valid-bytes : (h : Header) (n : ℕ) {e : Extent} → held h n ≡ ok e → h .valid * h .depth * typeSize (h .kind) ≤ cellLimit * 8
+valid-bytes h n k = mul-le-mul (valid-cells h n k) (size-le (h .kind))

@@ -1,2 +1,4 @@
 pub mod Pixels
 pub mod Bodies
+pub mod Answers
+pub mod Whole

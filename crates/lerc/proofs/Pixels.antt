@@ -111,7 +111,6 @@ module _ (h : Shape) (m : List ℕ) (p : ℕ) (here : p < h .rows * h .columns) 
       (λ a b. rw (at-pixel c a b, e))
       (λ a. rw (le-ltb c (p * h .depth) (omega arith), le-ltb c (p * h .depth + h .depth) a))
 
-
   adds : pixelValid m p ≡ true → (c : ℕ) → (within (p * h .depth) (h .depth) c || validUpto h m (p * h .depth) c) ≡ validUpto h m (p * h .depth + h .depth) c
   unfolding validUpto
   adds e c = place c

@@ -33,7 +33,6 @@ room h l =
     leb (maskLength s) (length (l .kept)) && leb (maskLength s) (length (l .spare))
     && leb (blockCount s) (length (l .list)) && leb (cells s) (length (l .image))
 
-
 -- as far as the mask: header, room, mask section
 pub record Masked : Type 0 where
   pub header : Header
@@ -62,7 +61,8 @@ published m l =
       kept = over mask (l .kept);
       spare = spareWith (m .mask) (l .spare);
       list = over (startsOf (m .body)) (l .list);
-      image = painted (l .image) (isValidCell (shapeOf h) mask) (cellWord h mask (m .body)) }
+      image = painted (l .image) (isValidCell (shapeOf h) mask) (cellWord h mask (m .body));
+    }
 
 -- "It leaves every lent slice unchanged, except: where the mask section was accepted and no mask was reused, the spare's first (pixels+7)/8 bytes hold the new mask."
 unfoldable pub refusedAfter : Res Masked → Lent → Lent

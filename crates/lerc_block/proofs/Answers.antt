@@ -1,26 +1,24 @@
 -- What each way of reading gives: one law for each place where the code returns.
 -- Assumes nothing.
 use mathlib.Core.Path.{_≡_, refl, sym, ap, _∙_}
-use mathlib.Core.Bool.{Bool, true, false, cond}
-use mathlib.Core.List.{List, [], _∷_, _++_}
+use mathlib.Core.Bool.{true, false}
+use mathlib.Core.List.{List, [], _++_}
 use Prim.Native.Nat.{ℕ, zero, suc, _+_, _*_, _/_, _%_, _≤_, _<_}
 use native.Mathlib.Omega.{arith}
 use native.Mathlib.Nat.{not-suc-le-zero}
 use borrow.Author.Tests.{le-leb, lt-leb, eq-eqb, ne-eqb}
-use lib.ListN.{length, take, drop, replicate, length-replicate}
-use lib.Seq.{take-at}
+use lib.ListN.{length, drop, replicate}
 use Rattle.lerc_words.specs.declared.Refusal.{Refusal}
-use Rattle.lerc_words.specs.Res.{Res, ok, fail, _>>=_, refuse, wordAt, little, each}
-use Rattle.lerc_words.specs.Lists.{tabulate, over}
+use Rattle.lerc_words.specs.Res.{Res, ok, fail, refuse, wordAt, little, each}
+use Rattle.lerc_words.specs.Lists.{tabulate}
 use Rattle.lerc_words.proofs.Each.{each-none}
 use Rattle.lerc_words.proofs.Laws.{bind-is, ok-is, wordAt-is}
-use Rattle.lerc_words.proofs.Tables.{length-tabulate}
 use Rattle.lerc_numeric.specs.Numeric.{finite}
 use Rattle.lerc_numeric.specs.Kinds.{typeSize}
 use Rattle.lerc_samples.specs.Samples.{sampleAt, stored, offsetKind}
 use Rattle.lerc_block.specs.declared.BlockAnswer.{BlockAnswer}
 use Rattle.lerc_block.specs.declared.BlockAnswer.the-variants as answer
-use Rattle.lerc_block.specs.Block.{Block, rawWords, levelBlock, steppedBlock, offsetBlock, formed, blockSays, readBlockSays, BlockRead}
+use Rattle.lerc_block.specs.Block.{Block, rawWords, levelBlock, steppedBlock, offsetBlock, formed, blockSays, readBlockSays, blockSaid, BlockRead}
 
 -- ---- an answer that was taken apart, and what it says
 
@@ -122,9 +120,9 @@ module _ (s : List ℕ) (at kind error top x n : ℕ) where
   unfolding readBlockSays
   read-many h = rw (lt-leb _ _ h)
 
-  pub read-few : n ≤ 256 → readBlockSays s at kind error top x n ≡ blockSays s at kind error top x n
+  pub block-read : n ≤ 256 → readBlockSays s at kind error top x n ≡ blockSays s at kind error top x n
   unfolding readBlockSays
-  read-few h = rw (le-leb _ _ h)
+  block-read h = rw (le-leb _ _ h)
 
   pub block-no : {r : Refusal} → wordAt 1 s at ≡ fail r → blockSays s at kind error top x n ≡ fail r
   unfolding blockSays
@@ -151,3 +149,15 @@ module _ (s : List ℕ) (at kind error top flag n : ℕ) where
   pub formed-offset : (flag % 4 ≡ 0 → ⊥) → (flag % 4 ≡ 2 → ⊥) → formed s at kind error top flag n ≡ offsetBlock s at kind error top flag n
   unfolding formed
   formed-offset d e = rw (ne-eqb _ _ d, ne-eqb _ _ e)
+
+-- ---- the promise leaves no room
+
+pub said-same : (a b : BlockAnswer) → blockSaid a ≡ blockSaid b → a ≡ b
+said-same (answer.Block p) (answer.Block q) e = ap answer.Block (ok-is e)
+said-same (answer.Block p) (answer.Refused r) e = absurd (let z : _≡_ {A = ℕ} 0 1 = cc in omega arith)
+said-same (answer.Refused r) (answer.Block p) e = absurd (let z : _≡_ {A = ℕ} 0 1 = cc in omega arith)
+said-same (answer.Refused r) (answer.Refused q) e = let z : r ≡ q = cc in ap answer.Refused z
+
+-- two outcomes that it allows coincide
+pub read-same : {m : Res Block} {a b : BlockAnswer} {old x y : List ℕ} → BlockRead m a old x → BlockRead m b old y → (a ≡ b) × (x ≡ y)
+read-same {m} {a} {b} p q = (said-same a b (p .says ∙ sym (q .says)), p .words ∙ sym (q .words))

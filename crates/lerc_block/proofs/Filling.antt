@@ -1,10 +1,10 @@
 -- An array that a loop fills from the front, with f k in turn k.
 -- Assumes nothing.
-use mathlib.Core.Path.{_≡_, _∙_, sym, ap, refl}
+use mathlib.Core.Path.{_≡_, _∙_, ap, refl}
 use mathlib.Core.List.{List, [], _∷_, _++_}
 use Prim.Native.Nat.{ℕ, zero, suc, _+_, _≤_, _<_}
 use native.Mathlib.Omega.{arith}
-use native.Mathlib.Nat.{zero-add, not-suc-le-zero, le-of-suc-le-suc}
+use native.Mathlib.Nat.{not-suc-le-zero, le-of-suc-le-suc}
 use lib.ListN.{length, getD, set, take, drop, replicate}
 use Rattle.lerc_words.specs.Lists.{from, tabulate}
 use Rattle.lerc_words.proofs.Tables.{table-more, length-table, from-shift}

@@ -1,4 +1,6 @@
 pub mod Filling
 pub mod Answers
 pub mod Steps
-pub mod Words
+pub mod Accepted
+pub mod Finish
+pub mod Numbers

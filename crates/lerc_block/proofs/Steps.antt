@@ -1,9 +1,8 @@
 -- Packed counts as words: what was decoded, what was converted, and the block they make.
 -- Assumes nothing.
 use mathlib.Core.Path.{_≡_, refl, sym, ap, _∙_}
-use mathlib.Core.Bool.{Bool, true, false, cond}
-use mathlib.Core.List.{List, [], _∷_, _++_}
-use Prim.Native.Nat.{ℕ, zero, suc, _+_, _≤_, _<_}
+use mathlib.Core.List.{List}
+use Prim.Native.Nat.{ℕ, _≤_}
 use native.Mathlib.Omega.{arith}
 use borrow.Author.Tests.{eq-eqb, ne-eqb}
 use lib.ListN.{length, take, drop, length-append}
@@ -12,47 +11,21 @@ use Rattle.lerc_words.specs.declared.Refusal.{Refusal}
 use Rattle.lerc_words.specs.Res.{Res, ok, fail, _>>=_, refuse, each}
 use Rattle.lerc_words.specs.Lists.{over}
 use Rattle.lerc_words.proofs.Laws.{ok-is, each-length}
-use Rattle.lerc_bits.specs.declared.CountsAnswer.{CountsAnswer}
-use Rattle.lerc_bits.specs.declared.CountsAnswer.the-variants as found
-use Rattle.lerc_bits.specs.Bits.{Counts, counts, Span, span, countsSaid, countsRefused, Decoded}
+use Rattle.lerc_bits.specs.Bits.{Counts, counts}
+use Rattle.lerc_bits.proofs.Answers.{Given}
 use Rattle.lerc_block.specs.declared.BlockAnswer.{BlockAnswer}
 use Rattle.lerc_block.specs.declared.BlockAnswer.the-variants as answer
 use Rattle.lerc_block.specs.Block.{Block, steppedBlock, blockSaid}
 use Rattle.lerc_block.specs.Steps.{stepWord, Converted}
 
--- ---- counts that were decoded
+-- ---- n counts in front of an array
 
--- n counts in front of an array
-pub record Found (m : Res Counts) (n next : ℕ) (old now : List ℕ) : Type 0 where
-  pub values : List ℕ
-  pub is : m ≡ ok (record { values = values; next = next })
-  pub many : length values ≡ n
-  pub front : now ≡ over values old
+module _ {m : Res Counts} {n next : ℕ} {old now : List ℕ} (t : Given m n next old now) where
+  pub counts-room : n ≤ length now
+  counts-room = rw (t .left, length-append) (omega (arith, t .many))
 
-pub found-no : {m : Res Counts} {r : CountsAnswer} {q why : Refusal} {old now : List ℕ} → Decoded m r old now → r ≡ found.Refused q → why ≡ countsRefused r → m ≡ fail why
-found-no {m} {r} {q} {why} d e f = go m (sym (d .says) ∙ ap countsSaid e)
-  where
-    go : (m : Res Counts) → (m >>= span) ≡ fail q → m ≡ fail why
-    go (ok c) g = absurd (let z : _≡_ {A = ℕ} 0 1 = cc in omega arith)
-    go (fail p) g = let z : p ≡ q = cc in ap fail (z ∙ sym (f ∙ ap countsRefused e))
-
-pub found-ok : {m : Res Counts} {r : CountsAnswer} {n next : ℕ} {old now : List ℕ} → Decoded m r old now → r ≡ found.Counts n next → Found m n next old now
-found-ok {m} {r} {n} {next} {old} {now} d e = go m (sym (d .says) ∙ ap countsSaid e) d
-  where
-    go : (m : Res Counts) → (m >>= span) ≡ ok (record { n = n; next = next }) → Decoded m r old now → Found m n next old now
-    go (ok c) g d =
-        let p = ok-is g in
-        let x : length (c .values) ≡ n = ap (λ (z : Span). z .n) p in
-        let y : c .next ≡ next = ap (λ (z : Span). z .next) p in
-        record { values = c .values; is = rw (← y) refl; many = x; front = d .left }
-    go (fail p) g d = absurd (let z : _≡_ {A = ℕ} 0 1 = cc in omega arith)
-
-module _ {m : Res Counts} {n next : ℕ} {old now : List ℕ} (t : Found m n next old now) where
-  pub found-room : n ≤ length now
-  found-room = rw (t .front, length-append) (omega (arith, t .many))
-
-  pub found-front : take n now ≡ t .values
-  found-front = rw (t .front) (take-at (t .values) (drop (length (t .values)) old) n (t .many))
+  counts-front : take n now ≡ t .values
+  counts-front = rw (t .left) (take-at (t .values) (drop (length (t .values)) old) n (t .many))
 
 -- ---- words that were converted
 
@@ -90,23 +63,23 @@ module _ (s : List ℕ) (at kind error top offset n : ℕ) where
   unfolding steppedBlock
   stepped-no e = rw e
 
-  module _ {many next : ℕ} {old now : List ℕ} (t : Found (counts s at) many next old now) where
+  module _ {many next : ℕ} {old now : List ℕ} (t : Given (counts s at) many next old now) where
     pub stepped-other : (many ≡ n → ⊥) → steppedBlock s at kind error top offset n ≡ fail (refuse 8)
     unfolding steppedBlock
-    stepped-other d = rw (t .is, t .many, ne-eqb many n d)
+    stepped-other d = rw (t .reads, t .many, ne-eqb many n d)
 
     module _ (d : many ≡ n) where
       each-front : each (stepWord kind error top offset) (take n now) ≡ each (stepWord kind error top offset) (t .values)
-      each-front = rw (← d, found-front t)
+      each-front = rw (← d, counts-front t)
 
       pub stepped-fails : {r : Refusal} → each (stepWord kind error top offset) (take n now) ≡ fail r → steppedBlock s at kind error top offset n ≡ fail r
       unfolding steppedBlock
-      stepped-fails e = rw (t .is, t .many, eq-eqb many n d, sym each-front ∙ e)
+      stepped-fails e = rw (t .reads, t .many, eq-eqb many n d, sym each-front ∙ e)
 
       module _ {end : ℕ} {spare new : List ℕ} (w : Stepped (each (stepWord kind error top offset) (take n now)) next end spare new) where
         pub stepped-ok : steppedBlock s at kind error top offset n ≡ ok (record { words = w .words; next = end })
         unfolding steppedBlock
-        stepped-ok = rw (t .is, t .many, eq-eqb many n d, sym each-front ∙ w .is, w .ends)
+        stepped-ok = rw (t .reads, t .many, eq-eqb many n d, sym each-front ∙ w .is, w .ends)
 
         pub stepped-long : length (w .words) ≡ n
         stepped-long = each-length (stepWord kind error top offset) (t .values) (sym each-front ∙ w .is) ∙ t .many ∙ d

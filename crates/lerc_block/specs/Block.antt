@@ -1,18 +1,18 @@
 -- One block.
 -- Assumes nothing.
-use Prim.Native.Nat.{ℕ, zero, suc, _+_, _*_, _-_, _/_, _%_, _^_}
+use Prim.Native.Nat.{ℕ, _+_, _*_, _/_, _%_}
 use mathlib.Core.Path.{_≡_}
-use mathlib.Core.Bool.{Bool, true, false, cond}
-use mathlib.Core.List.{List, [], _∷_, _++_}
-use lib.ListN.{length, getD, replicate}
-use lib.Dec.{leb, ltb, eqb}
+use mathlib.Core.Bool.{cond}
+use mathlib.Core.List.{List}
+use lib.ListN.{length, replicate}
+use lib.Dec.{leb, eqb}
 use Rattle.lerc_words.specs.declared.Refusal.{Refusal}
 use Rattle.lerc_words.specs.Res.{Res, ok, fail, _>>=_, refuse, require, wordAt, little, each, after}
 use Rattle.lerc_words.specs.Lists.{tabulate, over}
 use Rattle.lerc_numeric.specs.Numeric.{finite, sum, scaled, lesser}
 use Rattle.lerc_numeric.specs.Kinds.{typeSize}
 use Rattle.lerc_samples.specs.Samples.{sampleAt, stored, offsetKind}
-use Rattle.lerc_bits.specs.Bits.{Counts, counts}
+use Rattle.lerc_bits.specs.Bits.{counts}
 use Rattle.lerc_block.specs.declared.BlockAnswer.{BlockAnswer}
 use Rattle.lerc_block.specs.declared.BlockAnswer.the-variants as answer
 

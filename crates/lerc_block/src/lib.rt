@@ -15,6 +15,10 @@ use lerc_samples::StoredAnswer;
 use lerc_words::Refusal;
 use lerc_words::WordAnswer;
 
+mod ends;
+
+pub use ends::block_end;
+
 // Where the next block begins.
 pub enum BlockAnswer {
     Block(usize),

@@ -10,7 +10,7 @@ use borrow.Author.Tests.{lt-ltb, le-ltb, le-leb, lt-leb}
 use lib.Dec.{ltb, leb}
 use lib.Pow.{pow-add}
 use Rattle.lerc_numeric.specs.Numeric.{negative, mag}
-use Rattle.lerc_numeric.proofs.Sum.{mag-lt, mag-le}
+use Rattle.lerc_numeric.proofs.Magnitude.{mag-lt, mag-le}
 use Rattle.lerc_header.specs.Header.{errorRight}
 
 -- 2^1023 itself

@@ -1,2 +1,16 @@
+pub mod Strips
+pub mod Partition
+pub mod Steps
 pub mod Painting
+pub mod Upto
+pub mod Cursors
+pub mod Scattering
+pub mod WordsSum
+pub mod Fills
+pub mod Below
+pub mod Front
+pub mod Reading
 pub mod Chain
+pub mod Passes
+pub mod Filling
+pub mod Walks

@@ -49,11 +49,10 @@ among (n ∷ ns) b = eqb b n || among ns b
 
 -- ---- what `scatter` asks, and what it gives
 
-pub record Asked (h : Shape) (t : Tile) (n : ℕ) (m image : List ℕ) : Type 0 where
+pub record Asked (h : Shape) (t : Tile) (n : ℕ) (image : List ℕ) : Type 0 where
   pub shaped : Shaped h
   pub below : n < blockCount h
   pub tile : t ≡ tileOf h n
-  pub mask : pixels h ≤ length m * 8
   pub room : cells h ≤ length image
 
 pub record Scattered (h : Shape) (n : ℕ) (m words start : List ℕ) (r : ℕ) (now : List ℕ) : Type 0 where

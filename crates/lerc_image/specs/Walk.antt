@@ -17,22 +17,27 @@ use Rattle.lerc_planes.specs.Ranges.{pairsRight}
 use Rattle.lerc_image.specs.declared.WalkAnswer.{WalkAnswer}
 use Rattle.lerc_image.specs.declared.WalkAnswer.the-variants as answer
 use Rattle.lerc_image.specs.Sweep.{Way, rawFrom, blocksFrom, swept}
-use Rattle.lerc_image.specs.Blocks.{Chain, allBlocks}
+use Rattle.lerc_image.specs.Blocks.{Chain, chain, allBlocks}
 
 -- "10: walk on a body not in blocks"
-unfoldable pub walked : List ℕ → Header → Ranges → List ℕ → Way → Res Chain
-walked s h r m (rawFrom at) = fail (refuse 10)
-walked s h r m (blocksFrom at) = allBlocks s h (r .max) m at
+unfoldable pub walked : List ℕ → Header → List ℕ → List ℕ → Way → Res Chain
+walked s h maxima m (rawFrom at) = fail (refuse 10)
+walked s h maxima m (blocksFrom at) = allBlocks s h maxima m at
 
--- 3, 4, 1, 5, 7; "Empty, constant and raw bodies give a walk 10"; then "check every block, values included"
+-- a body that is neither empty nor constant: the sweep byte, then "check every block, values included"
+unfoldable pub bodyWalked : List ℕ → Header → List ℕ → List ℕ → ℕ → Res Chain
+bodyWalked s h maxima m at = do
+  way ← swept s (h .kind) (h .error) at
+  walked s h maxima m way
+
+-- 3, 4, 1, 5, 7; "Empty, constant and raw bodies give a walk 10"; then the body
 unfoldable pub walkSays : List ℕ → Header → Ranges → List ℕ → ℕ → Res Chain
 walkSays b h r m room = do
   e ← held h (length b)
   _ ← require (leb (e .mask) (length m) && leb (e .blocks) room) 5
   _ ← require (pairsRight (h .depth) r) 7
   _ ← require (ltb 0 (h .valid) && not (r .constant)) 10
-  way ← swept (take (h .size) b) (h .kind) (h .error) (r .at)
-  walked (take (h .size) b) h r m way
+  bodyWalked (take (h .size) b) h (r .max) m (r .at)
 
 -- the count of blocks and where the last one ends
 pub record Walk : Type 0 where
@@ -57,3 +62,12 @@ walkList b h r m list = after (walkSays b h r m (length list)) list (λ c. over 
 pub record Walked (b : List ℕ) (h : Header) (ranges : Ranges) (m : List ℕ) (r : WalkAnswer) (old new : List ℕ) : Type 0 where
   pub says : walkSaid r ≡ (walkSays b h ranges m (length old) >>= walkCount h)
   pub list : new ≡ walkList b h ranges m old
+
+-- what a chain, accepted or not, does to the list
+pub record BodyListed (h : Header) (m : Res Chain) (r : WalkAnswer) (old new : List ℕ) : Type 0 where
+  pub says : walkSaid r ≡ (m >>= walkCount h)
+  pub list : new ≡ after m old (λ c. over (c .starts) old)
+
+-- the second pass: the starts of k blocks from `at` on, where they are accepted
+pub record Listed (s : List ℕ) (h : Header) (m : List ℕ) (k at : ℕ) (old new : List ℕ) : Type 0 where
+  pub list : (maxima : List ℕ) (c : Chain) → chain s h maxima m k 0 at ≡ ok c → new ≡ over (c .starts) old

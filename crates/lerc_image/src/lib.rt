@@ -1,4 +1,22 @@
 // Tiles of an image, its blocks by number, walking them and filling one.
+ghost use mathlib.Core.Path.{_≡_};
+ghost use Prim.Native.Nat.{ℕ, _+_, _*_, _^_, _≤_, _<_, min};
+ghost use lib.ListN.{length, getD, take};
+ghost use Rattle.lerc_header.specs.Shape.{Shaped, blockCount, cells};
+ghost use Rattle.lerc_image.specs.Geometry.{TileIn, Within, tileHere, nextOf, positionOf, tileValid, cursorOf, cursorNext};
+ghost use Rattle.lerc_image.specs.Paint.{Asked, Scattered};
+ghost use Rattle.lerc_image.specs.Fill.{BlockFilled, FillAsked, Filled, fillRefused};
+ghost use Rattle.lerc_image.specs.Blocks.{BlockHere, BodyAsked, blockAt, chainEnd, allBlocks};
+ghost use Rattle.lerc_image.specs.Walk.{Walked, BodyListed, Listed, bodyWalked, walkRefused};
+ghost use Rattle.lerc_block.specs.Block.{BlockRead, blockSaid, blockSays};
+use lerc_block::BlockAnswer;
+use lerc_header::DEPTHS;
+use lerc_header::Extent;
+use lerc_header::Header;
+use lerc_header::HeldAnswer;
+use lerc_header::Shape;
+use lerc_planes::PairsAnswer;
+use lerc_planes::Ranges;
 use lerc_words::Refusal;
 
 mod sweep;
@@ -20,6 +38,19 @@ pub struct Position {
     pub d: usize,
 }
 
+// A pixel of a tile, and its column there.
+struct Cursor {
+    pixel: usize,
+    column: usize,
+}
+
+// How the values of a block are coded.
+struct Coding {
+    kind: u32,
+    error: u64,
+    maximum: u64,
+}
+
 pub enum WalkAnswer {
     Walked { blocks: usize, end: usize },
     Refused(Refusal),
@@ -29,4 +60,442 @@ pub enum WalkAnswer {
 pub enum FillAnswer {
     Filled(usize),
     Refused(Refusal),
+}
+
+impl WalkAnswer {
+    // why it was refused; number 0 where it was not
+    pub fn refusal(self) -> Refusal
+        ensures { λ r. ⌜ r ≡ walkRefused self ⌝ }
+    {
+        match self {
+            WalkAnswer::Walked {
+                blocks: _blocks,
+                end: _end,
+            } => Refusal { number: 0 },
+            WalkAnswer::Refused(why) => why,
+        }
+    }
+}
+
+impl FillAnswer {
+    // why it was refused; number 0 where it was not
+    pub fn refusal(self) -> Refusal
+        ensures { λ r. ⌜ r ≡ fillRefused self ⌝ }
+    {
+        match self {
+            FillAnswer::Filled(_words) => Refusal { number: 0 },
+            FillAnswer::Refused(why) => why,
+        }
+    }
+}
+
+fn lesser(a: usize, b: usize) -> usize
+    ensures { λ r. ⌜ r ≡ min a b ⌝ }
+{
+    if a < b { a } else { b }
+}
+
+impl Position {
+    fn start() -> Position
+        ensures { λ r. ⌜ r ≡ record { x = 0; y = 0; d = 0 } ⌝ }
+    {
+        Position { x: 0, y: 0, d: 0 }
+    }
+
+    // the position of block n
+    fn of(h: Shape, n: usize) -> Position
+        requires { ⌜ Shaped h ⌝ }
+        requires { ⌜ n < blockCount h ⌝ }
+        ensures { λ r. ⌜ r ≡ positionOf h n ⌝ }
+    {
+        let across = (h.columns + h.side - 1) / h.side;
+        let t = n / h.depth;
+        Position {
+            x: t % across * h.side,
+            y: t / across * h.side,
+            d: n % h.depth,
+        }
+    }
+
+    // the tile here, cut at the right and lower edge
+    fn current(self, h: Shape) -> Tile
+        requires { ⌜ Shaped h ⌝ }
+        requires { ⌜ Within h self ⌝ }
+        ensures { λ r. ⌜ r ≡ tileHere h self ⌝ }
+    {
+        Tile {
+            x: self.x,
+            y: self.y,
+            w: lesser(h.side, h.columns - self.x),
+            h: lesser(h.side, h.rows - self.y),
+            d: self.d,
+        }
+    }
+
+    // depth first, then x, then y
+    fn advance(self, h: Shape) -> Position
+        requires { ⌜ Shaped h ⌝ }
+        requires { ⌜ Within h self ⌝ }
+        ensures { λ r. ⌜ r ≡ nextOf h self ⌝ }
+    {
+        if self.d + 1 < h.depth {
+            return Position {
+                x: self.x,
+                y: self.y,
+                d: self.d + 1,
+            };
+        }
+        let t = self.current(h);
+        if self.x + t.w < h.columns {
+            return Position {
+                x: self.x + t.w,
+                y: self.y,
+                d: 0,
+            };
+        }
+        Position {
+            x: 0,
+            y: self.y + t.h,
+            d: 0,
+        }
+    }
+}
+
+impl Cursor {
+    // the first pixel of a tile
+    fn first(h: Shape, t: Tile) -> Cursor
+        requires { ⌜ TileIn h t ⌝ }
+        ensures { λ r. ⌜ r ≡ cursorOf h t 0 ⌝ }
+    {
+        Cursor {
+            pixel: t.y * h.columns + t.x,
+            column: 0,
+        }
+    }
+
+    // the next pixel of a tile w wide, row by row
+    fn step(self, w: usize, columns: usize) -> Cursor
+        requires { ⌜ (self .column < w) × (w ≤ columns) × (self .pixel + columns < 2 ^ 64) ⌝ }
+        ensures { λ r. ⌜ r ≡ cursorNext w columns self ⌝ }
+    {
+        if self.column + 1 < w {
+            return Cursor {
+                pixel: self.pixel + 1,
+                column: self.column + 1,
+            };
+        }
+        Cursor {
+            pixel: self.pixel + 1 + (columns - w),
+            column: 0,
+        }
+    }
+}
+
+// How many pixels of a tile are valid.
+fn count_valid(h: Shape, t: Tile, mask: &[u8]) -> usize
+    requires { ⌜ TileIn h t ⌝ }
+    ensures { λ r. ⌜ r ≡ tileValid h (now (mask .entry)) t ⌝ }
+{
+    let pixels = t.h * t.w;
+    let mut here = Cursor::first(h, t);
+    let mut place: usize = 0;
+    let mut found: usize = 0;
+    while place < pixels {
+        if lerc_mask::is_valid(mask, here.pixel) {
+            found += 1;
+        }
+        here = here.step(t.w, h.columns);
+        place += 1;
+    }
+    found
+}
+
+// The words of block `number`, whose tile is `t`, at its valid cells; how many.
+fn scatter(
+    h: Shape,
+    t: Tile,
+    number: usize,
+    mask: &[u8],
+    words: &[u64; 256],
+    image: &mut [u64],
+) -> usize
+    requires { ⌜ Asked h t number (now image) ⌝ }
+    ensures { λ r. ⌜ Scattered h number (now (mask .entry)) (now (words .entry)) (now (image .entry)) r (now (image .exit)) ⌝ }
+{
+    let size = t.h * t.w;
+    let mut at = Cursor::first(h, t);
+    let mut k: usize = 0;
+    let mut used: usize = 0;
+    while k < size {
+        if lerc_mask::is_valid(mask, at.pixel) {
+            image[at.pixel * h.depth + t.d] = words[used];
+            used += 1;
+        }
+        at = at.step(t.w, h.columns);
+        k += 1;
+    }
+    used
+}
+
+// The block of tile `t` at a place: its words, and where the next begins.
+fn read_tile(
+    s: &[u8],
+    at: usize,
+    c: Coding,
+    h: Shape,
+    t: Tile,
+    mask: &[u8],
+    words: &mut [u64; 256],
+) -> BlockAnswer
+    requires { ⌜ TileIn h t ⌝ }
+    ensures { λ r. ⌜ BlockRead (blockSays (now (s .entry)) at (c .kind) (c .error) (c .maximum) (t .x) (tileValid h (now (mask .entry)) t)) r (now (words .entry)) (now (words .exit)) ⌝ }
+{
+    let n = count_valid(h, t, mask);
+    lerc_block::read_block(s, at, c.kind, c.error, c.maximum, t.x, n, words)
+}
+
+// Block `number`, whose tile is `t`, at a place: its words to the image once it is accepted.
+fn fill_tile(
+    s: &[u8],
+    at: usize,
+    c: Coding,
+    h: Shape,
+    t: Tile,
+    number: usize,
+    mask: &[u8],
+    image: &mut [u64],
+) -> FillAnswer
+    requires { ⌜ Asked h t number (now image) ⌝ }
+    ensures { λ r. ⌜ BlockFilled h (now (mask .entry)) number (blockSays (now (s .entry)) at (c .kind) (c .error) (c .maximum) (t .x) (tileValid h (now (mask .entry)) t)) r (now (image .entry)) (now (image .exit)) ⌝ }
+{
+    let mut words = [0u64; 256];
+    let got = read_tile(s, at, c, h, t, mask, &mut words);
+    let BlockAnswer::Block(_next) = got else {
+        return FillAnswer::Refused(got.refusal());
+    };
+    FillAnswer::Filled(scatter(h, t, number, mask, &words, &mut image[..]))
+}
+
+// Block n at a place, where p is its position: its words to the image once it is accepted.
+fn fill_at(
+    s: &[u8],
+    at: usize,
+    h: Header,
+    shape: Shape,
+    n: usize,
+    p: Position,
+    maxima: &[u64; DEPTHS],
+    mask: &[u8],
+    image: &mut [u64],
+) -> FillAnswer
+    requires { ⌜ (BlockHere h shape n p) × (cells shape ≤ length (now image)) ⌝ }
+    ensures { λ r. ⌜ BlockFilled shape (now (mask .entry)) n (blockAt (now (s .entry)) h (now (maxima .entry)) (now (mask .entry)) n at) r (now (image .entry)) (now (image .exit)) ⌝ }
+{
+    let t = p.current(shape);
+    let depth = t.d;
+    let c = Coding {
+        kind: h.kind,
+        error: h.error,
+        maximum: maxima[depth],
+    };
+    fill_tile(s, at, c, shape, t, n, mask, &mut image[..])
+}
+
+// Block `number` at its listed start, of a blob whose header is held.
+fn fill_number(
+    blob: &[u8],
+    h: Header,
+    e: Extent,
+    maxima: &[u64; DEPTHS],
+    mask: &[u8],
+    list: &[usize],
+    number: usize,
+    image: &mut [u64],
+) -> FillAnswer
+    requires { ⌜ FillAsked h e number (now blob) (now list) (now image) ⌝ }
+    ensures { λ r. ⌜ BlockFilled (e .shape) (now (mask .entry)) number (blockAt (take (e .size) (now (blob .entry))) h (now (maxima .entry)) (now (mask .entry)) number (getD (now (list .entry)) number 0)) r (now (image .entry)) (now (image .exit)) ⌝ }
+{
+    let size = e.size;
+    let s = &blob[..size];
+    let at = list[number];
+    let shape = e.shape;
+    let p = Position::of(shape, number);
+    fill_at(s, at, h, shape, number, p, maxima, mask, &mut image[..])
+}
+
+// Block `number` of a blob, at its listed start; the image is written once the block is accepted.
+pub fn fill(
+    blob: &[u8],
+    h: Header,
+    ranges: Ranges,
+    mask: &[u8],
+    list: &[usize],
+    number: usize,
+    image: &mut [u64],
+) -> FillAnswer
+    ensures { λ r. ⌜ Filled (now (blob .entry)) h ranges (now (mask .entry)) (now (list .entry)) number r (now (image .entry)) (now (image .exit)) ⌝ }
+{
+    let held = h.held(blob.len());
+    let HeldAnswer::Held(e) = held else {
+        return FillAnswer::Refused(held.refusal());
+    };
+    if e.blocks <= number {
+        return FillAnswer::Refused(Refusal { number: 11 });
+    }
+    let room = (e.mask <= mask.len()) & (e.blocks <= list.len()) & (e.cells <= image.len());
+    if !room {
+        return FillAnswer::Refused(Refusal { number: 5 });
+    }
+    let right = lerc_planes::pairs(h.depth, ranges);
+    let PairsAnswer::Right = right else {
+        return FillAnswer::Refused(right.refusal());
+    };
+    fill_number(blob, h, e, &ranges.max, mask, list, number, &mut image[..])
+}
+
+// Block n at a place, where p is its position.
+fn read_at(
+    s: &[u8],
+    at: usize,
+    h: Header,
+    shape: Shape,
+    n: usize,
+    p: Position,
+    maxima: &[u64; DEPTHS],
+    mask: &[u8],
+    words: &mut [u64; 256],
+) -> BlockAnswer
+    requires { ⌜ BlockHere h shape n p ⌝ }
+    ensures { λ r. ⌜ BlockRead (blockAt (now (s .entry)) h (now (maxima .entry)) (now (mask .entry)) n at) r (now (words .entry)) (now (words .exit)) ⌝ }
+{
+    let t = p.current(shape);
+    let plane = t.d;
+    let c = Coding {
+        kind: h.kind,
+        error: h.error,
+        maximum: maxima[plane],
+    };
+    read_tile(s, at, c, shape, t, mask, words)
+}
+
+// Every block, values included: where the last one ends.
+fn check_blocks(
+    s: &[u8],
+    at: usize,
+    h: Header,
+    e: Extent,
+    maxima: &[u64; DEPTHS],
+    mask: &[u8],
+) -> BlockAnswer
+    requires { ⌜ BodyAsked h e ⌝ }
+    ensures { λ r. ⌜ blockSaid r ≡ chainEnd (now (s .entry)) h (now (maxima .entry)) (now (mask .entry)) (e .blocks) 0 at ⌝ }
+{
+    let shape = e.shape;
+    let mut words = [0u64; 256];
+    let mut p = Position::start();
+    let mut n: usize = 0;
+    let mut next = at;
+    while n < e.blocks {
+        let got = read_at(s, next, h, shape, n, p, maxima, mask, &mut words);
+        let BlockAnswer::Block(end) = got else {
+            return got;
+        };
+        next = end;
+        p = p.advance(shape);
+        n += 1;
+    }
+    BlockAnswer::Block(next)
+}
+
+// The start of each of the blocks, which are known to be right: only their ends are read.
+fn list_starts(s: &[u8], at: usize, h: Header, e: Extent, mask: &[u8], list: &mut [usize])
+    requires { ⌜ (BodyAsked h e) × (e .blocks ≤ length (now list)) ⌝ }
+    ensures { λ r. ⌜ Listed (now (s .entry)) h (now (mask .entry)) (e .blocks) at (now (list .entry)) (now (list .exit)) ⌝ }
+{
+    let shape = e.shape;
+    let mut p = Position::start();
+    let mut k: usize = 0;
+    let mut start = at;
+    while k < e.blocks {
+        list[k] = start;
+        let t = p.current(shape);
+        let valid = count_valid(shape, t, mask);
+        let got = lerc_block::block_end(s, start, h.kind, valid);
+        let BlockAnswer::Block(end) = got else {
+            return;
+        };
+        start = end;
+        p = p.advance(shape);
+        k += 1;
+    }
+}
+
+// Two passes over the blocks: every one is checked before the list is written.
+fn walk_blocks(
+    s: &[u8],
+    at: usize,
+    h: Header,
+    e: Extent,
+    maxima: &[u64; DEPTHS],
+    mask: &[u8],
+    list: &mut [usize],
+) -> WalkAnswer
+    requires { ⌜ (BodyAsked h e) × (e .blocks ≤ length (now list)) ⌝ }
+    ensures { λ r. ⌜ BodyListed h (allBlocks (now (s .entry)) h (now (maxima .entry)) (now (mask .entry)) at) r (now (list .entry)) (now (list .exit)) ⌝ }
+{
+    let checked = check_blocks(s, at, h, e, maxima, mask);
+    let BlockAnswer::Block(end) = checked else {
+        return WalkAnswer::Refused(checked.refusal());
+    };
+    list_starts(s, at, h, e, mask, &mut list[..]);
+    WalkAnswer::Walked {
+        blocks: e.blocks,
+        end,
+    }
+}
+
+// A body that is neither empty nor constant.
+fn walk_body(
+    s: &[u8],
+    at: usize,
+    h: Header,
+    e: Extent,
+    maxima: &[u64; DEPTHS],
+    mask: &[u8],
+    list: &mut [usize],
+) -> WalkAnswer
+    requires { ⌜ (BodyAsked h e) × (e .blocks ≤ length (now list)) ⌝ }
+    ensures { λ r. ⌜ BodyListed h (bodyWalked (now (s .entry)) h (now (maxima .entry)) (now (mask .entry)) at) r (now (list .entry)) (now (list .exit)) ⌝ }
+{
+    let way = read_sweep(s, at, h.kind, h.error);
+    match way {
+        WayAnswer::Raw(_at) => WalkAnswer::Refused(Refusal { number: 10 }),
+        WayAnswer::Blocks(start) => walk_blocks(s, start, h, e, maxima, mask, &mut list[..]),
+        WayAnswer::Refused(why) => WalkAnswer::Refused(why),
+    }
+}
+
+// Every block of a blob checked, then the list of their starts.
+pub fn walk(blob: &[u8], h: Header, ranges: Ranges, mask: &[u8], list: &mut [usize]) -> WalkAnswer
+    ensures { λ r. ⌜ Walked (now (blob .entry)) h ranges (now (mask .entry)) r (now (list .entry)) (now (list .exit)) ⌝ }
+{
+    let held = h.held(blob.len());
+    let HeldAnswer::Held(e) = held else {
+        return WalkAnswer::Refused(held.refusal());
+    };
+    let room = (e.mask <= mask.len()) & (e.blocks <= list.len());
+    if !room {
+        return WalkAnswer::Refused(Refusal { number: 5 });
+    }
+    let right = lerc_planes::pairs(h.depth, ranges);
+    let PairsAnswer::Right = right else {
+        return WalkAnswer::Refused(right.refusal());
+    };
+    let coded = (0 < h.valid) & !ranges.constant;
+    if !coded {
+        return WalkAnswer::Refused(Refusal { number: 10 });
+    }
+    let size = e.size;
+    let at = ranges.at;
+    walk_body(&blob[..size], at, h, e, &ranges.max, mask, &mut list[..])
 }

@@ -15,7 +15,7 @@ use Rattle.lerc_mask.specs.declared.Step.{Step}
 use Rattle.lerc_mask.specs.declared.Step.the-variants.{Copy, Repeat, End, Wrong}
 use Rattle.lerc_mask.specs.Mask.{validBelow, maskBytes, stepAt, onStep, runs, maskRuns, coded, decoded}
 use Rattle.lerc_mask.specs.Passes.{Fits}
-use Rattle.lerc_mask.proofs.Steps.{step-fits, length-copied, bytes-part, bytes-repeat, bytes-append}
+use Rattle.lerc_mask.proofs.Steps.{Holds, step-holds, step-fits, length-copied, bytes-part, bytes-repeat, bytes-append}
 
 -- ---- one run: the bytes it gives, and the place behind it
 
@@ -60,29 +60,33 @@ module _ (s : List ℕ) (b : Bytes s) (want at : ℕ) (made : List ℕ) where
 -- ---- all runs
 
 -- what each run keeps holds of the mask
-module _ (s : List ℕ) (b : Bytes s) (want : ℕ) (P : List ℕ → Type 0)
-    (keeps : (at : ℕ) (made : List ℕ) (next : ℕ) (out : List ℕ) → P made → Gives s want at made next out → P (made ++ out)) where
+module _ (s : List ℕ) (want : ℕ) (P : List ℕ → Type 0)
+    (keeps : (made out : List ℕ) → P made → length out ≤ want - length made → (Bytes s → Bytes out) → P (made ++ out)) where
   keep-step : (f at : ℕ) (made m : List ℕ) → P made → ((next : ℕ) (out : List ℕ) → P (made ++ out) → runs want s f next (made ++ out) ≡ ok m → P m × (want ≤ length m))
-      → (t : Step) → Means s want at made t → onStep s at t (ok made) (fail (refuse 6)) (λ next out. runs want s f next (made ++ out)) ≡ ok m → P m × (want ≤ length m)
-  keep-step f at made m p h (Copy n) g e = h (at + 2 + n) (take n (drop (at + 2) s)) (keeps at made _ _ p g) e
-  keep-step f at made m p h (Repeat n) g e = h (at + 3) (replicate n (getD s (at + 2) 0)) (keeps at made _ _ p g) e
-  keep-step f at made m p h End g e = let z : made ≡ m = cc in rw (← z) (p, g .1)
+      → (t : Step) → Holds (Bytes s) (length s) at (want - length made) t → onStep s at t (ok made) (fail (refuse 6)) (λ next out. runs want s f next (made ++ out)) ≡ ok m
+      → P m × (want ≤ length m)
+  keep-step f at made m p h (Copy n) g e =
+      h (at + 2 + n) (take n (drop (at + 2) s)) (keeps made (take n (drop (at + 2) s)) p (rw (length-copied s (at + 2) n (g .1)) (g .2)) (bytes-part s (at + 2) n)) e
+  keep-step f at made m p h (Repeat n) g e =
+      let b = getD s (at + 2) 0 in
+      h (at + 3) (replicate n b) (keeps made (replicate n b) p (rw (length-replicate n b) (g .2)) (λ q. bytes-repeat n b (q (at + 2)))) e
+  keep-step f at made m p h End g e = let z : made ≡ m = cc in rw (← z) (p, omega arith)
   keep-step f at made m p h Wrong g e = absurd (let z : _≡_ {A = ℕ} 0 1 = cc in omega arith)
 
   pub runs-keep : (f at : ℕ) (made m : List ℕ) → P made → runs want s f at made ≡ ok m → P m × (want ≤ length m)
   unfolding runs
   runs-keep zero at made m p e = absurd (let z : _≡_ {A = ℕ} 0 1 = cc in omega arith)
   runs-keep (suc f) at made m p e =
-      keep-step f at made m p (λ next out. runs-keep f next (made ++ out) m) (stepAt s at (want - length made)) (step-means s b want at made) e
+      keep-step f at made m p (λ next out. runs-keep f next (made ++ out) m) (stepAt s at (want - length made)) (step-holds s at (want - length made)) e
 
 -- "after exactly the mask length": an accepted section gives it
-pub runs-length : (s : List ℕ) → Bytes s → (want : ℕ) (m : List ℕ) → maskRuns want s ≡ ok m → length m ≡ want
-runs-length s b want m e =
-    let k = runs-keep s b want (λ made. length made ≤ want) (λ at made next out p g. rw (length-append) (let q = g .few in omega arith)) (length s) 0 [] m (omega arith) e in
+pub runs-length : (s : List ℕ) (want : ℕ) (m : List ℕ) → maskRuns want s ≡ ok m → length m ≡ want
+runs-length s want m e =
+    let k = runs-keep s want (λ made. length made ≤ want) (λ made out p l _. rw (length-append) (omega arith)) (length s) 0 [] m (omega arith) e in
     omega arith
 
 pub runs-bytes : (s : List ℕ) → Bytes s → (want : ℕ) (m : List ℕ) → maskRuns want s ≡ ok m → Bytes m
-runs-bytes s b want m e = runs-keep s b want Bytes (λ at made next out p g. bytes-append made out p (g .bytes)) (length s) 0 [] m (λ i. omega arith) e .0
+runs-bytes s b want m e = runs-keep s want Bytes (λ made out p _ q. bytes-append made out p (q b)) (length s) 0 [] m (λ i. omega arith) e .0
 
 -- "Any breach is 6."
 six-step : (want : ℕ) (s : List ℕ) (f at : ℕ) (made : List ℕ) (r : Refusal) → ((next : ℕ) (out : List ℕ) → runs want s f next (made ++ out) ≡ fail r → r ≡ refuse 6)
@@ -112,8 +116,8 @@ coded-is s pixels valid m e =
     let c = eqb-true (validBelow pixels (p .0)) valid (require-is (eqb (validBelow pixels (p .0)) valid) 6 (q .1)) in
     record { runs = rw (z) at (p .1); counts = rw (z) at c }
 
-pub coded-length : (s : List ℕ) (pixels valid : ℕ) (m : List ℕ) → Bytes s → coded s pixels valid ≡ ok m → length m ≡ maskBytes pixels
-coded-length s pixels valid m b e = runs-length s b (maskBytes pixels) m (coded-is s pixels valid m e .runs)
+pub coded-length : (s : List ℕ) (pixels valid : ℕ) (m : List ℕ) → coded s pixels valid ≡ ok m → length m ≡ maskBytes pixels
+coded-length s pixels valid m e = runs-length s (maskBytes pixels) m (coded-is s pixels valid m e .runs)
 
 pub coded-bytes : (s : List ℕ) (pixels valid : ℕ) (m : List ℕ) → Bytes s → coded s pixels valid ≡ ok m → Bytes m
 coded-bytes s pixels valid m b e = runs-bytes s b (maskBytes pixels) m (coded-is s pixels valid m e .runs)

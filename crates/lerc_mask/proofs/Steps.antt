@@ -15,7 +15,7 @@ use lib.Count.{ones}
 use Rattle.lerc_words.specs.Res.{little}
 use Rattle.lerc_words.proofs.Laws.{Bytes, Stands, little-lt, cond-elim, and-is}
 use Rattle.lerc_mask.specs.declared.Step.{Step}
-use Rattle.lerc_mask.specs.declared.Step.the-variants.{Wrong}
+use Rattle.lerc_mask.specs.declared.Step.the-variants.{Copy, Repeat, End, Wrong}
 use Rattle.lerc_mask.specs.Mask.{copyAt, repeatAt, endAt, signedAt, stepAt}
 use Rattle.lerc_mask.specs.Passes.{onesAll, Fits}
 use Rattle.lerc_mask.proofs.Tally.{all-repeat}
@@ -43,36 +43,52 @@ module _ (s : List ℕ) (at left n : ℕ) (h : Stands 2 s at n) where
 
 -- ---- what follows of the section and of what is left
 
-module _ (len at left : ℕ) where
-  fits-copy : (n : ℕ) → Fits len at left (copyAt len (at + 2) left n)
+-- as Fits; that a repeated byte comes at least once is due to bytes being bytes
+abbrev pub Holds : Type 0 → ℕ → ℕ → ℕ → Step → Type 0
+Holds B len at left (Copy n) = (1 ≤ n) × (at + 2 + n ≤ len) × (n ≤ left)
+Holds B len at left (Repeat n) = (B → 1 ≤ n) × (at + 3 ≤ len) × (n ≤ left)
+Holds B len at left End = (at + 2 ≡ len) × (left ≡ 0)
+Holds B len at left Wrong = Unit
+
+module _ (B : Type 0) (len at left : ℕ) where
+  holds-copy : (n : ℕ) → Holds B len at left (copyAt len (at + 2) left n)
   unfolding copyAt
-  fits-copy n = cond-elim (Fits len at left) (ltb 0 n && leb (at + 2 + n) len && leb n left) (λ e.
-      let f = and-is (ltb 0 n && leb (at + 2 + n) len) (leb n left) e in
-      let g = and-is (ltb 0 n) (leb (at + 2 + n) len) (f .0) in
-      (ltb-true _ _ (g .0), leb-true _ _ (g .1), leb-true _ _ (f .1))) (λ _. tt)
+  holds-copy n = cond-elim (Holds B len at left) (ltb 0 n && leb (at + 2 + n) len && leb n left) (λ e.
+      let (e, f) = and-is (ltb 0 n && leb (at + 2 + n) len) (leb n left) e in
+      let (e, g) = and-is (ltb 0 n) (leb (at + 2 + n) len) e in
+      (ltb-true _ _ e, leb-true _ _ g, leb-true _ _ f)) (λ _. tt)
 
-  fits-repeat : (n : ℕ) → 1 ≤ n → Fits len at left (repeatAt len (at + 2) left n)
+  holds-repeat : (n : ℕ) → (B → 1 ≤ n) → Holds B len at left (repeatAt len (at + 2) left n)
   unfolding repeatAt
-  fits-repeat n h = cond-elim (Fits len at left) (ltb (at + 2) len && leb n left) (λ e.
-      let f = and-is (ltb (at + 2) len) (leb n left) e in
-      let g = ltb-true (at + 2) len (f .0) in
-      (h, omega arith, leb-true _ _ (f .1))) (λ _. tt)
+  holds-repeat n h = cond-elim (Holds B len at left) (ltb (at + 2) len && leb n left) (λ e.
+      let (e, f) = and-is (ltb (at + 2) len) (leb n left) e in
+      let g = ltb-true (at + 2) len e in
+      (h, omega arith, leb-true _ _ f)) (λ _. tt)
 
-  fits-end : Fits len at left (endAt len (at + 2) left)
+  holds-end : Holds B len at left (endAt len (at + 2) left)
   unfolding endAt
-  fits-end = cond-elim (Fits len at left) (eqb (at + 2) len && eqb left 0) (λ e.
-      let f = and-is (eqb (at + 2) len) (eqb left 0) e in
-      (eqb-true _ _ (f .0), eqb-true _ _ (f .1))) (λ _. tt)
+  holds-end = cond-elim (Holds B len at left) (eqb (at + 2) len && eqb left 0) (λ e.
+      let (e, f) = and-is (eqb (at + 2) len) (eqb left 0) e in
+      (eqb-true _ _ e, eqb-true _ _ f)) (λ _. tt)
 
-pub step-fits : (s : List ℕ) (at left : ℕ) → Bytes s → Fits (length s) at left (stepAt s at left)
+  holds-fits : (t : Step) → B → Holds B len at left t → Fits len at left t
+  holds-fits (Copy n) b h = h
+  holds-fits (Repeat n) b h = (h .0 b, h .1, h .2)
+  holds-fits End b h = h
+  holds-fits Wrong b h = h
+
+pub step-holds : (s : List ℕ) (at left : ℕ) → Holds (Bytes s) (length s) at left (stepAt s at left)
 unfolding stepAt signedAt
-step-fits s at left b =
+step-holds s at left =
     let len = length s in
     let n = little 2 s at in
-    let P = Fits len at left in
-    let h : n < 65536 = little-lt 2 s at b in
-    let k : 1 ≤ 65536 - n = omega arith in
-    cond-elim P (leb (at + 2) len) (λ _. cond-elim P (eqb n 32768) (λ _. fits-end len at left) (λ _. cond-elim P (ltb n 32768) (λ _. fits-copy len at left n) (λ _. fits-repeat len at left (65536 - n) k))) (λ _. tt)
+    let P = Holds (Bytes s) len at left in
+    let some : Bytes s → 1 ≤ 65536 - n = λ b. omega (arith, little-lt 2 s at b) in
+    cond-elim P (leb (at + 2) len) (λ _. cond-elim P (eqb n 32768) (λ _. holds-end (Bytes s) len at left)
+    (λ _. cond-elim P (ltb n 32768) (λ _. holds-copy (Bytes s) len at left n) (λ _. holds-repeat (Bytes s) len at left (65536 - n) some))) (λ _. tt)
+
+pub step-fits : (s : List ℕ) (at left : ℕ) → Bytes s → Fits (length s) at left (stepAt s at left)
+step-fits s at left b = holds-fits (Bytes s) (length s) at left (stepAt s at left) b (step-holds s at left)
 
 pub step-told : (s : List ℕ) (at left : ℕ) {r : Step} → Bytes s → r ≡ stepAt s at left → (r ≡ stepAt s at left) × Fits (length s) at left r
 step-told s at left b e = (e, rw (e) (step-fits s at left b))

@@ -2,7 +2,7 @@
 -- Assumes nothing.
 use mathlib.Core.Path.{_≡_, refl, sym, ap, _∙_, subst}
 use mathlib.Core.Bool.{Bool, true, false, cond}
-use Prim.Native.Nat.{ℕ, zero, suc, _+_, _-_, _*_, _/_, _%_, _^_, _≤_, _<_, min, compare}
+use Prim.Native.Nat.{ℕ, suc, _+_, _-_, _*_, _/_, _%_, _^_, _≤_, _<_, min, compare}
 use native.Mathlib.Nat.{le-trans, le-of-eq, lt-of-lt-of-le, mul-assoc, mul-le-mul-right, le-div-iff-mul-le, div-eq-of-lt, mod-eq-of-lt}
 use native.Mathlib.Omega.{arith}
 use borrow.Author.Tests.{eq-eqb, ne-eqb}
@@ -11,20 +11,17 @@ use lib.Pow.{pow-add, pow-pos, pow-mono, shl-lt, shr-lt}
 use lib.Ieee.{size}
 use lib.Ieee.Fits.{nearest-le}
 use lib.Ieee.Digits.{size-le}
-use lib.Ieee.Nearest.{closest, closest-same}
+use lib.Ieee.Nearest.{closest}
 use Rattle.lerc_numeric.specs.Numeric.{bits64, bits32, code, sig, exp, field, mag}
-use Rattle.lerc_numeric.specs.Kinds.{field32, mag32, widened, narrowed}
+use Rattle.lerc_numeric.specs.Kinds.{field32, widened, narrowed}
 use Rattle.lerc_numeric.specs.Inside.{unsigned32}
-use Rattle.lerc_numeric.proofs.Closest.{near-down}
+use Rattle.lerc_numeric.proofs.Closest.{near-down, closest-moved}
 use Rattle.lerc_numeric.proofs.Digits.{size-exact}
+use Rattle.lerc_numeric.proofs.Format.{code-at}
 use Rattle.lerc_numeric.proofs.Bits.{kept-le, kept-ge}
-use Rattle.lerc_numeric.proofs.Sum.{sig-lt, bits-le, sign-is}
+use Rattle.lerc_numeric.proofs.Magnitude.{sig-lt, bits-le, sign-is}
 
--- ---- the bits of m * 2 ^ e, by the number k of digits dropped
-bits32-at : (n k : ℕ) → size (n / 2 ^ 925) - 24 ≡ k → bits32 n ≡ min (255 * 2 ^ 23) (k * 2 ^ 23 + closest n (2 ^ 925 * 2 ^ k))
-unfolding code
-bits32-at n k e = ap (λ (y : ℕ). min (255 * 2 ^ 23) (y * 2 ^ 23 + closest n (2 ^ 925 * 2 ^ y))) e
-
+-- ---- the bits of m * 2 ^ e
 -- from the smallest normal binary32 on, with 53 digits
 module _ (m e : ℕ) (lo : 2 ^ 52 ≤ m) (hi : m < 2 ^ 53) (h : 896 ≤ e) where
   drops : size (m * 2 ^ e / 2 ^ 925) - 24 ≡ e - 896
@@ -35,32 +32,26 @@ module _ (m e : ℕ) (lo : 2 ^ 52 ≤ m) (hi : m < 2 ^ 53) (h : 896 ≤ e) where
       let b : m * 2 ^ e / 2 ^ 925 < 2 ^ suc (e - 873) = shr-lt (suc (e - 873)) 925 (lt-of-lt-of-le (shl-lt 53 e hi) (pow-mono (omega arith))) in
       omega (arith, size-exact (m * 2 ^ e / 2 ^ 925) (e - 873) a b)
 
-  keeps : closest (m * 2 ^ e) (2 ^ 925 * 2 ^ (e - 896)) ≡ closest m (2 ^ 29)
-  keeps =
-      closest-same (m * 2 ^ e) (2 ^ 925 * 2 ^ (e - 896)) m (2 ^ 29) (lt-of-lt-of-le (pow-pos (925 + (e - 896))) (le-of-eq (pow-add 2 925 (e - 896)))) (pow-pos 29)
-      (mul-assoc m (2 ^ e) (2 ^ 29) ∙ ap (λ (y : ℕ). m * y) (sym (pow-add 2 e 29) ∙ ap (λ (y : ℕ). 2 ^ y) (omega arith) ∙ pow-add 2 925 (e - 896)))
-
   normal : bits32 (m * 2 ^ e) ≡ min (255 * 2 ^ 23) ((e - 896) * 2 ^ 23 + closest m (2 ^ 29))
-  normal = bits32-at (m * 2 ^ e) (e - 896) drops ∙ ap (λ (y : ℕ). min (255 * 2 ^ 23) ((e - 896) * 2 ^ 23 + y)) keeps
+  normal =
+      let z : 925 + (e - 896) - e ≡ 29 = omega arith in
+      code-at 23 (255 * 2 ^ 23) (m * 2 ^ e) 925 (e - 896) drops ∙ rw (closest-moved m e (925 + (e - 896)) (omega arith), z)
 
   s53 : size m ≡ 53
   s53 = size-exact m 52 lo hi
 
   kept-24 : closest m (2 ^ 29) ≤ 2 ^ 24
-  kept-24 = subst (λ (y : ℕ). closest m (2 ^ (y - 24)) ≤ 2 ^ 24) s53 (kept-le 24 m)
+  kept-24 = subst (λ (y : ℕ). closest m (2 ^ (y - 24)) ≤ 2 ^ 24) s53 (kept-le 23 m)
 
   kept-23 : 2 ^ 23 ≤ closest m (2 ^ 29)
-  kept-23 = subst (λ (y : ℕ). 2 ^ 23 ≤ closest m (2 ^ (y - 24))) s53 (kept-ge 24 m (omega (arith, s53)) (lit< tt))
+  kept-23 = subst (λ (y : ℕ). 2 ^ 23 ≤ closest m (2 ^ (y - 24))) s53 (kept-ge 23 m (omega (arith, s53)))
 
 -- below it
 module _ (m e : ℕ) (hi : m < 2 ^ 53) (h : e < 896) where
   small : bits32 (m * 2 ^ e) ≡ min (255 * 2 ^ 23) (0 * 2 ^ 23 + closest m (2 ^ (925 - e)))
   small =
-      let z : e + (925 - e) ≡ 925 = omega arith in
-      bits32-at (m * 2 ^ e) 0 (omega (arith, size-le (m * 2 ^ e / 2 ^ 925) 24 (shr-lt 24 925 (lt-of-lt-of-le (shl-lt 53 e hi) (pow-mono {j = 949} (omega arith))))))
-      ∙ ap (λ (y : ℕ). min (255 * 2 ^ 23) (0 * 2 ^ 23 + y))
-      (closest-same (m * 2 ^ e) (2 ^ 925 * 2 ^ 0) m (2 ^ (925 - e)) (lit< tt) (pow-pos (925 - e))
-      (mul-assoc m (2 ^ e) (2 ^ (925 - e)) ∙ ap (λ (y : ℕ). m * y) (sym (pow-add 2 e (925 - e)) ∙ ap (λ (y : ℕ). 2 ^ y) z)))
+      let l : m * 2 ^ e / 2 ^ 925 < 2 ^ 24 = shr-lt 24 925 (lt-of-lt-of-le (shl-lt 53 e hi) (pow-mono {j = 949} (omega arith))) in
+      code-at 23 (255 * 2 ^ 23) (m * 2 ^ e) 925 0 (omega (arith, size-le (m * 2 ^ e / 2 ^ 925) 24 l)) ∙ rw (closest-moved m e 925 (omega arith))
 
   -- m / 2 ^ (925 - e) is below 2 ^ 23
   small-kept : closest m (2 ^ (925 - e)) ≤ 2 ^ 23
@@ -77,7 +68,7 @@ module _ (m e : ℕ) (hi : m < 2 ^ 53) (h : e < 896) where
       let big : 2 ^ 64 ≤ u = pow-mono {i = 64} (omega arith) in
       let l : m < u = lt-of-lt-of-le hi (le-trans (lit≤ tt) big) in
       let z : m * 2 < u = omega arith in
-      small-fin ∙ near-down m u (rw (mod-eq-of-lt l) z) ∙ div-eq-of-lt l
+      small-fin ∙ sym (near-down m u m u (sym (mod-eq-of-lt l)) refl z) ∙ div-eq-of-lt l
 
 -- ---- what `unsigned` does in each case
 pub narrow-top : (w : ℕ) → field w ≡ 2047 → 255 * 2 ^ 23 + w % 2 ^ 52 / 2 ^ 29 ≡ unsigned32 w
@@ -123,6 +114,9 @@ unsigned-lt w = go (eqb (field w) 2047)
 pub narrow-is : (w : ℕ) → w < 2 ^ 64 → w / 2 ^ 63 * 2 ^ 31 + unsigned32 w ≡ narrowed w
 unfolding narrowed unsigned32
 narrow-is w h = rw (sign-is (2 ^ 63) (2 ^ 31) w (lit< tt) h)
+
+pub narrowed-lt : (w : ℕ) → w < 2 ^ 64 → narrowed w < 2 ^ 32
+narrowed-lt w h = omega (arith, narrow-is w h, unsigned-lt w)
 
 -- ---- what `widen` does
 module _ (v : ℕ) (lv : v < 2 ^ 32) where

@@ -1,127 +1,99 @@
--- The bits of a magnitude m * 2 ^ e, by how many digits m has.
-use mathlib.Core.Path.{_≡_, refl, sym, ap, _∙_, subst}
-use mathlib.Core.Logic.{inl, inr}
-use Prim.Native.Nat.{ℕ, zero, suc, _+_, _-_, _*_, _/_, _%_, _^_, _≤_, _<_, min, compare}
-use native.Mathlib.Nat.{le-refl, le-trans, le-of-eq, le-antisymm, lt-of-lt-of-le, lt-of-le-of-lt, mul-assoc, mul-comm, mul-left-comm, mul-right-comm, mul-le-mul-right, mul-one, one-mul, zero-mul, div-one, add-zero, le-div-iff-mul-le, div-div-eq-div-mul, zero-lt-suc, mod-eq-of-lt}
+-- The bits of a magnitude m * 2 ^ e as a binary64, by how many digits m has: the laws behind `pack`.
+-- Assumes nothing.
+use mathlib.Core.Path.{_≡_, ap, _∙_}
+use Prim.Native.Nat.{ℕ, suc, _+_, _-_, _*_, _/_, _%_, _^_, _≤_, _<_, min}
+use native.Mathlib.Nat.{le-trans, le-of-eq, lt-of-lt-of-le, mul-assoc, mul-le-mul-right, one-mul, zero-mul, zero-add, sub-zero, div-one, mod-eq-of-lt}
 use native.Mathlib.Omega.{arith}
 use lib.Dec.{lit≤, lit<}
-use lib.Pow.{pow-add, pow-pos, pow-mono, shl-lt}
-use lib.Ieee.{size, nearest}
+use lib.Pow.{pow-add, pow-mono, shl-lt}
+use lib.Ieee.{size}
 use lib.Ieee.Digits.{size-lt, size-le, size-reaches}
-use lib.Ieee.Fits.{kept-lt, nearest-le}
-use lib.Ieee.Nearest.{closest, closest-same, nearest-ge}
+use lib.Ieee.Nearest.{closest}
 use Rattle.lerc_numeric.specs.Numeric.{bits64, code}
-use Rattle.lerc_numeric.proofs.Closest.{closest-down}
-use Rattle.lerc_numeric.proofs.Digits.{size-shift, size-zero, size-ge}
+use Rattle.lerc_numeric.proofs.Closest.{closest-moved, closest-multiple}
+use Rattle.lerc_numeric.proofs.Format as format
+use Rattle.lerc_numeric.proofs.Format.{keptOf, code-at}
+use Rattle.lerc_numeric.proofs.Digits.{size-shift, size-ge}
 
-pub closest-exact : (q b : ℕ) → 0 < b → closest (q * b) b ≡ q
-closest-exact q b h = ap (λ (x : ℕ). closest x b) (sym (add-zero (q * b))) ∙ closest-down q 0 b h
+-- ---- what is kept of n, in units of 1
+own-unit : (d n : ℕ) → keptOf d n 1 ≡ closest n (2 ^ (size n - suc d))
+own-unit d n = rw (div-one, one-mul)
 
-pub closest-shift : (m d e : ℕ) → closest (m * 2 ^ e) (2 ^ (d + e)) ≡ closest m (2 ^ d)
-closest-shift m d e = closest-same (m * 2 ^ e) (2 ^ (d + e)) m (2 ^ d) (pow-pos (d + e)) (pow-pos d) (simp (pow-add, mul-assoc, mul-comm, mul-left-comm))
+pub kept-le : (d n : ℕ) → closest n (2 ^ (size n - suc d)) ≤ 2 ^ suc d
+kept-le d n = rw (← own-unit d n) (format.kept-le d n 1)
 
--- ---- what is kept has p digits, or is the next power of two; where digits are dropped, the leading one is kept
-pub kept-le : (p n : ℕ) → closest n (2 ^ (size n - p)) ≤ 2 ^ p
-kept-le p n = let u = 2 ^ (size n - p) in le-trans (nearest-le (n / u) (compare (n % u * 2) u)) (kept-lt p n)
+pub kept-ge : (d n : ℕ) → suc d < size n → 2 ^ d ≤ closest n (2 ^ (size n - suc d))
+kept-ge d n h =
+    let k : 0 < size (n / 1) - suc d = rw (div-one) (omega arith) in
+    rw (← own-unit d n) (format.kept-ge d n 1 k)
 
-pub kept-ge : (p n : ℕ) → p < size n → 0 < p → 2 ^ (p - 1) ≤ closest n (2 ^ (size n - p))
-kept-ge p n h P =
-    let k = size n - p in
-    let u = 2 ^ k in
-    let a : 2 ^ (p - 1) * u ≤ n = le-trans (le-of-eq (sym (pow-add 2 (p - 1) k))) (size-reaches n (p - 1 + k) (omega arith)) in
-    le-trans (le-div-iff-mul-le (pow-pos k) .1 a) (nearest-ge (n / u) (compare (n % u * 2) u))
-
--- ---- binary64
 abbrev pub kept : ℕ → ℕ
 kept n = closest n (2 ^ (size n - 53))
 
-pub bits-is : (n : ℕ) → bits64 n ≡ min (2047 * 2 ^ 52) ((size n - 53) * 2 ^ 52 + kept n)
-unfolding code
-bits-is n =
-    ap (λ (x : ℕ). min (2047 * 2 ^ 52) ((size x - 53) * 2 ^ 52 + closest n (1 * 2 ^ (size x - 53)))) (div-one n)
-    ∙ ap (λ (x : ℕ). min (2047 * 2 ^ 52) ((size n - 53) * 2 ^ 52 + closest n x)) (one-mul (2 ^ (size n - 53)))
-
--- by the drop k
+-- ---- the bits, by the number k of digits dropped
 at : (n k : ℕ) → size n - 53 ≡ k → bits64 n ≡ min (2047 * 2 ^ 52) (k * 2 ^ 52 + closest n (2 ^ k))
-at n k e = bits-is n ∙ ap (λ (x : ℕ). min (2047 * 2 ^ 52) (x * 2 ^ 52 + closest n (2 ^ x))) e
+at n k e = code-at 52 (2047 * 2 ^ 52) n 0 k (rw (div-one) e) ∙ rw (zero-add)
 
 pub bits-cut : (m e : ℕ) → 53 < size m → bits64 (m * 2 ^ e) ≡ min (2047 * 2 ^ 52) ((size m - 53 + e) * 2 ^ 52 + kept m)
 bits-cut m e h =
-    at (m * 2 ^ e) (size m - 53 + e) (omega (arith, size-shift m e pos))
-    ∙ ap (λ (x : ℕ). min (2047 * 2 ^ 52) ((size m - 53 + e) * 2 ^ 52 + x)) (closest-shift m (size m - 53) e)
-  where
-    pos : 0 < m
-    pos = lt-of-lt-of-le (lit< tt) (size-reaches m 53 h)
-
-low : (x : ℕ) → x < 2 ^ 53 → min (2047 * 2 ^ 52) (0 * 2 ^ 52 + x) ≡ x
-low x h = omega arith
-
-pub bits-low : (m e : ℕ) → e ≤ 53 - size m → size m ≤ 53 → bits64 (m * 2 ^ e) ≡ m * 2 ^ e
-bits-low m e h s =
-    let l : m * 2 ^ e < 2 ^ 53 = lt-of-lt-of-le (shl-lt (size m) e (size-lt m)) (pow-mono {j = 53} (omega arith)) in
-    at (m * 2 ^ e) 0 (omega (arith, size-le (m * 2 ^ e) 53 l))
-    ∙ ap (λ (x : ℕ). min (2047 * 2 ^ 52) (0 * 2 ^ 52 + x)) (ap (λ (x : ℕ). closest x 1) (sym (mul-one (m * 2 ^ e))) ∙ closest-exact (m * 2 ^ e) 1 (lit< tt))
-    ∙ low (m * 2 ^ e) l
-
-pub bits-up : (m e : ℕ) → 53 - size m < e → size m ≤ 53 → 0 < m
-    → bits64 (m * 2 ^ e) ≡ min (2047 * 2 ^ 52) ((e - (53 - size m)) * 2 ^ 52 + m * 2 ^ (53 - size m))
-bits-up m e h s p =
-    let r = 53 - size m in
-    let k = e - r in
-    let c : m * 2 ^ e ≡ m * 2 ^ r * 2 ^ k = ap (λ (x : ℕ). m * 2 ^ x) (omega arith) ∙ ap (λ (x : ℕ). m * x) (pow-add 2 r k) ∙ sym (mul-assoc m (2 ^ r) (2 ^ k)) in
-    at (m * 2 ^ e) k (omega (arith, size-shift m e p))
-    ∙ ap (λ (x : ℕ). min (2047 * 2 ^ 52) (k * 2 ^ 52 + x)) (ap (λ (x : ℕ). closest x (2 ^ k)) c ∙ closest-exact (m * 2 ^ r) (2 ^ k) (pow-pos k))
+    let pos : 0 < m = lt-of-lt-of-le (lit< tt) (size-reaches m 53 h) in
+    let z : size m - 53 + e - e ≡ size m - 53 = omega arith in
+    at (m * 2 ^ e) (size m - 53 + e) (omega (arith, size-shift m e pos)) ∙ rw (closest-moved m e (size m - 53 + e) (omega arith), z)
 
 -- ---- what `pack` does in each case, with s for the number of digits
 pub pack-zero : (m e : ℕ) → m ≡ 0 → 0 ≡ bits64 (m * 2 ^ e)
 unfolding code size
-pack-zero m e h = sym (ap (λ (x : ℕ). bits64 x) (ap (λ (x : ℕ). x * 2 ^ e) h ∙ zero-mul (2 ^ e)))
+pack-zero m e h = rw (h, zero-mul)
 
-pub digits-le : (m s : ℕ) → s ≡ size m → m < 2 ^ 64 → s ≤ 64
-digits-le m s e h = omega (arith, size-le m 64 h)
+module _ (m e s : ℕ) (z : s ≡ size m) where
+  pub digits-le : m < 2 ^ 64 → s ≤ 64
+  digits-le h = omega (arith, size-le m 64 h)
 
--- what was kept, and its bounds
-kept-at : (m s r : ℕ) → s ≡ size m → r ≡ closest m (2 ^ (s - 53)) → r ≡ kept m
-kept-at m s r e h = h ∙ ap (λ (x : ℕ). closest m (2 ^ (x - 53))) e
+  -- more than 53: r is kept
+  module _ (r : ℕ) (h : r ≡ closest m (2 ^ (s - 53))) where
+    pub pack-fits : r ≤ 2 ^ 53
+    pack-fits = rw (h, z) (kept-le 52 m)
 
-pub pack-fits : (m s r : ℕ) → s ≡ size m → r ≡ closest m (2 ^ (s - 53)) → r ≤ 2 ^ 53
-pack-fits m s r e h = le-trans (le-of-eq (kept-at m s r e h)) (kept-le 53 m)
+    pub pack-cut : 53 < s → s - 53 + e < 2046 → (s - 53 + e) * 2 ^ 52 + r ≡ bits64 (m * 2 ^ e)
+    pack-cut l k =
+        let q : r ≡ kept m = rw (h, z) in
+        omega (arith, kept-le 52 m, bits-cut m e (omega arith))
 
-pub pack-cut : (m e s r : ℕ) → s ≡ size m → r ≡ closest m (2 ^ (s - 53)) → 53 < s → s - 53 + e < 2046 → (s - 53 + e) * 2 ^ 52 + r ≡ bits64 (m * 2 ^ e)
-pack-cut m e s r z h l k = omega (arith, kept-at m s r z h, kept-le 53 m, bits-cut m e (omega arith))
+  pub pack-cut-inf : 53 < s → 2046 ≤ s - 53 + e → 2047 * 2 ^ 52 ≡ bits64 (m * 2 ^ e)
+  pack-cut-inf l k = omega (arith, kept-ge 52 m (omega arith), bits-cut m e (omega arith))
 
-pub pack-cut-inf : (m e s : ℕ) → s ≡ size m → 53 < s → 2046 ≤ s - 53 + e → 2047 * 2 ^ 52 ≡ bits64 (m * 2 ^ e)
-pack-cut-inf m e s z l k = omega (arith, kept-ge 53 m (omega arith) (lit< tt), bits-cut m e (omega arith))
+  -- no more: a left shift that loses nothing
+  room : (j : ℕ) → s + j ≤ 53 → m * 2 ^ j < 2 ^ 53
+  room j h = lt-of-lt-of-le (shl-lt (size m) j (size-lt m)) (pow-mono {j = 53} (omega arith))
 
--- a left shift that loses nothing
-fill-lt : (m e s : ℕ) → s ≡ size m → s + e ≤ 53 → m * 2 ^ e < 2 ^ 53
-fill-lt m e s z h = lt-of-lt-of-le (shl-lt (size m) e (size-lt m)) (pow-mono {j = 53} (omega arith))
+  fill : (j : ℕ) → s + j ≤ 53 → m * 2 ^ j % 2 ^ 64 ≡ m * 2 ^ j
+  fill j h = mod-eq-of-lt (lt-of-lt-of-le (room j h) (lit≤ tt))
 
-pub fill : (m e s : ℕ) → s ≡ size m → s + e ≤ 53 → m * 2 ^ e % 2 ^ 64 ≡ m * 2 ^ e
-fill m e s z h = mod-eq-of-lt (lt-of-lt-of-le (fill-lt m e s z h) (lit≤ tt))
+  pub fill-lt : (j : ℕ) → s + j ≤ 53 → m * 2 ^ j % 2 ^ 64 < 2 ^ 53
+  fill-lt j h = rw (fill j h) (room j h)
 
-pub fill-le : (m e s : ℕ) → s ≡ size m → s + e ≤ 53 → m * 2 ^ e % 2 ^ 64 < 2 ^ 53
-fill-le m e s z h = omega (arith, fill m e s z h, fill-lt m e s z h)
+  pub pack-low : s ≤ 53 → e ≤ 53 - s → m * 2 ^ e % 2 ^ 64 ≡ bits64 (m * 2 ^ e)
+  pack-low l h =
+      let k : s + e ≤ 53 = omega arith in
+      let q : closest (m * 2 ^ e) (2 ^ 0) ≡ m * 2 ^ e = rw (closest-multiple m e 0 (omega arith), sub-zero) in
+      omega (arith, fill e k, room e k, at (m * 2 ^ e) 0 (omega (arith, size-le (m * 2 ^ e) 53 (room e k))))
 
-pub pack-low : (m e s : ℕ) → s ≡ size m → s ≤ 53 → e ≤ 53 - s → m * 2 ^ e % 2 ^ 64 ≡ bits64 (m * 2 ^ e)
-pack-low m e s z l h = fill m e s z (omega arith) ∙ sym (bits-low m e (omega arith) (omega arith))
+  module _ (l : s ≤ 53) (h : 53 - s < e) (p : 0 < m) where
+    up : bits64 (m * 2 ^ e) ≡ min (2047 * 2 ^ 52) ((e - (53 - s)) * 2 ^ 52 + m * 2 ^ (53 - s))
+    up =
+        let k = e - (53 - s) in
+        let y : e - k ≡ 53 - s = omega arith in
+        at (m * 2 ^ e) k (omega (arith, size-shift m e p)) ∙ rw (closest-multiple m e k (omega arith), y)
 
-up : (m e s : ℕ) → s ≡ size m → s ≤ 53 → 53 - s < e → 0 < m → bits64 (m * 2 ^ e) ≡ min (2047 * 2 ^ 52) ((e - (53 - s)) * 2 ^ 52 + m * 2 ^ (53 - s))
-up m e s z l h p = bits-up m e (omega arith) (omega arith) p ∙ ap (λ (x : ℕ). min (2047 * 2 ^ 52) ((e - (53 - x)) * 2 ^ 52 + m * 2 ^ (53 - x))) (sym z)
+    pub pack-up : e - (53 - s) < 2046 → (e - (53 - s)) * 2 ^ 52 + m * 2 ^ (53 - s) % 2 ^ 64 ≡ bits64 (m * 2 ^ e)
+    pack-up k = omega (arith, fill (53 - s) (omega arith), room (53 - s) (omega arith), up)
 
-pub pack-up : (m e s : ℕ) → s ≡ size m → s ≤ 53 → 53 - s < e → 0 < m → e - (53 - s) < 2046 → (e - (53 - s)) * 2 ^ 52 + m * 2 ^ (53 - s) % 2 ^ 64 ≡ bits64 (m * 2 ^ e)
-pack-up m e s z l h p k = omega (arith, fill m (53 - s) s z (omega arith), fill-lt m (53 - s) s z (omega arith), up m e s z l h p)
+    -- the leading digit is at its place
+    lead : 2 ^ 53 ≤ 2 * (m * 2 ^ (53 - s))
+    lead =
+        let y : 53 ≡ size m + (53 - s) = omega arith in
+        le-trans (le-of-eq (ap (λ (x : ℕ). 2 ^ x) y ∙ pow-add 2 (size m) (53 - s)))
+        (le-trans (mul-le-mul-right (2 ^ (53 - s)) (size-ge m p)) (le-of-eq (mul-assoc 2 m (2 ^ (53 - s)))))
 
--- the leading digit is at its place
-lead : (m s : ℕ) → s ≡ size m → s ≤ 53 → 0 < m → 2 ^ 52 ≤ m * 2 ^ (53 - s)
-lead m s z l p =
-    let a : 2 ^ 53 ≤ 2 * (m * 2 ^ (53 - s)) =
-    le-trans (le-of-eq (ap (λ (x : ℕ). 2 ^ x) whole ∙ pow-add 2 (size m) (53 - s)))
-    (le-trans (mul-le-mul-right (2 ^ (53 - s)) (size-ge m p)) (le-of-eq (mul-assoc 2 m (2 ^ (53 - s))))) in
-    omega arith
-  where
-    whole : 53 ≡ size m + (53 - s)
-    whole = omega arith
-
-pub pack-up-inf : (m e s : ℕ) → s ≡ size m → s ≤ 53 → 53 - s < e → 0 < m → 2046 ≤ e - (53 - s) → 2047 * 2 ^ 52 ≡ bits64 (m * 2 ^ e)
-pack-up-inf m e s z l h p k = omega (arith, lead m s z l p, up m e s z l h p)
+    pub pack-up-inf : 2046 ≤ e - (53 - s) → 2047 * 2 ^ 52 ≡ bits64 (m * 2 ^ e)
+    pack-up-inf k = omega (arith, lead, up)

@@ -1,18 +1,18 @@
 -- The laws behind the kinds of integers: sizes, values, ranges, and a value cut to a kind.
 -- Assumes nothing.
-use mathlib.Core.Path.{_≡_, refl, sym, ap, _∙_, subst}
-use mathlib.Core.Bool.{Bool, true, false, not, cond, _&&_}
-use Prim.Native.Nat.{ℕ, zero, suc, _+_, _-_, _*_, _/_, _%_, _^_, _≤_, _<_, min}
-use native.Mathlib.Nat.{le-trans, le-of-eq, lt-of-lt-of-le, mul-assoc, mul-comm, le-div-iff-mul-le, div-eq-of-lt, mod-eq-of-lt, mul-le-mul, zero-add}
+use mathlib.Core.Path.{_≡_, refl, sym, ap, _∙_}
+use mathlib.Core.Bool.{Bool, true, false, cond, _&&_}
+use Prim.Native.Nat.{ℕ, zero, suc, _+_, _-_, _*_, _/_, _%_, _^_, _≤_, _<_}
+use native.Mathlib.Nat.{le-trans, lt-of-lt-of-le, mul-assoc, mul-comm, le-div-iff-mul-le, div-eq-of-lt, mod-eq-of-lt, mul-le-mul, zero-add, pow-succ'}
 use native.Mathlib.Omega.{arith}
 use borrow.Author.Tests.{lt-ltb, le-ltb, le-leb, lt-leb, eq-eqb, ne-eqb}
-use lib.Dec.{leb, ltb, eqb, lit≤, lit<}
+use lib.Dec.{ltb, lit≤}
 use lib.Pow.{pow-add, pow-pos, pow-mono, shl-lt}
 use lib.Ieee.Nearest.{div-same}
-use Rattle.lerc_words.specs.Res.{Res, ok, fail, refuse}
-use Rattle.lerc_numeric.specs.Numeric.{bits64, sig, exp, field, finite, mag, negative, signed}
+use Rattle.lerc_words.specs.Res.{ok, fail, refuse}
+use Rattle.lerc_numeric.specs.Numeric.{bits64, sig, exp, field, finite, mag, negative}
 use Rattle.lerc_numeric.specs.Kinds.{typeSize, modulus, signedKind, integer, widened, valueOf, whole, bound, cut}
-use Rattle.lerc_numeric.proofs.Sum.{sig-lt, bits-le}
+use Rattle.lerc_numeric.proofs.Magnitude.{sig-lt, bits-le}
 
 -- ---- sizes, by the kind
 abbrev sized : Bool → Bool → Bool → ℕ
@@ -35,26 +35,30 @@ sizes (suc (suc (suc (suc (suc (suc zero)))))) = refl
 sizes (suc (suc (suc (suc (suc (suc (suc zero))))))) = refl
 sizes (suc (suc (suc (suc (suc (suc (suc (suc k)))))))) = sym (past (suc (suc (suc (suc (suc (suc (suc (suc k)))))))) (omega arith))
 
-pub size-le : (kind : ℕ) → typeSize kind ≤ 8
-size-le kind = rw (sizes kind) (go (ltb kind 2) (ltb kind 4) (ltb kind 7))
+size-bounds : (kind : ℕ) → (1 ≤ typeSize kind) × (typeSize kind ≤ 8)
+size-bounds kind = rw (sizes kind) (go (ltb kind 2) (ltb kind 4) (ltb kind 7))
   where
-    go : (a b c : Bool) → sized a b c ≤ 8
-    go true b c = lit≤ tt
-    go false true c = lit≤ tt
-    go false false true = lit≤ tt
-    go false false false = lit≤ tt
+    go : (a b c : Bool) → (1 ≤ sized a b c) × (sized a b c ≤ 8)
+    go true b c = (lit≤ tt, lit≤ tt)
+    go false true c = (lit≤ tt, lit≤ tt)
+    go false false true = (lit≤ tt, lit≤ tt)
+    go false false false = (lit≤ tt, lit≤ tt)
 
 pub size-ge : (kind : ℕ) → 1 ≤ typeSize kind
-size-ge kind = rw (sizes kind) (go (ltb kind 2) (ltb kind 4) (ltb kind 7))
-  where
-    go : (a b c : Bool) → 1 ≤ sized a b c
-    go true b c = lit≤ tt
-    go false true c = lit≤ tt
-    go false false true = lit≤ tt
-    go false false false = lit≤ tt
+size-ge kind = size-bounds kind .0
+
+pub size-le : (kind : ℕ) → typeSize kind ≤ 8
+size-le kind = size-bounds kind .1
 
 pub modulus-ge : (kind : ℕ) → 2 ^ 8 ≤ modulus kind
 modulus-ge kind = pow-mono {i = 8} (omega (arith, size-ge kind))
+
+pub modulus-even : (kind : ℕ) → modulus kind % 2 ≡ 0
+modulus-even kind = go (8 * typeSize kind) (omega (arith, size-ge kind))
+  where
+    go : (e : ℕ) → 0 < e → 2 ^ e % 2 ≡ 0
+    go zero h = absurd (omega arith)
+    go (suc e) h = omega (arith, pow-succ' 2 e)
 
 pub modulus-le : (kind : ℕ) → kind < 6 → modulus kind ≤ 2 ^ 32
 modulus-le kind h = let l : kind < 7 = omega arith in rw (sizes kind, lt-ltb kind 7 l) (go (ltb kind 2) (ltb kind 4))
@@ -90,11 +94,14 @@ pub value-six : (kind v r : ℕ) → kind ≡ 6 → r ≡ widened (v % 2 ^ 32) �
 unfolding valueOf
 value-six kind v r h er = rw (h, er)
 
+pub modulus-last : (kind : ℕ) → 7 ≤ kind → modulus kind ≡ 2 ^ 64
+modulus-last kind h = rw (sizes kind, past kind h)
+
 pub value-last : (kind v : ℕ) → 6 ≤ kind → (kind ≡ 6 → ⊥) → v < 2 ^ 64 → v ≡ valueOf kind v
 unfolding valueOf
 value-last kind v h k l =
     let g : 7 ≤ kind = omega arith in
-    rw (le-ltb kind 6 h, ne-eqb kind 6 k, sizes kind, past kind g) (sym (mod-eq-of-lt l))
+    rw (le-ltb kind 6 h, ne-eqb kind 6 k, modulus-last kind g) (sym (mod-eq-of-lt l))
 
 -- ---- the whole part, with m and e for the parts of w
 pub whole-zero : (w e : ℕ) → e ≡ exp w → e ≤ 1010 → 0 ≡ whole w

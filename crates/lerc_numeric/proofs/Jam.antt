@@ -1,20 +1,26 @@
--- A number that stands for one with more digits: all but its last digit are that number's, and the last is 1 where anything was cut off.
--- It rounds as that number does, as long as two digits at least are dropped.
-use mathlib.Core.Path.{_≡_, refl, sym, ap, _∙_, subst}
-use mathlib.Core.Bool.{Bool, true, false, not, cond}
+-- A number that stands for one with more digits: all but its last digit are that number's, and the last is 1 where anything
+-- was cut off. It rounds as that number does, as long as two digits at least are dropped.
+-- Assumes nothing.
+use mathlib.Core.Path.{_≡_, refl, sym, ap, _∙_}
+use mathlib.Core.Bool.{cond}
 use mathlib.Core.Logic.{_⊎_, inl, inr}
 use Prim.Native.Nat.{ℕ, zero, suc, _+_, _-_, _*_, _/_, _%_, _^_, _≤_, _<_, min}
-use native.Mathlib.Nat.{le-trans, le-of-eq, lt-of-lt-of-le, lt-of-le-of-lt, mul-assoc, mul-comm, mul-left-comm, mul-right-comm, mul-le-mul-right, add-mul, suc-mul, mul-one, one-mul, div-add-mod', mod-lt, add-assoc, pow-succ', le-of-suc-le-suc}
+use native.Mathlib.Nat.{lt-of-lt-of-le, lt-of-le-of-lt, mul-assoc, mul-le-mul-right, add-mul, suc-mul, one-mul, div-add-mod', mod-lt, add-assoc, add-zero, pow-succ', div-le-self, div-one, mod-one, div-eq-of-lt, mod-eq-of-lt}
+use native.Mathlib.Decide.{decLt}
 use native.Mathlib.Omega.{arith}
-use lib.Dec.{T, ltb, ltb→lt, nltb→le, lit≤, lit<}
-use lib.Pow.{pow-add, pow-pos, pow-mono, shl-lt}
+use borrow.Author.Tests.{lt-ltb, le-ltb}
+use lib.Arith.{digits-div}
+use lib.Dec.{ltb}
+use lib.Pow.{pow-add, pow-pos, pow-mono}
 use lib.Ieee.{size}
-use lib.Ieee.Digits.{size-lt, size-le, size-reaches}
+use lib.Ieee.Digits.{size-lt}
 use lib.Ieee.Nearest.{closest}
 use Rattle.lerc_numeric.specs.Numeric.{bits64}
+use Rattle.lerc_numeric.specs.Inside.{jam}
 use Rattle.lerc_numeric.proofs.Closest.{closest-down, closest-up}
-use Rattle.lerc_numeric.proofs.Digits.{size-exact, pow-lt-back}
+use Rattle.lerc_numeric.proofs.Digits.{size-part, pow-lt-back}
 use Rattle.lerc_numeric.proofs.Bits.{bits-cut, kept}
+use Rattle.lerc_numeric.proofs.Format.{sub-mul}
 
 -- j stands for n / 2 ^ i
 abbrev pub Jam : ℕ → ℕ → ℕ → Type 0
@@ -26,7 +32,7 @@ side z v = cond (ltb (z % (2 * v)) v) (z / (2 * v)) (suc (z / (2 * v)))
 
 sandwich : (z x t v : ℕ) → 0 < v → 0 < t → t < x → closest (z * x + t) (2 * v * x) ≡ side z v
 unfolding side
-sandwich z x t v vp p l = go (ltb (z % (2 * v)) v) (ltb→lt (z % (2 * v)) v) (nltb→le (z % (2 * v)) v)
+sandwich z x t v vp p l = rw (whole) (go (decLt b v))
   where
     a : ℕ
     a = z / (2 * v)
@@ -40,118 +46,109 @@ sandwich z x t v vp p l = go (ltb (z % (2 * v)) v) (ltb→lt (z % (2 * v)) v) (n
     whole : z * x + t ≡ a * (2 * v * x) + (b * x + t)
     whole =
         ap (λ (y : ℕ). y * x + t) (sym (div-add-mod' z (2 * v)))
-        ∙ ap (λ (y : ℕ). y + t) (add-mul (a * (2 * v)) b x ∙ ap (λ (y : ℕ). y + b * x) (mul-assoc a (2 * v) x))
-        ∙ add-assoc (a * (2 * v * x)) (b * x) t
+        ∙ rw (add-mul (a * (2 * v)) b x, mul-assoc a (2 * v) x) (add-assoc (a * (2 * v * x)) (b * x) t)
 
-    twice : 2 * v * x ≡ 2 * (v * x)
-    twice = mul-assoc 2 v x
+    go : Dec (b < v) → closest (a * (2 * v * x) + (b * x + t)) (2 * v * x) ≡ cond (ltb b v) a (suc a)
+    go (yes h) = rw (lt-ltb b v h) (closest-down a (b * x + t) (2 * v * x) (omega (arith, mul-assoc 2 v x, suc-mul b x, mul-le-mul-right x h)))
+    go (no h) =
+        let g : v ≤ b = omega arith in
+        rw (le-ltb b v g)
+        (closest-up a (b * x + t) (2 * v * x) (omega (arith, suc-mul b x, mul-le-mul-right x b-lt)) (omega (arith, mul-assoc 2 v x, mul-le-mul-right x g)))
 
-    next : suc b * x ≡ b * x + x
-    next = suc-mul b x
+-- ---- a number strictly between two multiples of 2 ^ suc i: its size, and what is kept of it, do not depend on where
+module _ (n z i : ℕ) (lo : z * 2 ^ suc i < n) (hi : n < suc z * 2 ^ suc i) where
+  split : n ≡ z * 2 ^ suc i + (n - z * 2 ^ suc i)
+  split = omega arith
 
-    go : (s : Bool) → (T s → b < v) → (T (not s) → v ≤ b) → closest (z * x + t) (2 * v * x) ≡ cond s a (suc a)
-    go true h k =
-        ap (λ (y : ℕ). closest y (2 * v * x)) whole
-        ∙ closest-down a (b * x + t) (2 * v * x) (omega (arith, twice, next, mul-le-mul-right x (h tt)))
-    go false h k =
-        ap (λ (y : ℕ). closest y (2 * v * x)) whole
-        ∙ closest-up a (b * x + t) (2 * v * x) (omega (arith, next, mul-le-mul-right x b-lt)) (omega (arith, twice, mul-le-mul-right x (k tt)))
+  rest-lt : n - z * 2 ^ suc i < 2 ^ suc i
+  rest-lt = omega (arith, suc-mul z (2 ^ suc i))
 
--- ---- the parts of a jammed number
-module _ (j i n : ℕ) (o : j % 2 ≡ 1) (lo : j * 2 ^ i < n + 2 ^ i) (hi : n < j * 2 ^ i + 2 ^ i) (big : 2 ^ 54 ≤ j) where
-  z : ℕ
-  z = j / 2
+  size-inside : 0 < z → size n ≡ size z + suc i
+  size-inside p =
+      let e : n / 2 ^ suc i ≡ z = ap (λ (y : ℕ). y / 2 ^ suc i) split ∙ digits-div z rest-lt in
+      size-part n (suc i) (rw (e) p) ∙ rw (e)
 
-  at-z : j * 2 ^ i ≡ z * (2 * 2 ^ i) + 2 ^ i
-  unfolding z
-  at-z =
-      let e : j ≡ z * 2 + 1 = omega arith in
-      ap (λ (y : ℕ). y * 2 ^ i) e ∙ add-mul (z * 2) 1 (2 ^ i) ∙ ap (λ (y : ℕ). y + 1 * 2 ^ i) (mul-assoc z 2 (2 ^ i)) ∙ ap (λ (y : ℕ). z * (2 * 2 ^ i) + y) (one-mul (2 ^ i))
+  kept-inside : (d : ℕ) → 2 ≤ d → closest n (2 ^ (d + i)) ≡ side z (2 ^ (d - 2))
+  kept-inside d h =
+      let e : d + i ≡ suc (d - 2) + suc i = omega arith in
+      rw (e, pow-add 2 (suc (d - 2)) (suc i), pow-succ' 2 (d - 2))
+      (ap (λ (y : ℕ). closest y (2 * 2 ^ (d - 2) * 2 ^ suc i)) split ∙ sandwich z (2 ^ suc i) (n - z * 2 ^ suc i) (2 ^ (d - 2)) (pow-pos (d - 2)) (omega arith) rest-lt)
 
-  t : ℕ
-  t = n - z * (2 * 2 ^ i)
-
-  n-is : n ≡ z * (2 * 2 ^ i) + t
-  unfolding t
-  n-is = omega (arith, at-z)
-
-  t-pos : 0 < t
-  unfolding t
-  t-pos = omega (arith, at-z)
-
-  t-lt : t < 2 * 2 ^ i
-  unfolding t
-  t-lt = omega (arith, at-z)
-
-  digits : 54 < size j
-  digits = pow-lt-back 54 (size j) (lt-of-le-of-lt big (size-lt j))
-
-  -- a power of two above 1 is even
-  even-pow : (k : ℕ) → 0 < k → 2 ^ k ≡ 2 * 2 ^ (k - 1)
-  even-pow k h = ap (λ (y : ℕ). 2 ^ y) suc-pred ∙ pow-succ' 2 (k - 1)
-    where
-      suc-pred : k ≡ suc (k - 1)
-      suc-pred = omega arith
-
-  -- n lies between the same powers of two as j * 2 ^ i
-  size-n : size n ≡ size j + i
-  unfolding z
-  size-n =
-      let s = size j in
-      let P : 2 ^ (s - 1) ≤ j = size-reaches j (s - 1) (omega (arith, digits)) in
-      let low : 2 ^ (s - 2) ≤ z = omega (arith, P, even-pow (s - 1) (omega (arith, digits)), pow-eq (s - 1 - 1) (s - 2) (omega arith)) in
-      let top : suc z ≤ 2 ^ (s - 1) = omega (arith, size-lt j, even-pow s (omega (arith, digits))) in
-      let lo' : 2 ^ (s - 1 + i) ≤ z * (2 * 2 ^ i) =
-      le-trans (le-of-eq (pow-eq (s - 1 + i) (s - 2 + suc i) (omega (arith, digits)) ∙ pow-add 2 (s - 2) (suc i) ∙ ap (λ (y : ℕ). 2 ^ (s - 2) * y) (pow-succ' 2 i))) (mul-le-mul-right (2 * 2 ^ i) low) in
-      let hi' : suc z * (2 * 2 ^ i) ≤ 2 ^ suc (s - 1 + i) =
-      le-trans (mul-le-mul-right (2 * 2 ^ i) top)
-      (le-of-eq (ap (λ (y : ℕ). 2 ^ (s - 1) * y) (sym (pow-succ' 2 i)) ∙ sym (pow-add 2 (s - 1) (suc i)) ∙ pow-eq (s - 1 + suc i) (suc (s - 1 + i)) (omega arith))) in
-      size-exact n (s - 1 + i) (omega (arith, n-is, lo')) (omega (arith, n-is, t-lt, hi', suc-mul (j / 2) (2 * 2 ^ i)))
-      ∙ last s digits
-    where
-      pow-eq : (a b : ℕ) → a ≡ b → 2 ^ a ≡ 2 ^ b
-      pow-eq a b e = ap (λ (y : ℕ). 2 ^ y) e
-
-      last : (s : ℕ) → 54 < s → suc (s - 1 + i) ≡ s + i
-      last s h = omega arith
-
-  -- what is kept of either is the same
-  kept-n : kept n ≡ kept j
-  unfolding z
-  kept-n =
-      let d = size j - 53 in
-      let v = 2 ^ (d - 2) in
-      let unit : (k : ℕ) → 2 ^ (d + k) ≡ 2 * v * (2 * 2 ^ k) =
-      λ k.
-      ap (λ (y : ℕ). 2 ^ y) (shape d k (omega (arith, digits)))
-      ∙ pow-add 2 (suc (d - 2)) (suc k)
-      ∙ ap (λ (y : ℕ). y * 2 ^ suc k) (pow-succ' 2 (d - 2))
-      ∙ ap (λ (y : ℕ). 2 * v * y) (pow-succ' 2 k) in
-      let own : j ≡ z * (2 * 2 ^ 0) + 1 = omega arith in
-      ap (λ (y : ℕ). closest n (2 ^ y)) (drops (size n) (size j) size-n digits)
-      ∙ ap (λ (y : ℕ). closest n y) (unit i)
-      ∙ ap (λ (y : ℕ). closest y (2 * v * (2 * 2 ^ i))) n-is
-      ∙ sandwich z (2 * 2 ^ i) t v (pow-pos (d - 2)) t-pos t-lt
-      ∙ sym (sandwich z (2 * 2 ^ 0) 1 v (pow-pos (d - 2)) (lit< tt) (lit< tt))
-      ∙ ap (λ (y : ℕ). closest y (2 * v * (2 * 2 ^ 0))) (sym own)
-      ∙ ap (λ (y : ℕ). closest j y) (sym (unit 0) ∙ ap (λ (y : ℕ). 2 ^ y) (plus-zero d))
-    where
-      shape : (d k : ℕ) → 2 ≤ d → d + k ≡ suc (d - 2) + suc k
-      shape d k h = omega arith
-
-      drops : (a s : ℕ) → a ≡ s + i → 54 < s → a - 53 ≡ s - 53 + i
-      drops a s e h = omega arith
-
-      plus-zero : (d : ℕ) → d + 0 ≡ d
-      plus-zero d = omega arith
-
-  round-odd : (e : ℕ) → bits64 (n * 2 ^ e) ≡ bits64 (j * 2 ^ (i + e))
-  round-odd e =
-      bits-cut n e (omega (arith, size-n, digits))
-      ∙ ap (λ (x : ℕ). min (2047 * 2 ^ 52) ((size n - 53 + e) * 2 ^ 52 + x)) kept-n
-      ∙ ap (λ (x : ℕ). min (2047 * 2 ^ 52) (x * 2 ^ 52 + kept j)) (omega (arith, size-n, digits))
-      ∙ sym (bits-cut j (i + e) (omega (arith, digits)))
+round-odd : (j i n e : ℕ) → j % 2 ≡ 1 → j * 2 ^ i < n + 2 ^ i → n < j * 2 ^ i + 2 ^ i → 2 ^ 54 ≤ j → bits64 (n * 2 ^ e) ≡ bits64 (j * 2 ^ (i + e))
+round-odd j i n e o lo hi big =
+    let z = j / 2 in
+    let d = size j - 53 in
+    let own : j ≡ z * 2 + 1 = omega arith in
+    let at : j * 2 ^ i ≡ z * 2 ^ suc i + 2 ^ i = rw (pow-succ' 2 i) (ap (λ (y : ℕ). y * 2 ^ i) own ∙ rw (add-mul (z * 2) 1 (2 ^ i), mul-assoc z 2 (2 ^ i), one-mul)) in
+    let ln : z * 2 ^ suc i < n = omega arith in
+    let hn : n < suc z * 2 ^ suc i = omega (arith, suc-mul z (2 ^ suc i), pow-succ' 2 i) in
+    let lj : z * 2 ^ 1 < j = omega arith in
+    let hj : j < suc z * 2 ^ 1 = omega arith in
+    let digits : 54 < size j = pow-lt-back 54 (size j) (lt-of-le-of-lt big (size-lt j)) in
+    let sj : size j ≡ size z + 1 = size-inside j z 0 lj hj (omega arith) in
+    let sn : size n ≡ size j + i = omega (arith, size-inside n z i ln hn (omega arith)) in
+    let dn : size n - 53 ≡ d + i = omega arith in
+    let k : kept n ≡ kept j = rw (dn, kept-inside n z i ln hn d (omega arith)) (sym (rw (add-zero) at (kept-inside j z 0 lj hj d (omega arith)))) in
+    omega (arith, bits-cut n e (omega arith), bits-cut j (i + e) (omega arith))
 
 pub jam-round : (j i n e : ℕ) → Jam j i n → 2 ^ 54 ≤ j → bits64 (n * 2 ^ e) ≡ bits64 (j * 2 ^ (i + e))
-jam-round j i n e (inl h) b = ap (λ (x : ℕ). bits64 x) (ap (λ (x : ℕ). x * 2 ^ e) h ∙ mul-assoc j (2 ^ i) (2 ^ e) ∙ ap (λ (x : ℕ). j * x) (sym (pow-add 2 i e)))
-jam-round j i n e (inr h) b = round-odd j i n (h .0) (h .1) (h .2) b e
+jam-round j i n e (inl h) b = rw (h, mul-assoc j (2 ^ i) (2 ^ e), ← pow-add 2 i e)
+jam-round j i n e (inr h) b = round-odd j i n e (h .0) (h .1) (h .2) b
+
+-- ---- what `jam` gives
+pub jam-is : (v n : ℕ) → Jam (jam v n) n v
+unfolding jam
+jam-is v n = go (v % 2 ^ n) refl
+  where
+    q : ℕ
+    q = v / 2 ^ n
+
+    b : ℕ
+    b = min (1 - q % 2) (v % 2 ^ n)
+
+    whole : q * 2 ^ n + v % 2 ^ n ≡ v
+    whole = div-add-mod' v (2 ^ n)
+
+    one : b * 2 ^ n ≤ 1 * 2 ^ n
+    one = mul-le-mul-right (2 ^ n) (omega arith)
+
+    go : (r : ℕ) → v % 2 ^ n ≡ r → Jam (q + b) n v
+    go zero e =
+        let z : q + b ≡ q = omega arith in
+        inl (rw (z) (omega (arith, whole)))
+    go (suc r) e =
+        inr (omega arith, omega (arith, whole, one, add-mul q b (2 ^ n)), omega (arith, whole, add-mul q b (2 ^ n), mod-lt v (pow-pos n)))
+
+pub jam-le : (v n : ℕ) → jam v n ≤ suc v
+unfolding jam
+jam-le v n = omega (arith, div-le-self v (2 ^ n))
+
+pub jam-zero : (v : ℕ) → jam v 0 ≡ v
+unfolding jam
+jam-zero v = omega (arith, div-one v, mod-one v)
+
+pub jam-wide : (v n : ℕ) → 64 ≤ n → v < 2 ^ 64 → jam v n ≡ min 1 v
+unfolding jam
+jam-wide v n h l =
+    let s : v < 2 ^ n = lt-of-lt-of-le l (pow-mono h) in
+    rw (div-eq-of-lt s, mod-eq-of-lt s) (omega arith)
+
+pub jam-none : (v n : ℕ) → v % 2 ^ n ≡ 0 → v / 2 ^ n ≡ jam v n
+unfolding jam
+jam-none v n h = omega arith
+
+pub jam-some : (v n : ℕ) → 0 < v % 2 ^ n → v / 2 ^ n + (1 - v / 2 ^ n % 2) ≡ jam v n
+unfolding jam
+jam-some v n h = omega arith
+
+-- an even number more, and less
+pub jam-add : (b j i n : ℕ) → b % 2 ≡ 0 → Jam j i n → Jam (b + j) i (b * 2 ^ i + n)
+jam-add b j i n h (inl e) = inl (ap (λ (y : ℕ). b * 2 ^ i + y) e ∙ sym (add-mul b j (2 ^ i)))
+jam-add b j i n h (inr k) = inr (omega (arith, k .0), omega (arith, k .1, add-mul b j (2 ^ i)), omega (arith, k .2, add-mul b j (2 ^ i)))
+
+pub jam-sub : (b j i n : ℕ) → b % 2 ≡ 0 → j ≤ b → Jam j i n → Jam (b - j) i (b * 2 ^ i - n)
+jam-sub b j i n h l (inl e) = inl (ap (λ (y : ℕ). b * 2 ^ i - y) e ∙ sym (sub-mul b j (2 ^ i)))
+jam-sub b j i n h l (inr k) =
+    let o = k .0 in
+    let r : suc j * 2 ^ i ≤ b * 2 ^ i = mul-le-mul-right (2 ^ i) (omega arith) in
+    inr (omega arith, omega (arith, k .1, sub-mul b j (2 ^ i), suc-mul j (2 ^ i)), omega (arith, k .2, sub-mul b j (2 ^ i), suc-mul j (2 ^ i)))

@@ -1,7 +1,7 @@
 -- "Kinds 0 to 7: i8, u8, i16, u16, i32, u32, f32, f64." A kind above 7 counts as 7: no header has one.
 -- Assumes nothing.
-use mathlib.Core.Bool.{Bool, true, false, _&&_, cond}
-use mathlib.Core.List.{List, [], _∷_}
+use mathlib.Core.Bool.{Bool, _&&_, cond}
+use mathlib.Core.List.{[], _∷_}
 use Prim.Native.Nat.{ℕ, _+_, _-_, _*_, _/_, _%_, _^_, min}
 use lib.ListN.{getD}
 use lib.Dec.{leb, ltb, eqb}

@@ -1,7 +1,7 @@
 -- binary64 and binary32 over whole numbers. A magnitude is counted in units of 2 ^ -1074 (of 2 ^ -149 in a binary32):
 -- "A finite binary64 is a whole number times 2^-1074."
 -- Assumes nothing.
-use mathlib.Core.Bool.{Bool, true, false, _&&_, _||_, Bool·beq, cond}
+use mathlib.Core.Bool.{Bool, _&&_, _||_, Bool·beq, cond}
 use Prim.Native.Nat.{ℕ, _+_, _-_, _*_, _/_, _%_, _^_, min}
 use lib.Dec.{leb, ltb, eqb}
 use lib.Ieee.{size, below}

@@ -9,10 +9,10 @@ use super::round::jam;
 use super::round::pack;
 
 // Two magnitudes over one power of two: small stands for the lesser one's digits.
-pub struct Aligned {
-    pub big: u64,
-    pub small: u64,
-    pub e: u64,
+struct Aligned {
+    big: u64,
+    small: u64,
+    e: u64,
 }
 
 // For a magnitude of a that is no less than b's. Its digits are moved up by 10 at most, so that they fit in a word and

@@ -24,7 +24,7 @@ pub fn size(kind: u32) -> usize
 }
 
 // how many words a kind of integers has
-pub fn modulus(kind: u32) -> u64
+pub(crate) fn modulus(kind: u32) -> u64
     requires { ⌜ kind < 6 ⌝ }
     ensures { λ r. ⌜ r ≡ Kind.modulus kind ⌝ }
 {
@@ -68,8 +68,8 @@ pub fn number(v: u64, kind: u32) -> u64
     }
 }
 
-// the magnitude of w, cut to a whole number
-pub fn whole(w: u64) -> u64
+// the magnitude of w, cut to a whole number: 1 is 2^1074 units
+pub(crate) fn whole(w: u64) -> u64
     requires { ⌜ exp w < 1074 ⌝ }
     ensures { λ r. ⌜ r ≡ Kind.whole w ⌝ }
 {
@@ -82,16 +82,14 @@ pub fn whole(w: u64) -> u64
 }
 
 // the first magnitude that a kind of integers does not hold, by the sign
-pub fn bound(kind: u32, negative: bool) -> u64
+pub(crate) fn bound(kind: u32, negative: bool) -> u64
     requires { ⌜ kind < 6 ⌝ }
     ensures { λ r. ⌜ r ≡ Kind.bound kind negative ⌝ }
 {
     let m = modulus(kind);
     if kind % 2 == 0 {
         if negative { m / 2 + 1 } else { m / 2 }
-    } else if negative {
-        1
     } else {
-        m
+        if negative { 1 } else { m }
     }
 }

@@ -2,12 +2,14 @@
 ghost use mathlib.Core.Path.{_≡_};
 ghost use Rattle.lerc_numeric.specs.Numeric as Word;
 
+// the exponent's field is not 2047
 pub fn is_finite(v: u64) -> bool
     ensures { λ r. ⌜ r ≡ Word.finite v ⌝ }
 {
     v % 0x8000_0000_0000_0000 / 0x10_0000_0000_0000 < 2047
 }
 
+// a < b by value; a field of 2047 is no exception
 pub fn less(a: u64, b: u64) -> bool
     ensures { λ r. ⌜ r ≡ Word.less a b ⌝ }
 {

@@ -2,7 +2,7 @@
 ghost use mathlib.Core.Path.{_≡_};
 ghost use Rattle.lerc_numeric.specs.Numeric.{sig, exp};
 
-pub fn significand(w: u64) -> u64
+pub(crate) fn significand(w: u64) -> u64
     ensures { λ r. ⌜ r ≡ sig w ⌝ }
 {
     let t = w % 0x10_0000_0000_0000;
@@ -13,7 +13,7 @@ pub fn significand(w: u64) -> u64
     }
 }
 
-pub fn exponent(w: u64) -> u64
+pub(crate) fn exponent(w: u64) -> u64
     ensures { λ r. ⌜ r ≡ exp w ⌝ }
 {
     let x = w % 0x8000_0000_0000_0000 / 0x10_0000_0000_0000;

@@ -9,7 +9,7 @@ ghost use Rattle.lerc_numeric.specs.Inside as Inside;
 const INFINITY: u64 = 0x7ff0_0000_0000_0000;
 
 // The d lowest digits of m.
-pub fn low(m: u64, d: u64) -> u64
+pub(crate) fn low(m: u64, d: u64) -> u64
     requires { ⌜ d < 64 ⌝ }
     ensures { λ r. ⌜ r ≡ m % 2 ^ d ⌝ }
 {
@@ -17,13 +17,13 @@ pub fn low(m: u64, d: u64) -> u64
 }
 
 // m / 2^d to the nearest whole number, a tie to the even one.
-pub fn nearest(m: u64, d: u64) -> u64
+pub(crate) fn nearest(m: u64, d: u64) -> u64
     requires { ⌜ d < 64 ⌝ }
     ensures { λ r. ⌜ r ≡ closest m (2 ^ d) ⌝ }
 {
     let unit = 1u64 << d;
     let q = m >> d;
-    let twice = (m & (unit - 1)) * 2;
+    let twice = low(m, d) * 2;
     if twice < unit {
         q
     } else if unit < twice {
@@ -34,29 +34,25 @@ pub fn nearest(m: u64, d: u64) -> u64
 }
 
 // v / 2^n, with its last digit 1 where anything was cut off.
-pub fn jam(v: u64, n: u64) -> u64
+pub(crate) fn jam(v: u64, n: u64) -> u64
     ensures { λ r. ⌜ r ≡ Inside.jam v n ⌝ }
 {
     if 64 <= n {
         return if v == 0 { 0 } else { 1 };
     }
     let q = v >> n;
-    if v & ((1u64 << n) - 1) == 0 {
-        q
-    } else {
-        q + (1 - q % 2)
-    }
+    if low(v, n) == 0 { q } else { q + (1 - q % 2) }
 }
 
 // How many binary digits m has.
-pub fn digits(m: u64) -> u64
+pub(crate) fn digits(m: u64) -> u64
     ensures { λ r. ⌜ r ≡ ieee.size m ⌝ }
 {
     64 - u64::leading_zeros(m) as u64
 }
 
 // The bits of the magnitude m * 2^e, rounded once.
-pub fn pack(m: u64, e: u64) -> u64
+pub(crate) fn pack(m: u64, e: u64) -> u64
     requires { ⌜ e < 4096 ⌝ }
     ensures { λ r. ⌜ r ≡ bits64 (m * 2 ^ e) ⌝ }
 {

@@ -8,7 +8,8 @@ use super::parts::significand;
 use super::round::nearest;
 use super::round::pack;
 
-// v to the nearest binary32, without its sign
+// v to the nearest binary32, without its sign. A binary32's unit is 2^925 of a binary64's: from the exponent 896 = 925 - 29 on
+// 24 of 53 digits are kept, below it fewer, and below 862 none.
 fn unsigned(v: u64) -> u64
     ensures { λ r. ⌜ r ≡ Inside.unsigned32 v ⌝ }
 {
@@ -30,13 +31,15 @@ fn unsigned(v: u64) -> u64
     }
 }
 
+// the nearest binary32; too large becomes infinity
 pub fn narrow(v: u64) -> u32
     ensures { λ r. ⌜ r ≡ narrowed v ⌝ }
 {
     (v / 0x8000_0000_0000_0000 * 0x8000_0000 + unsigned(v)) as u32
 }
 
-pub fn widen(v: u64) -> u64
+// a binary32 word as a binary64, exactly
+pub(crate) fn widen(v: u64) -> u64
     requires { ⌜ v < 2 ^ 32 ⌝ }
     ensures { λ r. ⌜ r ≡ widened v ⌝ }
 {

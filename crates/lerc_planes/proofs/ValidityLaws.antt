@@ -34,34 +34,34 @@ Part old (reused m) = (length m ≤ length old) × (m ≡ take (length m) old)
 Part old (new m) = Unit
 
 -- "Length is (pixels+7)/8", "Valid pixels must number `valid`": all three ways to a mask
-pub record Right (h : Header) (old : List ℕ) (f : InForce) : Type 0 where
+pub record Right (s : List ℕ) (h : Header) (old : List ℕ) (f : InForce) : Type 0 where
   pub size : length (bytesOf f) ≡ maskLength (shapeOf h)
   pub counts : validBelow (pixels (shapeOf h)) (bytesOf f) ≡ h .valid
-  pub bytes : Bytes (bytesOf f)
+  pub bytes : Bytes s → Bytes old → Bytes (bytesOf f)
   pub part : Part old f
 
 -- an accepted mask is right; "Any breach is 6."
-abbrev pub Told : Header → List ℕ → Res InForce → Type 0
-Told h old (ok f) = Right h old f
-Told h old (fail r) = r ≡ refuse 6
+abbrev pub Told : List ℕ → Header → List ℕ → Res InForce → Type 0
+Told s h old (ok f) = Right s h old f
+Told s h old (fail r) = r ≡ refuse 6
 
-module _ (h : Header) (old : List ℕ) where
-  required : (t : Bool) (a : Res InForce) → (t ≡ true → Told h old a) → Told h old (require t 6 >>= λ _. a)
+module _ (s : List ℕ) (h : Header) (old : List ℕ) where
+  required : (t : Bool) (a : Res InForce) → (t ≡ true → Told s h old a) → Told s h old (require t 6 >>= λ _. a)
   required true a f = f refl
   required false a f = refl
 
-  uniform-told : (byte : ℕ) → byte < 256 → validBelow (pixels (shapeOf h)) (replicate (maskLength (shapeOf h)) byte) ≡ h .valid → Told h old (uniform h byte)
+  uniform-told : (byte : ℕ) → byte < 256 → validBelow (pixels (shapeOf h)) (replicate (maskLength (shapeOf h)) byte) ≡ h .valid → Told s h old (uniform h byte)
   unfolding uniform
   uniform-told byte l e = required (eqb (h .mask) 0) (ok (new (replicate (maskLength (shapeOf h)) byte))) (λ _. record {
     size = length-replicate (maskLength (shapeOf h)) byte;
     counts = e;
-    bytes = bytes-repeat (maskLength (shapeOf h)) byte l;
+    bytes = λ _ _. bytes-repeat (maskLength (shapeOf h)) byte l;
     part = tt;
   })
 
-  kept-told : (reuse : Bool) → Bytes old → maskLength (shapeOf h) ≤ length old → Told h old (kept h reuse old)
+  kept-told : (reuse : Bool) → maskLength (shapeOf h) ≤ length old → Told s h old (kept h reuse old)
   unfolding kept
-  kept-told reuse b l =
+  kept-told reuse l =
       let n = maskLength (shapeOf h) in
       let m = take n old in
       let z : length m ≡ n = rw (length-take) (omega arith) in
@@ -69,36 +69,36 @@ module _ (h : Header) (old : List ℕ) where
       required reuse (require same 6 >>= λ _. ok (reused m)) (λ _. required same (ok (reused m)) (λ e. record {
         size = z;
         counts = eqb-true _ _ e;
-        bytes = bytes-part old 0 n b;
+        bytes = λ _ b. bytes-part old 0 n b;
         part = (omega arith, rw (z));
       }))
 
-  runs-told : (s : List ℕ) → Bytes s → Told h old (unrolled s h)
+  runs-told : Told s h old (unrolled s h)
   unfolding unrolled
-  runs-told s b = go (coded t (pixels (shapeOf h)) (h .valid)) refl
+  runs-told = go (coded t (pixels (shapeOf h)) (h .valid)) refl
     where
       t : List ℕ
       t = take (h .mask) (drop headerBytes s)
 
-      go : (a : Res (List ℕ)) → coded t (pixels (shapeOf h)) (h .valid) ≡ a → Told h old (a >>= λ m. ok (new m))
+      go : (a : Res (List ℕ)) → coded t (pixels (shapeOf h)) (h .valid) ≡ a → Told s h old (a >>= λ m. ok (new m))
       go (ok m) e =
-          let c : Bytes t = bytes-part s headerBytes (h .mask) b in record {
-            size = coded-length t (pixels (shapeOf h)) (h .valid) m c e;
+          record {
+            size = coded-length t (pixels (shapeOf h)) (h .valid) m e;
             counts = coded-is t (pixels (shapeOf h)) (h .valid) m e .counts;
-            bytes = coded-bytes t (pixels (shapeOf h)) (h .valid) m c e;
+            bytes = λ b _. coded-bytes t (pixels (shapeOf h)) (h .valid) m (bytes-part s headerBytes (h .mask) b) e;
             part = tt;
           }
       go (fail r) e = coded-six t (pixels (shapeOf h)) (h .valid) r e
 
-  pub mask-told : (s : List ℕ) (reuse : Bool) → Bytes s → Bytes old → maskLength (shapeOf h) ≤ length old → Told h old (maskSays s h reuse old)
+  pub mask-told : (reuse : Bool) → maskLength (shapeOf h) ≤ length old → Told s h old (maskSays s h reuse old)
   unfolding maskSays
-  mask-told s reuse b c l =
-      let P = Told h old in
+  mask-told reuse l =
+      let P = Told s h old in
       let p = pixels (shapeOf h) in
       let n = maskLength (shapeOf h) in
       cond-elim P (eqb (h .valid) 0) (λ e. uniform-told 0 (omega arith) (valid-uniform-0 p n ∙ sym (eqb-true _ _ e)))
       (λ _. cond-elim P (eqb (h .valid) p) (λ e. uniform-told 255 (omega arith) (valid-uniform-255 p n (omega arith) ∙ sym (eqb-true _ _ e)))
-      (λ _. cond-elim P (eqb (h .mask) 0) (λ _. kept-told reuse c l) (λ _. runs-told s b)))
+      (λ _. cond-elim P (eqb (h .mask) 0) (λ _. kept-told reuse l) (λ _. runs-told)))
 
 -- ---- prepare a mask
 
@@ -119,11 +119,9 @@ module _ (b : List ℕ) (h : Header) (reuse : Bool) (old : List ℕ) (room : ℕ
       let i : x ≡ extentOf h = held-is h (length b) p in
       record { header = rw (i) at p; here = rw (i) at (leb-true (x .mask) (length old) k); there = rw (i) at (leb-true (x .mask) room l); mask = e }
 
-  module _ (f : InForce) (e : prepareSays b h reuse old room ≡ ok f) (p : Bytes b) (q : Bytes old) where
-    pub prepared-right : Right h old f
-    prepared-right =
-        let k = prepare-found f e in
-        rw (k .mask) at (mask-told h old (take (h .size) b) reuse (bytes-part b 0 (h .size) p) q (k .here))
+  module _ (f : InForce) (e : prepareSays b h reuse old room ≡ ok f) where
+    pub prepared-right : Right (take (h .size) b) h old f
+    prepared-right = let k = prepare-found f e in rw (k .mask) at (mask-told (take (h .size) b) h old reuse (k .here))
 
     pub mask-length : length (bytesOf f) ≡ maskLength (shapeOf h)
     mask-length = prepared-right .size
@@ -131,13 +129,13 @@ module _ (b : List ℕ) (h : Header) (reuse : Bool) (old : List ℕ) (room : ℕ
     pub mask-counts : validBelow (pixels (shapeOf h)) (bytesOf f) ≡ h .valid
     mask-counts = prepared-right .counts
 
-    pub mask-bytes : Bytes (bytesOf f)
-    mask-bytes = prepared-right .bytes
+    pub mask-bytes : Bytes b → Bytes old → Bytes (bytesOf f)
+    mask-bytes p q = prepared-right .bytes (bytes-part b 0 (h .size) p) q
 
   -- a refusal is the header's, or 5, or 6
-  pub prepare-numbers : (r : Refusal) → Bytes b → Bytes old → prepareSays b h reuse old room ≡ fail r → (held h (length b) ≡ fail r) ⊎ ((r ≡ refuse 5) ⊎ (r ≡ refuse 6))
+  pub prepare-numbers : (r : Refusal) → prepareSays b h reuse old room ≡ fail r → (held h (length b) ≡ fail r) ⊎ ((r ≡ refuse 5) ⊎ (r ≡ refuse 6))
   unfolding prepareSays
-  prepare-numbers r p q e = go (held h (length b)) refl
+  prepare-numbers r e = go (held h (length b)) refl
     where
       go : (a : Res Extent) → held h (length b) ≡ a → (held h (length b) ≡ fail r) ⊎ ((r ≡ refuse 5) ⊎ (r ≡ refuse 6))
       go (fail x) d = let y = rw (d) at e in let z : x ≡ r = cc in inl (d ∙ ap fail z)
@@ -149,7 +147,7 @@ module _ (b : List ℕ) (h : Header) (reuse : Bool) (old : List ℕ) (room : ℕ
               let (k, _) = and-is (leb (x .mask) (length old)) (leb (x .mask) room) l in
               let i = held-is h (length b) d in
               let n : maskLength (shapeOf h) ≤ length old = rw (i) at (leb-true (x .mask) (length old) k) in
-              inr (rw (z) at (mask-told h old (take (h .size) b) reuse (bytes-part b 0 (h .size) p) q n))
+              inr (rw (z) at (mask-told (take (h .size) b) h old reuse n))
 
 -- ---- the mask handed back
 

@@ -1,2 +1,4 @@
 pub mod Offsets
 pub mod Words
+pub mod Storable
+pub mod Reading

@@ -1,13 +1,13 @@
 -- Laws of the table of offset kinds.
 -- Assumes nothing.
-use mathlib.Core.Path.{_≡_, refl, sym, ap, _∙_}
+use mathlib.Core.Path.{_≡_, refl, sym, _∙_}
 use mathlib.Core.List.{List, [], _∷_}
 use Prim.Native.Nat.{ℕ, zero, suc, _≤_, _<_}
 use native.Mathlib.Omega.{arith}
-use native.Mathlib.Nat.{not-suc-le-zero, le-of-suc-le-suc, le-of-eq}
+use native.Mathlib.Nat.{not-suc-le-zero, le-of-suc-le-suc}
 use borrow.Author.Tests.{lt-ltb, le-ltb}
 use lib.ListN.{length, getD, List·getD-eq-default}
-use Rattle.lerc_words.specs.Res.{Res, ok, fail, refuse}
+use Rattle.lerc_words.specs.Res.{ok, fail, refuse}
 use Rattle.lerc_samples.specs.Samples.{offsetKinds, offsetKind}
 
 -- ---- within the table: the default does not matter

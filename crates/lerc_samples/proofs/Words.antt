@@ -1,10 +1,10 @@
 -- What `read` and `stored` answer, by what they were answered.
 -- Assumes nothing.
-use mathlib.Core.Path.{_≡_, refl, sym, ap, _∙_}
+use mathlib.Core.Path.{_≡_}
 use mathlib.Core.List.{List}
 use Prim.Native.Nat.{ℕ, _≤_, _<_}
-use borrow.Author.Tests.{lt-ltb, le-ltb, eq-eqb, ne-eqb}
-use Rattle.lerc_words.specs.Res.{Res, ok, fail, wordAt, wordSays, wordSaid, wordRefused}
+use borrow.Author.Tests.{lt-ltb, le-ltb, ne-eqb}
+use Rattle.lerc_words.specs.Res.{ok, fail, wordSays, wordSaid, wordRefused}
 use Rattle.lerc_words.specs.declared.Refusal.{Refusal}
 use Rattle.lerc_words.specs.declared.WordAnswer.{WordAnswer}
 use Rattle.lerc_words.specs.declared.WordAnswer.the-variants as word

@@ -1,8 +1,8 @@
 -- Numbers of a kind out of bytes, values as stored words, and the kinds of a block's offset.
 -- Assumes nothing.
-use mathlib.Core.Bool.{Bool, true, false, cond}
+use mathlib.Core.Bool.{cond}
 use mathlib.Core.List.{List, [], _∷_}
-use Prim.Native.Nat.{ℕ, _+_}
+use Prim.Native.Nat.{ℕ}
 use lib.ListN.{getD}
 use lib.Dec.{ltb, eqb}
 use Rattle.lerc_words.specs.Res.{Res, ok, fail, _>>=_, refuse, require, wordAt}

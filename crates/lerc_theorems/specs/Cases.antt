@@ -11,7 +11,7 @@ use Rattle.lerc_words.specs.Lists.{from, allTo}
 use Rattle.lerc_numeric.specs.Numeric.{sum, mag, code}
 use Rattle.lerc_numeric.specs.Kinds.{narrowed, whole, cut}
 use Rattle.lerc_samples.specs.Samples.{stored}
-use Rattle.lerc_bits.specs.Bits.{Counts, digits, run, plain, allBelow, chosen, indexed, tabled, counts}
+use Rattle.lerc_bits.specs.Bits.{Counts, tabled, plan, digits, chosen, lookedUp, valuesOf, unpacked, counts}
 use Rattle.lerc_mask.specs.Mask.{pixelValid, copyAt, repeatAt, endAt, signedAt, stepAt, runs, maskRuns}
 
 -- what a case shows: numbers, or a refusal
@@ -60,6 +60,6 @@ table =
     ∷ []
 
 pub cases : map (λ (c : Case). c .got) table ≡ map (λ (c : Case). c .want) table
-unfolding validOf counts plain tabled indexed run digits chosen allBelow wordAt little from allTo size span climb
-  pixelValid copyAt repeatAt endAt signedAt stepAt runs sum mag code narrowed whole cut stored
+unfolding validOf counts plan tabled unpacked valuesOf lookedUp digits chosen wordAt little from allTo size span climb
+    pixelValid copyAt repeatAt endAt signedAt stepAt runs sum mag code narrowed whole cut stored
 cases = refl

@@ -12,10 +12,10 @@ use Rattle.lerc_words.specs.Lists.{from, count, allTo}
 use Rattle.lerc_numeric.specs.Numeric.{mag, code, sum, scaled, less, same, lesser}
 use Rattle.lerc_numeric.specs.Kinds.{integer, valueOf, whole, cut}
 use Rattle.lerc_samples.specs.Samples.{sampleAt, stored, offsetKinds, offsetKind}
-use Rattle.lerc_bits.specs.Bits.{counts, plain, run, digits}
+use Rattle.lerc_bits.specs.Bits.{tabled, plan, digits, chosen, lookedUp, valuesOf, unpacked, counts}
 use Rattle.lerc_mask.specs.Mask.{pixelValid, copyAt, repeatAt, endAt, signedAt, stepAt, runs, coded}
 use Rattle.lerc_header.specs.Shape.{strips}
-use Rattle.lerc_header.specs.Header.{errorRight, pairRight, fieldsRight, withinCeilings, held, headerOf, headerSays}
+use Rattle.lerc_header.specs.Header.{errorRight, pairRight, fieldsRight, withinCeilings, held, keyRight, headerOf, headerSays}
 use Rattle.lerc_planes.specs.Validity.{uniform, kept, unrolled, maskSays}
 use Rattle.lerc_planes.specs.Ranges.{uniformRanges, numberAt, byDepth, codedRanges, pairsRight, rangesSays, readRangesSays, constantWords}
 use Rattle.lerc_block.specs.Block.{rawWords, levelBlock, stepValue, steppedBlock, offsetBlock, formed, blockSays}
@@ -56,8 +56,18 @@ blob f =
 -- 1 row, 3 columns, depth 1, kind 1 (u8), error 0.5
 abbrev pub row : ℕ → ℕ → ℕ → ℕ → List ℕ → List ℕ → List ℕ
 row side valid low high section body = blob (record {
-  rows = 1; columns = 3; depth = 1; valid = valid; side = side; kind = 1;
-  error = 0x3FE0000000000000; min = low; max = high; mask = section; rest = body })
+  rows = 1;
+  columns = 3;
+  depth = 1;
+  valid = valid;
+  side = side;
+  kind = 1;
+  error = 0x3FE0000000000000;
+  min = low;
+  max = high;
+  mask = section;
+  rest = body;
+})
 
 abbrev pub ten : ℕ
 ten = 0x4024000000000000
@@ -88,7 +98,8 @@ shown b = record { said = readSays b false (lent 4) >>= readCount; left = readAf
 abbrev pub gives : ℕ → ℕ → List ℕ → List ℕ → List ℕ → Shown
 gives blocks end mask list image = record {
   said = ok (record { blocks = blocks; end = end });
-  left = record { kept = mask; spare = mask ++ (7 ∷ []); list = list; image = image } }
+  left = record { kept = mask; spare = mask ++ (7 ∷ []); list = list; image = image };
+}
 
 abbrev pub bodies : List Shown
 bodies =
@@ -142,8 +153,8 @@ pub witnesses :
     ∷ [])
     × (numbers ≡ 1 ∷ 2 ∷ 3 ∷ 4 ∷ 5 ∷ 6 ∷ 7 ∷ 8 ∷ 9 ∷ 10 ∷ 11 ∷ 0 ∷ [])
 unfolding wordAt little each from count allTo mag code sum scaled less same lesser integer valueOf whole cut sampleAt stored offsetKinds offsetKind
-  counts plain run digits pixelValid copyAt repeatAt endAt signedAt stepAt runs coded strips errorRight pairRight fieldsRight withinCeilings
-  held headerOf headerSays uniform kept unrolled maskSays uniformRanges numberAt byDepth codedRanges pairsRight rangesSays constantWords rawWords
-  levelBlock stepValue steppedBlock offsetBlock formed blockSays tileOf pixelOf blockOf placeIn rank isValidCell painted indexOf blockAt chain modeAt moded
-  swept rawBody blockBody constantBody bodySays cellWord meaningFrom room masked readSays published refusedAfter size span climb readRangesSays fillSays
+    counts plan tabled unpacked valuesOf lookedUp digits chosen pixelValid copyAt repeatAt endAt signedAt stepAt runs coded strips errorRight pairRight fieldsRight withinCeilings
+    held keyRight headerOf headerSays uniform kept unrolled maskSays uniformRanges numberAt byDepth codedRanges pairsRight rangesSays constantWords rawWords
+    levelBlock stepValue steppedBlock offsetBlock formed blockSays tileOf pixelOf blockOf placeIn rank isValidCell painted indexOf blockAt chain modeAt moded
+    swept rawBody blockBody constantBody bodySays cellWord meaningFrom room masked readSays published refusedAfter size span climb readRangesSays fillSays
 witnesses = (refl, refl)

@@ -16,7 +16,6 @@ pub data Res (A : Type 0) : Type 0 where
   fail : Refusal → Res A
 
 infixl 20 _>>=_
-
 -- "the first failing read decides the number"
 abbrev pub _>>=_ : {A B : Type 0} → Res A → (A → Res B) → Res B
 _>>=_ (ok a) k = k a

@@ -1,21 +1,16 @@
 use borrow.Author.Needs.{needs}
-use Prim.Native.Nat.{ℕ, _≤_, _<_, _-_, _+_, _*_, min}
-use mathlib.Core.Path.{_≡_, _∙_, sym, ap, refl}
-use mathlib.Core.List.{_++_}
+use Prim.Native.Nat.{_-_}
+use mathlib.Core.Path.{refl}
 use native.Mathlib.Omega.{arith}
 use Rattle.lerc_samples.specs.Samples.{storedSaid, storedRefused}
 use Rattle.lerc_block.proofs.Answers.{said-ok, said-no}
 use Rattle.lerc_block.proofs.Steps.{converted-all, converted-no}
 use denote.Ref.{now}
-use lib.ListN.{length, getD, drop}
+use lib.ListN.{length}
 use Rattle.lerc_words.proofs.Each.{Staged, staged-none, staged-length, staged-more, staged-fails, staged-done}
-use Rattle.lerc_block.specs.Steps.{stepWord, Converted}
+use Rattle.lerc_block.specs.Steps.{stepWord}
 use Rattle.lerc_block.proofs.convert.Statement.{statement}
 use Rattle.lerc_block.proofs.convert.Tie as tie
-use Rattle.lerc_block.proofs.convert.Reads as reads
-use Rattle.lerc_block.proofs.convert.Lts as lts
-use Rattle.lerc_block.proofs.step.Reads as step-reads
-use Rattle.lerc_samples.proofs.StoredAnswer.refusal.Reads as refusal-reads
 
 abbrev Inv-loop : tie.InvT-loop
 Inv-loop counts next kind error top offset out₀ k₀ out k = Staged (stepWord kind error top offset) counts k out₀ out

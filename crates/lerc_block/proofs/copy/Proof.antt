@@ -1,15 +1,13 @@
 use borrow.Author.Needs.{needs}
-use Prim.Native.Nat.{ℕ, _≤_, _<_, _-_, _+_, _*_, min}
-use mathlib.Core.Path.{_≡_, _∙_, sym, ap, refl}
+use Prim.Native.Nat.{ℕ, _-_}
+use mathlib.Core.Path.{_∙_, ap, refl}
 use mathlib.Core.List.{List, _++_}
 use native.Mathlib.Omega.{arith}
 use denote.Ref.{now}
-use lib.ListN.{length, getD, drop}
+use lib.ListN.{getD, drop}
 use Rattle.lerc_block.proofs.Filling.{Filling, filling-none, filling-length, filling-more, filling-done, tabulate-front}
 use Rattle.lerc_block.proofs.copy.Statement.{statement}
 use Rattle.lerc_block.proofs.copy.Tie as tie
-use Rattle.lerc_block.proofs.copy.Reads as reads
-use Rattle.lerc_block.proofs.copy.Lts as lts
 
 abbrev Inv-loop : tie.InvT-loop
 Inv-loop from n out₀ k₀ out k = Filling (λ j. getD from j 0) n k out₀ out

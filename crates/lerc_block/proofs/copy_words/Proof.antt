@@ -1,19 +1,14 @@
 use borrow.Author.Needs.{needs}
-use Prim.Native.Nat.{ℕ, _≤_, _<_, _-_, _+_, _*_, min}
-use mathlib.Core.Path.{_≡_, _∙_, sym, ap, refl}
-use mathlib.Core.List.{_++_}
+use Prim.Native.Nat.{ℕ, _-_, _+_, _*_, min}
+use mathlib.Core.Path.{_≡_}
 use native.Mathlib.Omega.{arith}
 use native.Mathlib.Nat.{suc-mul, mul-le-mul-right, zero-mul, add-zero}
 use native.Mathlib.Numerals.{add-one}
 use denote.Ref.{now}
-use lib.ListN.{length, getD, drop}
 use Rattle.lerc_words.specs.Res.{little}
 use Rattle.lerc_block.proofs.Filling.{Filling, filling-none, filling-length, filling-more, filling-done}
 use Rattle.lerc_block.proofs.copy_words.Statement.{statement}
 use Rattle.lerc_block.proofs.copy_words.Tie as tie
-use Rattle.lerc_block.proofs.copy_words.Reads as reads
-use Rattle.lerc_block.proofs.copy_words.Lts as lts
-use Rattle.lerc_words.proofs.bytes.Reads as bytes-reads
 
 abbrev Inv-loop : tie.InvT-loop
 Inv-loop s at size n out₀ place₀ k₀ out place k = (place ≡ at + k * size) × Filling (λ j. little size s (at + j * size)) n k out₀ out

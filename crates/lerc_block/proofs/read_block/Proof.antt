@@ -1,25 +1,15 @@
 use borrow.Author.Needs.{needs}
-use Prim.Native.Nat.{ℕ, _≤_, _<_, _+_, _*_, _-_, _/_, _%_}
-use mathlib.Core.Path.{_≡_, _∙_, sym, ap, refl}
-use mathlib.Core.Bool.{Bool, true, false}
-use mathlib.Core.List.{List, [], _++_}
+use Prim.Native.Nat.{ℕ, _≤_, _+_}
+use mathlib.Core.Path.{_≡_, _∙_}
 use native.Mathlib.Omega.{arith}
 use denote.Ref.{now}
-use lib.ListN.{length, take, drop, replicate, length-replicate, length-take}
-use Rattle.lerc_words.specs.Res.{Res, ok, fail, little, wordAt}
-use Rattle.lerc_words.specs.Lists.{tabulate}
+use lib.ListN.{length, replicate, length-replicate}
+use Rattle.lerc_words.specs.Res.{ok, wordAt}
 use Rattle.lerc_words.proofs.Laws.{read-ok, read-no, wordAt-is, byte-lt}
 use Rattle.lerc_block.specs.Block.{readBlockSays, formed}
-use Rattle.lerc_block.proofs.Answers.{refused, given, likewise, read-many, read-few, block-no, block-strange, block-formed, formed-raw, formed-zero, formed-offset}
+use Rattle.lerc_block.proofs.Answers.{refused, given, likewise, read-many, block-read, block-no, block-strange, block-formed, formed-raw, formed-zero, formed-offset}
 use Rattle.lerc_block.proofs.read_block.Statement.{statement}
 use Rattle.lerc_block.proofs.read_block.Tie as tie
-use Rattle.lerc_block.proofs.read_block.Reads as reads
-use Rattle.lerc_block.proofs.read_block.Lts as lts
-use Rattle.lerc_block.proofs.fill.Reads as fill-reads
-use Rattle.lerc_block.proofs.read_offset.Reads as read-offset-reads
-use Rattle.lerc_block.proofs.read_raw.Reads as read-raw-reads
-use Rattle.lerc_words.proofs.WordAnswer.refusal.Reads as refusal-reads
-use Rattle.lerc_words.proofs.word.Reads as word-reads
 
 abbrev flag : tie.After-a → ℕ
 flag k = k .a .given .0 .0
@@ -34,7 +24,7 @@ inside k = let a = k .before .before .before .before .before .args in wordAt-is 
 by-form : (k : tie.Else2) → let a = k .before .before .before .before .before .before .before .args in readBlockSays (now (a .s)) (a .at) (a .kind) (a .error) (a .maximum) (a .x) (a .n) ≡ formed (now (a .s)) (a .at + 1) (a .kind) (a .error) (a .maximum) (flag (k .before .before)) (a .n)
 by-form k =
     let a = k .before .before .before .before .before .before .before .args in
-    read-few (now (a .s)) (a .at) (a .kind) (a .error) (a .maximum) (a .x) (a .n) (k .before .before .before .before .before .if1 .left) ∙ block-formed (now (a .s)) (a .at) (a .kind) (a .error) (a .maximum) (a .x) (a .n) (flag (k .before .before)) (read (k .before .before)) (k .if2 .left)
+    block-read (now (a .s)) (a .at) (a .kind) (a .error) (a .maximum) (a .x) (a .n) (k .before .before .before .before .before .if1 .left) ∙ block-formed (now (a .s)) (a .at) (a .kind) (a .error) (a .maximum) (a .x) (a .n) (flag (k .before .before)) (read (k .before .before)) (k .if2 .left)
 
 returns : tie.Need-returns
 returns c =
@@ -46,13 +36,13 @@ returns-2 c =
     let k = c .before .before .before in
     let a = k .before .before .before .args in
     let w = read-no (now (a .s)) (a .at) 1 (omega arith) (k .word .ensures) (c .before .enum-told .given .1) (c .refusal .ensures) in
-    refused (read-few (now (a .s)) (a .at) (a .kind) (a .error) (a .maximum) (a .x) (a .n) (k .before .if1 .left) ∙ block-no (now (a .s)) (a .at) (a .kind) (a .error) (a .maximum) (a .x) (a .n) w)
+    refused (block-read (now (a .s)) (a .at) (a .kind) (a .error) (a .maximum) (a .x) (a .n) (k .before .if1 .left) ∙ block-no (now (a .s)) (a .at) (a .kind) (a .error) (a .maximum) (a .x) (a .n) w)
 
 returns-3 : tie.Need-returns-3
 returns-3 c =
     let k = c .before .before in
     let a = k .before .before .before .before .before .args in
-    refused (read-few (now (a .s)) (a .at) (a .kind) (a .error) (a .maximum) (a .x) (a .n) (k .before .before .before .if1 .left) ∙ block-strange (now (a .s)) (a .at) (a .kind) (a .error) (a .maximum) (a .x) (a .n) (flag k) (read k) (c .if2 .taken))
+    refused (block-read (now (a .s)) (a .at) (a .kind) (a .error) (a .maximum) (a .x) (a .n) (k .before .before .before .if1 .left) ∙ block-strange (now (a .s)) (a .at) (a .kind) (a .error) (a .maximum) (a .x) (a .n) (flag k) (read k) (c .if2 .taken))
 
 add-read-raw : tie.Need-add-read-raw
 add-read-raw c = let k = c .before .before .before in omega (arith, k .before .before .before .before .before .good, inside k)

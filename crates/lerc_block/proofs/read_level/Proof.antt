@@ -1,22 +1,12 @@
 use borrow.Author.Needs.{needs}
-use Prim.Native.Nat.{ℕ, _≤_, _<_, _+_, _*_, _-_, _/_, _%_}
-use mathlib.Core.Path.{_≡_, _∙_, sym, ap, refl}
-use mathlib.Core.Bool.{Bool, true, false}
-use mathlib.Core.List.{List, [], _++_}
+use mathlib.Core.Path.{refl}
+use mathlib.Core.List.{[]}
 use native.Mathlib.Omega.{arith}
-use denote.Ref.{now}
-use lib.ListN.{length, take, drop, replicate, length-replicate, length-take}
-use Rattle.lerc_words.specs.Res.{Res, ok, fail, little, wordAt}
-use Rattle.lerc_words.specs.Lists.{tabulate}
+use lib.ListN.{replicate, length-replicate}
 use Rattle.lerc_samples.specs.Samples.{storedSaid, storedRefused}
 use Rattle.lerc_block.proofs.Answers.{said-ok, said-no, refused, given, level-none, level-no, level-ok}
 use Rattle.lerc_block.proofs.read_level.Statement.{statement}
 use Rattle.lerc_block.proofs.read_level.Tie as tie
-use Rattle.lerc_block.proofs.read_level.Reads as reads
-use Rattle.lerc_block.proofs.read_level.Lts as lts
-use Rattle.lerc_block.proofs.fill.Reads as fill-reads
-use Rattle.lerc_samples.proofs.StoredAnswer.refusal.Reads as refusal-reads
-use Rattle.lerc_samples.proofs.stored.Reads as stored-reads
 
 returns : tie.Need-returns
 returns c =

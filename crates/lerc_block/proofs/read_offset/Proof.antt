@@ -1,28 +1,14 @@
 use borrow.Author.Needs.{needs}
-use Prim.Native.Nat.{ℕ, _≤_, _<_, _+_, _*_, _-_, _/_, _%_}
-use mathlib.Core.Path.{_≡_, _∙_, sym, ap, refl}
-use mathlib.Core.Bool.{Bool, true, false}
-use mathlib.Core.List.{List, [], _++_}
+use Prim.Native.Nat.{_≤_, _+_, _/_}
+use mathlib.Core.Path.{_≡_, _∙_, sym, refl}
 use native.Mathlib.Omega.{arith}
 use denote.Ref.{now}
-use lib.ListN.{length, take, drop, replicate, length-replicate, length-take}
-use Rattle.lerc_words.specs.Res.{Res, ok, fail, little, wordAt}
-use Rattle.lerc_words.specs.Lists.{tabulate}
-use Rattle.lerc_numeric.specs.Numeric.{finite}
+use lib.ListN.{length}
+use Rattle.lerc_words.specs.Res.{ok}
 use Rattle.lerc_samples.specs.Samples.{sampleAt, offsetKind, offsetSaid, offsetRefused, sampleSaid, sampleRefused}
 use Rattle.lerc_block.proofs.Answers.{said-ok, said-no, refused, likewise, sample-inside, offset-none, offset-no, offset-endless, offset-level, offset-stepped}
 use Rattle.lerc_block.proofs.read_offset.Statement.{statement}
 use Rattle.lerc_block.proofs.read_offset.Tie as tie
-use Rattle.lerc_block.proofs.read_offset.Reads as reads
-use Rattle.lerc_block.proofs.read_offset.Lts as lts
-use Rattle.lerc_block.proofs.read_level.Reads as read-level-reads
-use Rattle.lerc_block.proofs.read_stepped.Reads as read-stepped-reads
-use Rattle.lerc_numeric.proofs.size.Reads as size-reads
-use Rattle.lerc_numeric.proofs.is_finite.Reads as is-finite-reads
-use Rattle.lerc_samples.proofs.OffsetAnswer.refusal.Reads as OffsetAnswer-refusal-reads
-use Rattle.lerc_samples.proofs.SampleAnswer.refusal.Reads as SampleAnswer-refusal-reads
-use Rattle.lerc_samples.proofs.offset_kind.Reads as offset-kind-reads
-use Rattle.lerc_samples.proofs.read.Reads as read-reads
 
 named : (k : tie.After-a) → offsetKind (k .before .before .before .before .args .kind) (k .before .before .before .before .args .flag / 64) ≡ ok (k .a .given .0 .0)
 named k = said-ok offsetSaid (k .before .before .offset-kind .ensures) (k .a .given .1) refl

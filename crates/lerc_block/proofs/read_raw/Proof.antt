@@ -1,12 +1,8 @@
 use borrow.Author.Needs.{needs}
-use Prim.Native.Nat.{ℕ, _≤_, _<_, _+_, _*_, _-_, _/_, _%_}
-use mathlib.Core.Path.{_≡_, _∙_, sym, ap, refl}
-use mathlib.Core.Bool.{Bool, true, false}
-use mathlib.Core.List.{List, [], _++_}
+use Prim.Native.Nat.{_≤_, _+_, _*_}
 use native.Mathlib.Omega.{arith}
 use denote.Ref.{now}
-use lib.ListN.{length, take, drop, replicate, length-replicate, length-take}
-use Rattle.lerc_words.specs.Res.{Res, ok, fail, little, wordAt}
+use Rattle.lerc_words.specs.Res.{little}
 use Rattle.lerc_words.specs.Lists.{tabulate}
 use native.Mathlib.Nat.{mul-le-mul}
 use Rattle.lerc_words.proofs.Tables.{length-tabulate}
@@ -14,10 +10,6 @@ use Rattle.lerc_numeric.proofs.Integers.{size-le}
 use Rattle.lerc_block.proofs.Answers.{refused, given, raw-ok, raw-no}
 use Rattle.lerc_block.proofs.read_raw.Statement.{statement}
 use Rattle.lerc_block.proofs.read_raw.Tie as tie
-use Rattle.lerc_block.proofs.read_raw.Reads as reads
-use Rattle.lerc_block.proofs.read_raw.Lts as lts
-use Rattle.lerc_block.proofs.copy_words.Reads as copy-words-reads
-use Rattle.lerc_numeric.proofs.size.Reads as size-reads
 
 small : (k : tie.After-size) → k .size .result ≤ 8
 small k = rw (k .size .ensures) (size-le (k .before .before .args .kind))

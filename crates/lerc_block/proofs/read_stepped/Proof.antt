@@ -1,36 +1,28 @@
 use borrow.Author.Needs.{needs}
-use Prim.Native.Nat.{ℕ, _≤_, _<_, _+_, _*_, _-_, _/_, _%_}
-use mathlib.Core.Path.{_≡_, _∙_, sym, ap, refl}
-use mathlib.Core.Bool.{Bool, true, false}
-use mathlib.Core.List.{List, [], _++_}
+use Prim.Native.Nat.{ℕ, _≤_}
+use mathlib.Core.Path.{_∙_, ap}
+use mathlib.Core.List.{List, _++_}
 use native.Mathlib.Omega.{arith}
 use denote.Ref.{now}
-use lib.ListN.{length, take, drop, replicate, length-replicate, length-take}
-use Rattle.lerc_words.specs.Res.{Res, ok, fail, little, wordAt}
-use Rattle.lerc_words.specs.Lists.{tabulate}
+use lib.ListN.{length, drop, replicate, length-take}
 use Rattle.lerc_bits.specs.Bits.{counts}
+use Rattle.lerc_bits.proofs.Answers.{Given, decode-ok, decode-no}
 use Rattle.lerc_block.proofs.Answers.{refused, given}
-use Rattle.lerc_block.proofs.Steps.{Found, found-no, found-ok, found-room, converted-fails, converted-is, stepped-no, stepped-other, stepped-fails, stepped-ok, stepped-long, stepped-front}
+use Rattle.lerc_block.proofs.Steps.{counts-room, converted-fails, converted-is, stepped-no, stepped-other, stepped-fails, stepped-ok, stepped-long, stepped-front}
 use Rattle.lerc_block.proofs.read_stepped.Statement.{statement}
 use Rattle.lerc_block.proofs.read_stepped.Tie as tie
-use Rattle.lerc_block.proofs.read_stepped.Reads as reads
-use Rattle.lerc_block.proofs.read_stepped.Lts as lts
-use Rattle.lerc_bits.proofs.CountsAnswer.refusal.Reads as refusal-reads
-use Rattle.lerc_bits.proofs.decode.Reads as decode-reads
-use Rattle.lerc_block.proofs.convert.Reads as convert-reads
-use Rattle.lerc_block.proofs.copy.Reads as copy-reads
 
-read : (k : tie.After-a) → Found (counts (now (k .before .before .before .before .before .args .s)) (k .before .before .before .before .before .args .at)) (k .a .given .0 .0) (k .a .given .0 .1 .0) (replicate 256 0) (k .before .before .decode .last .1 .1 .0)
-read k = found-ok (k .before .before .decode .ensures) (k .a .given .1)
+read : (k : tie.After-a) → Given (counts (now (k .before .before .before .before .before .args .s)) (k .before .before .before .before .before .args .at)) (k .a .given .0 .0) (k .a .given .0 .1 .0) (replicate 256 0) (k .before .before .decode .last .1 .1 .0)
+read k = decode-ok _ (k .before .before .decode .ensures) (k .a .given .1)
 
 room : (k : tie.Else1) → k .before .before .before .before .before .before .before .args .n ≤ length (k .before .before .before .before .decode .last .1 .1 .0)
-room k = omega (arith, found-room (read (k .before .before)))
+room k = omega (arith, counts-room (read (k .before .before)))
 
 returns : tie.Need-returns
 returns c =
     let k = c .before .before .before in
     let a = k .before .before .before .args in
-    refused (stepped-no (now (a .s)) (a .at) (a .kind) (a .error) (a .top) (a .offset) (a .n) (found-no (k .decode .ensures) (c .before .enum-told .given .1) (c .refusal .ensures)))
+    refused (stepped-no (now (a .s)) (a .at) (a .kind) (a .error) (a .top) (a .offset) (a .n) (decode-no (counts (now (a .s)) (a .at)) (k .decode .ensures) (c .before .enum-told .given .1) (c .refusal .ensures) .0))
 
 returns-2 : tie.Need-returns-2
 returns-2 c =

@@ -1,20 +1,8 @@
 use borrow.Author.Needs.{needs}
-use Prim.Native.Nat.{ℕ, _≤_, _<_, _-_, _+_, _*_, min}
-use mathlib.Core.Path.{_≡_, _∙_, sym, ap, refl}
-use mathlib.Core.List.{_++_}
-use native.Mathlib.Omega.{arith}
 use Rattle.lerc_block.specs.Block.{stepValue}
-use denote.Ref.{now}
-use lib.ListN.{length, getD, drop}
 use borrow.Author.Needs.{needs}
 use Rattle.lerc_block.proofs.step.Statement.{statement}
 use Rattle.lerc_block.proofs.step.Tie as tie
-use Rattle.lerc_block.proofs.step.Reads as reads
-use Rattle.lerc_block.proofs.step.Lts as lts
-use Rattle.lerc_numeric.proofs.plus.Reads as plus-reads
-use Rattle.lerc_numeric.proofs.minimum.Reads as minimum-reads
-use Rattle.lerc_numeric.proofs.scale.Reads as scale-reads
-use Rattle.lerc_samples.proofs.stored.Reads as stored-reads
 
 scale-requires : tie.Need-scale-requires
 scale-requires c κs = search needs

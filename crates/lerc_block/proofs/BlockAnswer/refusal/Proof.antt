@@ -1,15 +1,7 @@
 use borrow.Author.Needs.{needs}
-use Prim.Native.Nat.{ℕ, _≤_, _<_, _-_, _+_, _*_, min}
-use mathlib.Core.Path.{_≡_, _∙_, sym, ap, refl}
-use mathlib.Core.List.{_++_}
-use native.Mathlib.Omega.{arith}
-use denote.Ref.{now}
-use lib.ListN.{length, getD, drop}
 use borrow.Author.Needs.{needs}
 use Rattle.lerc_block.proofs.BlockAnswer.refusal.Statement.{statement}
 use Rattle.lerc_block.proofs.BlockAnswer.refusal.Tie as tie
-use Rattle.lerc_block.proofs.BlockAnswer.refusal.Reads as reads
-use Rattle.lerc_block.proofs.BlockAnswer.refusal.Lts as lts
 
 enum-known-self : tie.Need-enum-known-self
 enum-known-self c = search needs

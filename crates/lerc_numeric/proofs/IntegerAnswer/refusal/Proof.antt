@@ -1,5 +1,3 @@
-use mathlib.Core.Path.{_≡_, sym, ap}
-use Rattle.lerc_numeric.specs.Kinds.{integerRefused}
 use borrow.Author.Needs.{needs}
 use Rattle.lerc_numeric.proofs.IntegerAnswer.refusal.Statement.{statement}
 use Rattle.lerc_numeric.proofs.IntegerAnswer.refusal.Tie as tie

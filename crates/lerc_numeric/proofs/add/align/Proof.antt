@@ -1,7 +1,6 @@
-use mathlib.Core.Path.{_≡_, sym, ap, _∙_}
-use Prim.Native.Nat.{_+_, _-_, _*_, _%_, _/_, _^_, _<_, _≤_, min}
-use native.Mathlib.Omega.{arith}
-use Rattle.lerc_numeric.proofs.Sum.{align-near, align-far, sig-lt}
+use mathlib.Core.Path.{_∙_}
+use Rattle.lerc_numeric.proofs.Align.{align-near, align-far}
+use Rattle.lerc_numeric.proofs.Magnitude.{sig-lt}
 use borrow.Author.Needs.{needs}
 use Rattle.lerc_numeric.proofs.add.align.Statement.{statement}
 use Rattle.lerc_numeric.proofs.add.align.Tie as tie

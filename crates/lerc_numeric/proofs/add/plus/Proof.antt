@@ -1,9 +1,8 @@
-use mathlib.Core.Path.{_≡_, sym, ap, _∙_}
-use Prim.Native.Nat.{ℕ, _+_, _-_, _*_, _%_, _/_, _^_, _<_, _≤_, min}
 use native.Mathlib.Omega.{arith}
 use native.Mathlib.Nat.{add-comm}
-use Rattle.lerc_numeric.specs.Numeric.{mag, bits64}
-use Rattle.lerc_numeric.proofs.Sum.{weight, weight-fits, sum-same, sum-below, sum-above, sum-none, mag-lt, mag-eq}
+use Rattle.lerc_numeric.specs.Numeric.{mag}
+use Rattle.lerc_numeric.proofs.Magnitude.{weight-fits, mag-lt, mag-eq}
+use Rattle.lerc_numeric.proofs.Sums.{sum-same, sum-below, sum-above, sum-none}
 use borrow.Author.Needs.{needs}
 use Rattle.lerc_numeric.proofs.add.plus.Statement.{statement}
 use Rattle.lerc_numeric.proofs.add.plus.Tie as tie
@@ -41,37 +40,27 @@ add-result-4 c = record { fits = weight-fits _ _ _ (c .before .before .before .b
 returns : tie.Need-returns
 returns c =
     let k = c .before .before .before in
-    let a = k .args .a in
-    let b = k .args .b in
-    ap (λ (y : ℕ). weight a + y) (c .total .ensures ∙ ap (λ (y : ℕ). bits64 y) (add-comm (mag b) (mag a))) ∙ sym (sum-same a b (k .fits .a .fits) (k .fits .b .fits) (c .before .before .if1 .taken))
+    rw (c .total .ensures, add-comm (mag (k .args .b)) (mag (k .args .a))) (sum-same (k .args .a) (k .args .b) (k .fits .a .fits) (k .fits .b .fits) (c .before .before .if1 .taken))
 
 returns-2 : tie.Need-returns-2
 returns-2 c =
     let k = c .before .before .before in
-    let a = k .args .a in
-    let b = k .args .b in
-    ap (λ (y : ℕ). weight a + y) (c .total2 .ensures) ∙ sym (sum-same a b (k .fits .a .fits) (k .fits .b .fits) (c .before .before .if1 .taken))
+    rw (c .total2 .ensures) (sum-same (k .args .a) (k .args .b) (k .fits .a .fits) (k .fits .b .fits) (c .before .before .if1 .taken))
 
 returns-3 : tie.Need-returns-3
 returns-3 c =
     let k = c .before .before .before in
-    let a = k .args .a in
-    let b = k .args .b in
-    ap (λ (y : ℕ). weight b + y) (c .rest .ensures) ∙ sym (sum-below a b (k .fits .a .fits) (k .fits .b .fits) (c .before .before .if1 .left) (mag-lt a b (c .before .if3 .taken)))
+    rw (c .rest .ensures) (sum-below (k .args .a) (k .args .b) (k .fits .a .fits) (k .fits .b .fits) (c .before .before .if1 .left) (mag-lt (k .args .a) (k .args .b) (c .before .if3 .taken)))
 
 returns-4 : tie.Need-returns-4
 returns-4 c =
     let k = c .before .before .before .before in
-    let a = k .args .a in
-    let b = k .args .b in
-    ap (λ (y : ℕ). weight a + y) (c .rest2 .ensures) ∙ sym (sum-above a b (k .fits .a .fits) (k .fits .b .fits) (c .before .before .before .if1 .left) (mag-lt b a (c .before .if4 .taken)))
+    rw (c .rest2 .ensures) (sum-above (k .args .a) (k .args .b) (k .fits .a .fits) (k .fits .b .fits) (c .before .before .before .if1 .left) (mag-lt (k .args .b) (k .args .a) (c .before .if4 .taken)))
 
 returns-5 : tie.Need-returns-5
 returns-5 c =
     let k = c .before .before .before in
-    let a = k .args .a in
-    let b = k .args .b in
-    sym (sum-none a b (k .fits .a .fits) (k .fits .b .fits) (c .before .before .if1 .left) (mag-eq a b (omega arith)))
+    sum-none (k .args .a) (k .args .b) (k .fits .a .fits) (k .fits .b .fits) (c .before .before .if1 .left) (mag-eq (k .args .a) (k .args .b) (omega arith))
 
 pub plus-spec : {M : Type 1} → statement M
 plus-spec =

@@ -1,6 +1,5 @@
 use Rattle.lerc_numeric.specs.Numeric.{lesser}
-use mathlib.Core.Path.{_≡_, sym, ap, _∙_}
-use mathlib.Core.Bool.{Bool, cond}
+use mathlib.Core.Path.{sym, _∙_}
 use borrow.Author.Needs.{needs}
 use Rattle.lerc_numeric.proofs.order.minimum.Statement.{statement}
 use Rattle.lerc_numeric.proofs.order.minimum.Tie as tie

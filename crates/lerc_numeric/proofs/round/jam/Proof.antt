@@ -1,9 +1,8 @@
-use mathlib.Core.Path.{_≡_, sym, ap, _∙_}
-use Prim.Native.Nat.{_+_, _*_, _%_, _/_, _^_, _<_, _≤_, min}
+use mathlib.Core.Path.{sym, _∙_}
+use Prim.Native.Nat.{_%_, _^_, _<_}
 use native.Mathlib.Omega.{arith}
-use lib.Pow.{pow-pos}
-use Rattle.lerc_numeric.proofs.Shift.{unit, mask, quot-lt}
-use Rattle.lerc_numeric.proofs.Sum.{jam-wide, jam-none, jam-some}
+use Rattle.lerc_numeric.proofs.Jam.{jam-wide, jam-none, jam-some}
+use Rattle.lerc_numeric.proofs.Shift.{quot-lt}
 use borrow.Author.Needs.{needs}
 use Rattle.lerc_numeric.proofs.round.jam.Statement.{statement}
 use Rattle.lerc_numeric.proofs.round.jam.Tie as tie
@@ -17,32 +16,28 @@ returns-2 c = omega (arith, c .if2 .left, jam-wide (c .before .before .args .v) 
 shr-q : tie.Need-shr-q
 shr-q c = search needs
 
-shl-if3 : tie.Need-shl-if3
-shl-if3 c = search needs
-
-sub-if3 : tie.Need-sub-if3
-sub-if3 c = rw (unit (c .before .args .n) (c .if1 .left)) (pow-pos (c .before .args .n))
+low-requires : tie.Need-low-requires
+low-requires c κs = search needs
 
 sub-result : tie.Need-sub-result
 sub-result c = search needs
 
 add-result : tie.Need-add-result
 add-result c =
-    let v = c .before .before .args .v in
-    let n = c .before .before .args .n in
-    let p : 0 < v % 2 ^ n = omega (arith, rw (mask v n (c .before .if1 .left)) at (c .if3 .left)) in
-    record { fits = omega (arith, quot-lt v n p) }
+    let k = c .before .before .before in
+    let p : 0 < k .args .v % 2 ^ k .args .n = omega (arith, c .before .low .ensures, c .if3 .left) in
+    record { fits = omega (arith, quot-lt (k .args .v) (k .args .n) p) }
 
 returns-3 : tie.Need-returns-3
-returns-3 c = jam-none (c .before .before .args .v) (c .before .before .args .n) (rw (mask (c .before .before .args .v) (c .before .before .args .n) (c .before .if1 .left)) at (c .if3 .taken))
+returns-3 c = jam-none (c .before .before .before .args .v) (c .before .before .before .args .n) (sym (c .before .low .ensures) ∙ c .if3 .taken)
 
 returns-4 : tie.Need-returns-4
 returns-4 c =
-    let v = c .before .before .args .v in
-    let n = c .before .before .args .n in
-    jam-some v n (omega (arith, rw (mask v n (c .before .if1 .left)) at (c .if3 .left)))
+    let k = c .before .before .before in
+    let p : 0 < k .args .v % 2 ^ k .args .n = omega (arith, c .before .low .ensures, c .if3 .left) in
+    jam-some (k .args .v) (k .args .n) p
 
 pub jam-spec : {M : Type 1} → statement M
 jam-spec =
     tie.close
-    (tie.spec returns returns-2 shr-q shl-if3 sub-if3 sub-result add-result returns-3 returns-4)
+    (tie.spec returns returns-2 shr-q low-requires sub-result add-result returns-3 returns-4)

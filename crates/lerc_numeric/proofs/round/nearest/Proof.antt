@@ -1,11 +1,10 @@
-use mathlib.Core.Path.{_≡_, sym, _∙_}
-use Prim.Native.Nat.{_+_, _*_, _%_, _/_, _^_, _<_, _≤_}
-use borrow.Author.Needs.{needs}
+use Prim.Native.Nat.{_%_, _^_, _<_}
 use native.Mathlib.Omega.{arith}
-use native.Mathlib.Numerals.{add-one}
 use lib.Pow.{pow-pos}
+use Rattle.lerc_words.proofs.Laws.{unit}
 use Rattle.lerc_numeric.proofs.Closest.{near-down, near-up, near-tie}
-use Rattle.lerc_numeric.proofs.Shift.{unit, mask, low-lt, quot-lt}
+use Rattle.lerc_numeric.proofs.Shift.{low-lt, quot-lt}
+use borrow.Author.Needs.{needs}
 use Rattle.lerc_numeric.proofs.round.nearest.Statement.{statement}
 use Rattle.lerc_numeric.proofs.round.nearest.Tie as tie
 
@@ -15,45 +14,32 @@ shl-unit c = search needs
 shr-q : tie.Need-shr-q
 shr-q c = search needs
 
-sub-twice : tie.Need-sub-twice
-sub-twice c = rw (unit (c .args .d) (c .pre)) (pow-pos (c .args .d))
+low-requires : tie.Need-low-requires
+low-requires c κs = search needs
 
 mul-twice : tie.Need-mul-twice
-mul-twice c = record { fits = rw (mask (c .args .m) (c .args .d) (c .pre)) (omega (arith, low-lt (c .args .m) (c .args .d) (c .pre))) }
+mul-twice c = record { fits = omega (arith, low-lt (c .before .args .m) (c .before .args .d) (c .before .pre)) }
 
 add-result : tie.Need-add-result
 add-result c =
-    let m = c .before .before .args .m in
-    let d = c .before .before .args .d in
-    let h : 2 ^ d < m % 2 ^ d * 2 = rw (mask m d (c .before .before .pre), unit d (c .before .before .pre)) at (c .if2 .taken) in
-    record { fits = omega (arith, quot-lt m d (omega arith)) }
+    let k = c .before .before in
+    let p : 0 < k .before .args .m % 2 ^ k .before .args .d = omega (arith, k .low .ensures) in
+    record { fits = omega (arith, quot-lt (k .before .args .m) (k .before .args .d) p) }
 
 add-result-2 : tie.Need-add-result-2
 add-result-2 c =
-    let m = c .before .before .args .m in
-    let d = c .before .before .args .d in
-    let h : 2 ^ d ≤ m % 2 ^ d * 2 = rw (mask m d (c .before .before .pre), unit d (c .before .before .pre)) at (c .before .if1 .left) in
-    record { fits = omega (arith, pow-pos d, quot-lt m d (omega (arith, pow-pos d))) }
+    let k = c .before .before in
+    let p : 0 < k .before .args .m % 2 ^ k .before .args .d = omega (arith, k .low .ensures, unit (k .before .args .d) (k .before .pre), pow-pos (k .before .args .d)) in
+    record { fits = omega (arith, quot-lt (k .before .args .m) (k .before .args .d) p) }
 
 returns : tie.Need-returns
-returns c =
-    let m = c .before .args .m in
-    let d = c .before .args .d in
-    sym (near-down m (2 ^ d) (rw (mask m d (c .before .pre), unit d (c .before .pre)) at (c .if1 .taken)))
+returns c = near-down _ _ _ _ (c .before .low .ensures) (unit _ (c .before .before .pre)) (c .if1 .taken)
 
 returns-2 : tie.Need-returns-2
-returns-2 c =
-    let m = c .before .before .args .m in
-    let d = c .before .before .args .d in
-    add-one (m / 2 ^ d) ∙ sym (near-up m (2 ^ d) (rw (mask m d (c .before .before .pre), unit d (c .before .before .pre)) at (c .if2 .taken)))
+returns-2 c = near-up _ _ _ _ (c .before .before .low .ensures) (unit _ (c .before .before .before .pre)) (c .if2 .taken)
 
 returns-3 : tie.Need-returns-3
-returns-3 c =
-    let m = c .before .before .args .m in
-    let d = c .before .before .args .d in
-    sym (near-tie m (2 ^ d)
-    (rw (mask m d (c .before .before .pre), unit d (c .before .before .pre)) at (c .before .if1 .left))
-    (rw (mask m d (c .before .before .pre), unit d (c .before .before .pre)) at (c .if2 .left)))
+returns-3 c = near-tie _ _ _ _ (c .before .before .low .ensures) (unit _ (c .before .before .before .pre)) (c .before .if1 .left) (c .if2 .left)
 
 pub nearest-spec : {M : Type 1} → statement M
 nearest-spec =
@@ -61,7 +47,7 @@ nearest-spec =
     (tie.spec
     shl-unit
     shr-q
-    sub-twice
+    low-requires
     mul-twice
     add-result
     add-result-2

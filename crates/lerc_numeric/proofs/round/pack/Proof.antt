@@ -1,7 +1,6 @@
-use mathlib.Core.Path.{_≡_, sym, ap, _∙_}
-use Prim.Native.Nat.{_-_}
+use Prim.Native.Nat.{_+_, _-_, _≤_, _<_}
 use native.Mathlib.Omega.{arith}
-use Rattle.lerc_numeric.proofs.Bits.{pack-zero, digits-le, pack-fits, pack-cut, pack-cut-inf, fill-le, pack-low, pack-up, pack-up-inf}
+use Rattle.lerc_numeric.proofs.Bits.{pack-zero, digits-le, pack-fits, pack-cut, pack-cut-inf, fill-lt, pack-low, pack-up, pack-up-inf}
 use borrow.Author.Needs.{needs}
 use Rattle.lerc_numeric.proofs.round.pack.Statement.{statement}
 use Rattle.lerc_numeric.proofs.round.pack.Tie as tie
@@ -16,7 +15,7 @@ sub-d : tie.Need-sub-d
 sub-d c = search needs
 
 add-if3 : tie.Need-add-if3
-add-if3 c = record { fits = omega (arith, digits-le _ _ (c .before .digits .ensures) (c .before .before .before .fits .m .fits)) }
+add-if3 c = record { fits = omega (arith, digits-le _ (c .before .before .before .args .e) _ (c .before .digits .ensures) (c .before .before .before .fits .m .fits)) }
 
 add-result : tie.Need-add-result
 add-result c = search needs
@@ -25,10 +24,10 @@ mul-result : tie.Need-mul-result
 mul-result c = search needs
 
 nearest-requires : tie.Need-nearest-requires
-nearest-requires c κs = omega (arith, digits-le _ _ (c .before .before .digits .ensures) (c .before .before .before .before .fits .m .fits))
+nearest-requires c κs = omega (arith, digits-le _ (c .before .before .before .before .args .e) _ (c .before .before .digits .ensures) (c .before .before .before .before .fits .m .fits))
 
 add-result-2 : tie.Need-add-result-2
-add-result-2 c = record { fits = omega (arith, pack-fits _ _ _ (c .before .before .before .digits .ensures) (c .nearest .ensures)) }
+add-result-2 c = record { fits = omega (arith, pack-fits _ (c .before .before .before .before .before .args .e) _ (c .before .before .before .digits .ensures) _ (c .nearest .ensures)) }
 
 shl-result : tie.Need-shl-result
 shl-result c = search needs
@@ -46,22 +45,34 @@ shl-result-2 : tie.Need-shl-result-2
 shl-result-2 c = search needs
 
 add-result-3 : tie.Need-add-result-3
-add-result-3 c = record { fits = omega (arith, fill-le (c .before .before .before .before .before .args .m) (53 - c .before .before .before .digits .result) (c .before .before .before .digits .result) (c .before .before .before .digits .ensures) (omega arith)) }
+add-result-3 c =
+    let k = c .before .before .before in
+    record { fits = omega (arith, fill-lt _ (k .before .before .args .e) _ (k .digits .ensures) (53 - k .digits .result) (omega arith)) }
 
 returns-2 : tie.Need-returns-2
-returns-2 c = pack-cut-inf _ (c .before .before .before .before .args .e) _ (c .before .before .digits .ensures) (c .before .if2 .taken) (c .if3 .taken)
+returns-2 c =
+    let k = c .before .before in
+    let h : 2046 ≤ k .digits .result - 53 + k .before .before .args .e = omega arith in
+    pack-cut-inf _ _ _ (k .digits .ensures) (c .before .if2 .taken) h
 
 returns-3 : tie.Need-returns-3
-returns-3 c = pack-cut _ (c .before .before .before .before .before .args .e) _ _ (c .before .before .before .digits .ensures) (c .nearest .ensures) (c .before .before .if2 .taken) (c .before .if3 .left)
+returns-3 c =
+    let k = c .before .before .before in
+    let h : k .digits .result - 53 + k .before .before .args .e < 2046 = omega arith in
+    pack-cut _ _ _ (k .digits .ensures) _ (c .nearest .ensures) (c .before .before .if2 .taken) h
 
 returns-4 : tie.Need-returns-4
 returns-4 c = pack-low _ (c .before .before .before .before .args .e) _ (c .before .before .digits .ensures) (c .before .if2 .left) (c .if4 .taken)
 
 returns-5 : tie.Need-returns-5
-returns-5 c = pack-up-inf _ (c .before .before .before .before .before .args .e) _ (c .before .before .before .digits .ensures) (c .before .before .if2 .left) (c .before .if4 .left) (omega (arith, c .before .before .before .before .if1 .left)) (c .if5 .taken)
+returns-5 c =
+    let k = c .before .before .before in
+    pack-up-inf _ (k .before .before .args .e) _ (k .digits .ensures) (c .before .before .if2 .left) (c .before .if4 .left) (omega (arith, k .before .if1 .left)) (c .if5 .taken)
 
 returns-6 : tie.Need-returns-6
-returns-6 c = pack-up _ (c .before .before .before .before .before .args .e) _ (c .before .before .before .digits .ensures) (c .before .before .if2 .left) (c .before .if4 .left) (omega (arith, c .before .before .before .before .if1 .left)) (c .if5 .left)
+returns-6 c =
+    let k = c .before .before .before in
+    pack-up _ (k .before .before .args .e) _ (k .digits .ensures) (c .before .before .if2 .left) (c .before .if4 .left) (omega (arith, k .before .if1 .left)) (c .if5 .left)
 
 pub pack-spec : {M : Type 1} → statement M
 pack-spec =

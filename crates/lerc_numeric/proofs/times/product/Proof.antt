@@ -1,5 +1,5 @@
 use native.Mathlib.Omega.{arith}
-use Rattle.lerc_numeric.proofs.Product.{low-fits, high-lt, top-fits, product-none, product-some}
+use Rattle.lerc_numeric.proofs.Product.{low-fits, high-fits, top-fits, product-none, product-some}
 use borrow.Author.Needs.{needs}
 use Rattle.lerc_numeric.proofs.times.product.Statement.{statement}
 use Rattle.lerc_numeric.proofs.times.product.Tie as tie
@@ -17,7 +17,7 @@ shr-top : tie.Need-shr-top
 shr-top c = search needs
 
 mul-top : tie.Need-mul-top
-mul-top c = record { fits = high-lt _ _ (c .before .before .args .i) (c .before .before .pre .0) }
+mul-top c = record { fits = high-fits _ _ (c .before .before .args .i) _ (c .before .low .ensures) (c .before .before .pre .0) }
 
 shr-top-2 : tie.Need-shr-top-2
 shr-top-2 c = search needs
@@ -30,14 +30,19 @@ sub-result c = search needs
 
 add-result : tie.Need-add-result
 add-result c =
-    let h = top-fits _ _ (c .before .before .before .args .i) _ (c .before .before .low .ensures) (c .before .before .before .pre .0) in
+    let k = c .before .before in
+    let h = top-fits _ _ (k .before .args .i) _ (k .low .ensures) (k .before .pre .0) in
     record { fits = omega (arith, h) }
 
 returns : tie.Need-returns
-returns c = product-none _ _ (c .before .before .before .args .i) _ (c .before .before .low .ensures) _ (c .before .low2 .ensures) (c .if1 .taken)
+returns c =
+    let k = c .before .before in
+    product-none _ _ (k .before .args .i) _ (k .low .ensures) _ (c .before .low2 .ensures) (c .if1 .taken)
 
 returns-2 : tie.Need-returns-2
-returns-2 c = product-some _ _ (c .before .before .before .args .i) _ (c .before .before .low .ensures) _ (c .before .low2 .ensures) (c .if1 .left)
+returns-2 c =
+    let k = c .before .before in
+    product-some _ _ (k .before .args .i) _ (k .low .ensures) _ (c .before .low2 .ensures) (c .if1 .left)
 
 pub product-spec : {M : Type 1} → statement M
 product-spec =

@@ -4,7 +4,6 @@ use denote.Ref.{now}
 use Rattle.lerc_header.specs.declared.Extent.{Extent}
 use Rattle.lerc_header.specs.Header.{shapeOf}
 use Rattle.lerc_header.specs.Shape.{pixels, maskLength}
-use Rattle.lerc_planes.specs.Validity.{kept}
 use Rattle.lerc_planes.proofs.ValidityAnswers.{says-none, says-all, says-kept, says-runs}
 use Rattle.lerc_planes.proofs.validity.find.Statement.{statement}
 use Rattle.lerc_planes.proofs.validity.find.Tie as tie

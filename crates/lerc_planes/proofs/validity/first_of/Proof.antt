@@ -1,7 +1,8 @@
+use denote.Ref.{now}
+use lib.ListN.{length, length-take}
 use borrow.Author.Needs.{needs}
 use borrow.Author.Tests.{le-leb, lt-leb}
 use native.Mathlib.Omega.{arith}
-use lib.ListN.{length-take}
 use Rattle.lerc_planes.proofs.validity.first_of.Statement.{statement}
 use Rattle.lerc_planes.proofs.validity.first_of.Tie as tie
 
@@ -12,10 +13,10 @@ slice-aggregate-result-2 : tie.Need-slice-aggregate-result-2
 slice-aggregate-result-2 c = search needs
 
 returns : tie.Need-returns
-returns c = rw (le-leb _ _ (c .before .if1 .taken))
+returns c = let a = c .before .before .args in rw (le-leb (a .n) (length (now (a .s))) (omega arith))
 
 returns-2 : tie.Need-returns-2
-returns-2 c = rw (lt-leb _ _ (c .before .if1 .left))
+returns-2 c = let a = c .before .before .args in rw (lt-leb (a .n) (length (now (a .s))) (omega arith))
 
 pub first-of-spec : {M : Type 1} → statement M
 first-of-spec =

@@ -7,7 +7,6 @@ use Rattle.lerc_words.specs.Res.{ok, fail}
 use Rattle.lerc_header.specs.declared.Extent.{Extent}
 use Rattle.lerc_header.specs.Header.{held, heldSaid, heldRefused}
 use Rattle.lerc_header.proofs.Kept.{held-is, held-size}
-use Rattle.lerc_planes.specs.Validity.{kept}
 use Rattle.lerc_planes.proofs.ValidityAnswers.{refused, prepare-no, prepare-kept, prepare-spare, prepare-says}
 use Rattle.lerc_planes.proofs.validity.prepare_mask.Statement.{statement}
 use Rattle.lerc_planes.proofs.validity.prepare_mask.Tie as tie

@@ -7,7 +7,6 @@ use lib.ListN.{length, take, length-take}
 use Rattle.lerc_header.specs.declared.Extent.{Extent}
 use Rattle.lerc_header.specs.Header.{shapeOf}
 use Rattle.lerc_header.specs.Shape.{maskLength}
-use Rattle.lerc_planes.specs.Validity.{kept}
 use Rattle.lerc_planes.proofs.ValidityAnswers.{refused, reuses, kept-no, kept-count, kept-ok}
 use Rattle.lerc_planes.proofs.validity.take_kept.Statement.{statement}
 use Rattle.lerc_planes.proofs.validity.take_kept.Tie as tie

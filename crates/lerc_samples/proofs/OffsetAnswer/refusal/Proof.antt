@@ -1,5 +1,3 @@
-use mathlib.Core.Path.{_≡_, sym, ap}
-use Rattle.lerc_samples.specs.Samples.{offsetRefused}
 use borrow.Author.Needs.{needs}
 use Rattle.lerc_samples.proofs.OffsetAnswer.refusal.Statement.{statement}
 use Rattle.lerc_samples.proofs.OffsetAnswer.refusal.Tie as tie

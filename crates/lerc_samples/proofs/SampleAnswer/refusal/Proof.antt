@@ -1,5 +1,3 @@
-use mathlib.Core.Path.{_≡_, sym, ap}
-use Rattle.lerc_samples.specs.Samples.{sampleRefused}
 use borrow.Author.Needs.{needs}
 use Rattle.lerc_samples.proofs.SampleAnswer.refusal.Statement.{statement}
 use Rattle.lerc_samples.proofs.SampleAnswer.refusal.Tie as tie

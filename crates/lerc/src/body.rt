@@ -1,0 +1,68 @@
+// The body of a blob whose header and mask were accepted: all checking first, then writing that cannot fail.
+ghost use mathlib.Core.Path.{_≡_};
+ghost use lib.ListN.{length, take};
+ghost use Rattle.lerc_header.specs.Limits.{depthLimit};
+ghost use Rattle.lerc_header.specs.Header.{shapeOf};
+ghost use Rattle.lerc.specs.Meaning.{rawBody, constantBody};
+ghost use Rattle.lerc.specs.Parts.{Ready, LinearRead};
+use super::ReadAnswer;
+use super::linear;
+use lerc_header::Header;
+use lerc_header::Shape;
+use lerc_planes::ConstantsAnswer;
+use lerc_planes::Ranges;
+use lerc_words::Refusal;
+
+fn shape(h: Header) -> Shape
+    ensures { λ r. ⌜ r ≡ shapeOf h ⌝ }
+{
+    Shape {
+        rows: h.rows as usize,
+        columns: h.columns as usize,
+        depth: h.depth as usize,
+        side: h.side as usize,
+    }
+}
+
+// the minimum of each depth, stored: 9
+fn read_constant(blob: &[u8], h: Header, r: Ranges, mask: &[u8], image: &mut [u64]) -> ReadAnswer
+    requires { ⌜ (Ready (now blob) h (now mask) (now image)) × (length (r .min) ≡ depthLimit) ⌝ }
+    ensures { λ a. ⌜ LinearRead (constantBody h r) h (now (mask .entry)) a (now (image .entry)) (now (image .exit)) ⌝ }
+{
+    let low = r.min;
+    let got = lerc_planes::convert(low, h.depth, h.kind);
+    let answer = got.answer;
+    let ConstantsAnswer::Stored = answer else {
+        let why = answer.refusal();
+        return ReadAnswer::Refused(why);
+    };
+    let words = got.words;
+    let s = shape(h);
+    linear::write_constant(s, &words, mask, &mut image[..]);
+    ReadAnswer::Whole {
+        blocks: 0,
+        end: r.at,
+    }
+}
+
+// raw words, which must all fit: 1
+fn read_raw(blob: &[u8], h: Header, at: usize, mask: &[u8], image: &mut [u64]) -> ReadAnswer
+    requires { ⌜ Ready (now blob) h (now mask) (now image) ⌝ }
+    ensures { λ a. ⌜ LinearRead (rawBody (take (h .size) (now (blob .entry))) h at) h (now (mask .entry)) a (now (image .entry)) (now (image .exit)) ⌝ }
+{
+    let end = h.size as usize;
+    let size = lerc_numeric::size(h.kind);
+    let bytes = h.valid as usize * h.depth as usize * size;
+    if end < bytes {
+        return ReadAnswer::Refused(Refusal { number: 1 });
+    }
+    if end - bytes < at {
+        return ReadAnswer::Refused(Refusal { number: 1 });
+    }
+    let s = shape(h);
+    linear::write_raw(s, &blob[..end], at, size, mask, &mut image[..]);
+    ReadAnswer::Whole {
+        blocks: 0,
+        end: at + bytes,
+    }
+}

@@ -1,0 +1,56 @@
+-- A block that was read, put into the image.
+-- Assumes nothing.
+use mathlib.Core.Path.{_≡_, _∙_, sym, ap, refl}
+use mathlib.Core.List.{List}
+use Prim.Native.Nat.{ℕ, _≤_, _<_}
+use native.Mathlib.Omega.{arith}
+use lib.ListN.{length, drop}
+use borrow.Author.Tests.{le-leb}
+use Rattle.lerc_words.specs.declared.Refusal.{Refusal}
+use Rattle.lerc_words.specs.Res.{Res, ok, fail, _>>=_}
+use Rattle.lerc_words.specs.Lists.{over}
+use Rattle.lerc_words.proofs.Laws.{bind-is}
+use Rattle.lerc_header.specs.declared.Shape.{Shape}
+use Rattle.lerc_header.specs.Shape.{Shaped, blockCount}
+use Rattle.lerc_block.specs.declared.BlockAnswer.{BlockAnswer}
+use Rattle.lerc_block.specs.declared.BlockAnswer.the-variants as block
+use Rattle.lerc_block.specs.Block.{Block, tileLimit, blockSays, readBlockSays, blockSaid, BlockRead}
+use Rattle.lerc_image.specs.declared.FillAnswer.the-variants as answer
+use Rattle.lerc_image.specs.Geometry.{tileOf, tileValid}
+use Rattle.lerc_image.specs.Paint.{scattered, Scattered}
+use Rattle.lerc_image.specs.Fill.{BlockFilled, Filled}
+use Rattle.lerc_image.proofs.Front.{scattered-front}
+
+-- with at most 256 pixels reading a block is the block
+pub read-block : (s : List ℕ) (at kind error top x n : ℕ) → n ≤ tileLimit → readBlockSays s at kind error top x n ≡ blockSays s at kind error top x n
+unfolding readBlockSays
+read-block s at kind error top x n l = rw (le-leb n tileLimit l)
+
+-- an answer that only names another's refusal has it too
+pub bind-fail : {A B : Type 0} (m : Res A) (f : A → B) {r : Refusal} → (m >>= λ a. ok (f a)) ≡ fail r → m ≡ fail r
+bind-fail (ok a) f e = absurd (let z : _≡_ {A = ℕ} 0 1 = cc in omega arith)
+bind-fail (fail q) f e = cc
+
+module _ {b : Res Block} {got : BlockAnswer} {old new : List ℕ} (e : BlockRead b got old new) where
+  pub read-refused : {why : Refusal} → got ≡ block.Refused why → b ≡ fail why
+  read-refused q = bind-fail b (λ k. k .next) (sym (e .says) ∙ ap blockSaid q)
+
+  -- what was read, and the array that holds it
+  pub read-accepted : {next : ℕ} → got ≡ block.Block next → (k : Block) × (b ≡ ok k) × (k .next ≡ next) × (new ≡ over (k .words) old)
+  read-accepted q =
+      let (k, p, t) = bind-is b _ (sym (e .says) ∙ ap blockSaid q) in
+      (k, p, cc, rw (p) at (e .words))
+
+  pub fill-refused : (h : Shape) (m : List ℕ) (n : ℕ) {why : Refusal} {image : List ℕ} → got ≡ block.Refused why → BlockFilled h m n b (answer.Refused why) image image
+  fill-refused h m n q = rw (read-refused q) (record { says = refl; image = refl })
+
+  pub fill-accepted : (h : Shape) → Shaped h → (m : List ℕ) (n : ℕ) → n < blockCount h → {next r : ℕ} {image result : List ℕ}
+      → got ≡ block.Block next → ((k : Block) → b ≡ ok k → length (k .words) ≡ tileValid h m (tileOf h n)) → Scattered h n m new image r result
+      → BlockFilled h m n b (answer.Filled r) image result
+  fill-accepted h s m n l {image = image} q f w =
+      let (k, p, _, is) = read-accepted q in
+      rw (p)
+      (record {
+        says = ap ok (w .says);
+        image = w .image ∙ ap (λ (x : List ℕ). scattered h m n x image) is ∙ scattered-front h s m n l (k .words) (drop (length (k .words)) old) image (f k p);
+      })

@@ -1,0 +1,28 @@
+use native.Mathlib.Omega.{arith}
+use Rattle.lerc_image.proofs.Passes.{here-within, here-depth, here-asked, here-block}
+use borrow.Author.Needs.{needs}
+use Rattle.lerc_image.proofs.fill_at.Statement.{statement}
+use Rattle.lerc_image.proofs.fill_at.Tie as tie
+
+current-requires : tie.Need-current-requires
+current-requires c κs = let b = c .before .before .before .pre .0 in (b .shaped, here-within b)
+
+mul-t13 : tie.Need-mul-t13
+mul-t13 c = omega (arith, here-depth (c .before .before .before .before .pre .0) (c .current .ensures))
+
+element-copy-out-t16 : tie.Need-element-copy-out-t16
+element-copy-out-t16 c = omega (arith, here-depth (c .before .before .before .before .pre .0) (c .current .ensures))
+
+fill-tile-requires : tie.Need-fill-tile-requires
+fill-tile-requires c κs = let b = c .before .before .before .before .before .before .pre in here-asked (b .0) (c .before .before .current .ensures) (b .1)
+
+same-length : tie.Need-same-length
+same-length c = search needs
+
+returns : tie.Need-returns
+returns c = rw (here-block (c .before .before .before .before .before .before .before .before .before .pre .0) (c .before .before .before .before .before .current .ensures) _ _ _ _) at (c .before .before .fill-tile .ensures)
+
+pub fill-at-spec : {M : Type 1} → statement M
+fill-at-spec =
+    tie.close
+    (tie.spec current-requires mul-t13 element-copy-out-t16 fill-tile-requires same-length returns)

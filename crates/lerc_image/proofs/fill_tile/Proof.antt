@@ -1,0 +1,54 @@
+use mathlib.Core.Path.{_∙_, ap}
+use denote.Ref.{now}
+use Rattle.lerc_block.specs.Block.{blockRefused}
+use Rattle.lerc_block.proofs.Accepted.{block-words}
+use Rattle.lerc_image.specs.Geometry.{tileValid}
+use Rattle.lerc_image.proofs.Scattering.{asked-in}
+use Rattle.lerc_image.proofs.Reading.{fill-refused, fill-accepted}
+use borrow.Author.Needs.{needs}
+use Rattle.lerc_image.proofs.fill_tile.Statement.{statement}
+use Rattle.lerc_image.proofs.fill_tile.Tie as tie
+
+read-tile-requires : tie.Need-read-tile-requires
+read-tile-requires c κs = asked-in (c .before .before .before .before .pre)
+
+enum-known-got : tie.Need-enum-known-got
+enum-known-got c = search needs
+
+enum-told : tie.Need-enum-told
+enum-told c = search needs
+
+refusal-requires : tie.Need-refusal-requires
+refusal-requires c κs = search needs
+
+returns : tie.Need-returns
+returns c =
+    let told = c .before .enum-told .given .1 in
+    rw (c .refusal .ensures ∙ ap blockRefused told) (fill-refused (c .before .before .before .read-tile .ensures) _ _ _ told)
+
+scatter-requires : tie.Need-scatter-requires
+scatter-requires c κs = search needs
+
+same-length : tie.Need-same-length
+same-length c = search needs
+
+returns-2 : tie.Need-returns-2
+returns-2 c =
+    let g = c .before .before .before .before .before .before in
+    let b = g .before .before .before .before .before .before .before in
+    let a = b .pre in
+    fill-accepted (g .before .before .read-tile .ensures) (b .args .h) (a .shaped) (now (b .args .mask)) (b .args .number) (a .below) (g .got .given .1)
+    (λ k e. block-words _ _ _ _ _ _ _ e ∙ ap (tileValid (b .args .h) (now (b .args .mask))) (a .tile)) (c .before .before .scatter .ensures)
+
+pub fill-tile-spec : {M : Type 1} → statement M
+fill-tile-spec =
+    tie.close
+    (tie.spec
+    read-tile-requires
+    enum-known-got
+    enum-told
+    refusal-requires
+    returns
+    scatter-requires
+    same-length
+    returns-2)

@@ -1,0 +1,100 @@
+-- `walk`: each test's refusal by its law; behind the first two all is known by `ready`.
+-- Assumes nothing.
+use mathlib.Core.Path.{_≡_, _∙_, sym, ap}
+use native.Mathlib.Omega.{arith}
+use borrow.Author.Tests.{not-true, not-false}
+use denote.Ref.{now}
+use lib.ListN.{length, length-take}
+use Rattle.lerc_words.specs.Res.{ok}
+use Rattle.lerc_header.specs.Header.{held, heldSaid, heldRefused}
+use Rattle.lerc_planes.specs.Ranges.{pairsSaid, pairsRefused}
+use Rattle.lerc_image.proofs.Walks.{unheld, no-room, no-pairs, no-body, Ready, ready-asked, ready-room, ready-size, walked-body}
+use borrow.Author.Needs.{needs}
+use Rattle.lerc_image.proofs.walk.Statement.{statement}
+use Rattle.lerc_image.proofs.walk.Tie as tie
+
+kept : (c : tie.After-held2) →
+    let a = c .before .before .before .before .before .before .args in
+    held (a .h) (length (now (a .blob))) ≡ ok (c .held2 .given .0 .0)
+kept c = sym (c .before .before .held .ensures) ∙ ap heldSaid (c .held2 .given .1)
+
+ready : (c : tie.Else1) →
+    let k = c .before .before .before .before in
+    let a = k .before .before .before .before .before .before .args in
+    Ready (now (a .blob)) (a .h) (now (a .mask)) (now (a .list)) (k .held2 .given .0 .0)
+ready c = record { kept = kept (c .before .before .before .before); room = not-false _ (c .if1 .left) }
+
+held-requires : tie.Need-held-requires
+held-requires c κs = search needs
+
+enum-known-held : tie.Need-enum-known-held
+enum-known-held c = search needs
+
+enum-told : tie.Need-enum-told
+enum-told c = search needs
+
+refusal-requires : tie.Need-refusal-requires
+refusal-requires c κs = search needs
+
+returns : tie.Need-returns
+returns c =
+    let told = c .before .enum-told .given .1 in
+    rw (c .refusal .ensures ∙ ap heldRefused told) (unheld (sym (c .before .before .before .held .ensures) ∙ ap heldSaid told))
+
+returns-2 : tie.Need-returns-2
+returns-2 c = no-room (kept (c .before .before .before .before)) (not-true _ (c .if1 .taken))
+
+pairs-requires : tie.Need-pairs-requires
+pairs-requires c κs = search needs
+
+enum-told-2 : tie.Need-enum-told-2
+enum-told-2 c = search needs
+
+enum-told-3 : tie.Need-enum-told-3
+enum-told-3 c = search needs
+
+refusal-requires-2 : tie.Need-refusal-requires-2
+refusal-requires-2 c κs = search needs
+
+returns-3 : tie.Need-returns-3
+returns-3 c =
+    let told = c .before .enum-told3 .given .1 in
+    rw (c .refusal2 .ensures ∙ ap pairsRefused told) (no-pairs (ready (c .before .before .before .before)) _ (sym (c .before .before .before .pairs .ensures) ∙ ap pairsSaid told))
+
+returns-4 : tie.Need-returns-4
+returns-4 c = no-body (ready (c .before .before .before .before .before)) _ (sym (c .before .before .before .before .pairs .ensures) ∙ ap pairsSaid (c .before .before .enum-told2 .given .1)) (not-true _ (c .if2 .taken))
+
+slice-aggregate-walk-body : tie.Need-slice-aggregate-walk-body
+slice-aggregate-walk-body c = let l = ready-size (ready (c .before .before .before .before .before .before)) in simp length-take (omega (arith, l))
+
+walk-body-requires : tie.Need-walk-body-requires
+walk-body-requires c κs = let p = ready (c .before .before .before .before .before .before .before .before .before) in (ready-asked p, ready-room p)
+
+same-length : tie.Need-same-length
+same-length c = search needs
+
+returns-5 : tie.Need-returns-5
+returns-5 c =
+    let a = c .before .before .before .before .before .before .before .before .before .before .before in
+    walked-body (ready (a .before)) _ (sym (a .pairs .ensures) ∙ ap pairsSaid (c .before .before .before .before .before .before .before .before .before .enum-told2 .given .1)) (not-false _ (c .before .before .before .before .before .before .before .if2 .left)) (c .before .before .walk-body .ensures)
+
+pub walk-spec : {M : Type 1} → statement M
+walk-spec =
+    tie.close
+    (tie.spec
+    held-requires
+    enum-known-held
+    enum-told
+    refusal-requires
+    returns
+    returns-2
+    pairs-requires
+    enum-told-2
+    enum-told-3
+    refusal-requires-2
+    returns-3
+    returns-4
+    slice-aggregate-walk-body
+    walk-body-requires
+    same-length
+    returns-5)

@@ -1,0 +1,210 @@
+#!/usr/bin/env python3
+"""Writes the cases of lerc_numeric_cases, and what the program must write for them.
+
+    python3 tests/numeric/make.py            in the repository's root: writes crates/lerc_numeric_cases/{stdin,stdout}
+
+Nothing here is taken from the proofs. A magnitude is a whole number of units of 2^-1074. The bits of a sum or a product are
+found by bisection: the greatest word whose value does not pass the exact result, then the nearer of it and the next, the even
+one of two equally near. Where the operands are finite, the results are compared with those of the machine's own doubles.
+"""
+import random
+import struct
+
+random.seed(20261115)
+SIGN, INF, REFUSED = 1 << 63, 2047 << 52, None
+SIZES = [1, 1, 2, 2, 4, 4, 4, 8]
+OFFSETS = ['0---', '1---', '210-', '31--', '4321', '531-', '621-', '7642']
+
+
+def value(bits, digits):
+    """the value of bits without a sign, in units of the format's least value; no exponent is special"""
+    field, rest = bits >> (digits - 1), bits % (1 << (digits - 1))
+    return rest if field == 0 else ((1 << (digits - 1)) + rest) << (field - 1)
+
+
+def units(w):
+    return value(w % SIGN, 53)
+
+
+def nearest(n, digits, top, unit):
+    """the bits nearest to n / unit; `top` is infinity, and counts as the value that would come next"""
+    low, high = 0, top
+    while low < high:
+        middle = (low + high + 1) // 2
+        if value(middle, digits) * unit <= n:
+            low = middle
+        else:
+            high = middle - 1
+    if low == top:
+        return top
+    below, above = n - value(low, digits) * unit, value(low + 1, digits) * unit - n
+    return low + 1 if above < below or (above == below and low % 2 == 1) else low
+
+
+def signed(negative, n):
+    return (SIGN if negative else 0) + nearest(n, 53, INF, 1)
+
+
+def whole(w):
+    """the exact value, as a signed number of units"""
+    return -units(w) if w >= SIGN else units(w)
+
+
+def plus(a, b):
+    exact = whole(a) + whole(b)
+    both = a >= SIGN and b >= SIGN
+    return signed(exact < 0 or (exact == 0 and both), abs(exact))
+
+
+def scale(a, q):
+    return signed(a >= SIGN, 2 * q * units(a))
+
+
+def narrow(w):
+    sign = (w >> 63) << 31
+    if w % SIGN >= INF:
+        return sign + (255 << 23) + (w % (1 << 52) >> 29)
+    return sign + nearest(units(w), 24, 255 << 23, 1 << 925)
+
+
+def size(kind):
+    return SIZES[kind] if kind < 8 else 8
+
+
+def number(word, kind):
+    bits = 8 * size(kind)
+    v = word % (1 << bits)
+    if kind < 6:
+        n = v - (1 << bits) if kind % 2 == 0 and v >= 1 << (bits - 1) else v
+        return signed(n < 0, abs(n) << 1074)
+    if kind == 6:
+        sign, rest = v >> 31, v % (1 << 31)
+        if rest >= 255 << 23:
+            return (sign << 63) + INF + ((rest % (1 << 23)) << 29)
+        return signed(sign == 1, value(rest, 24) << 925)
+    return v
+
+
+def integer(w, kind):
+    if kind > 5 or w % SIGN >= INF:
+        return REFUSED
+    bits = 8 * size(kind)
+    cut = units(w) >> 1074
+    n = -cut if w >= SIGN else cut
+    low, high = (-(1 << (bits - 1)), (1 << (bits - 1)) - 1) if kind % 2 == 0 else (0, (1 << bits) - 1)
+    return n % (1 << bits) if low <= n <= high else REFUSED
+
+
+def stored(w, kind):
+    return integer(w, kind) if kind < 6 else narrow(w) if kind == 6 else w
+
+
+def offset(kind, code):
+    k = OFFSETS[kind][code] if kind < 8 and code < 4 else '-'
+    return REFUSED if k == '-' else int(k)
+
+
+def double(w):
+    return struct.unpack('<d', struct.pack('<Q', w))[0]
+
+
+def bits(x):
+    return struct.unpack('<Q', struct.pack('<d', x))[0]
+
+
+def single(x):
+    try:
+        return struct.unpack('<I', struct.pack('<f', x))[0]
+    except OverflowError:
+        return (255 << 23) + ((bits(x) >> 63) << 31)
+
+
+def check(a, b, q, kind):
+    """the machine's own arithmetic, where it says the same thing"""
+    if a % SIGN < INF:
+        assert bits(double(a) * float(2 * q)) == scale(a, q), (hex(a), q)
+        assert single(double(a)) == narrow(a), hex(a)
+        if b % SIGN < INF:
+            assert bits(double(a) + double(b)) == plus(a, b), (hex(a), hex(b))
+            assert (double(a) < double(b)) == (whole(a) < whole(b))
+    if kind < 6:
+        n = double(number(b, kind))
+        assert n == int(n) and integer(bits(n), kind) == b % (1 << 8 * size(kind))
+    if kind == 6 and b % (1 << 31) < 255 << 23:
+        assert double(number(b, kind)) == struct.unpack('<f', struct.pack('<I', b % (1 << 32)))[0]
+
+
+SPECIAL = [0, 1, 2, 3, (1 << 52) - 1, 1 << 52, (1 << 52) + 1, (2 << 52) - 1, 2 << 52, INF - 1, INF - 2, INF, INF + 1,
+           INF + (1 << 51), SIGN - 1, bits(1.0), bits(1.0) + 1, bits(2.0) - 1, bits(0.5), bits(3.0), bits(2.0 ** 53),
+           bits(2.0 ** 53) + 1, bits(2.0 ** 63), bits(2.0 ** 64), bits(2.0 ** 1023), bits(127.0), bits(127.99), bits(128.0),
+           bits(128.5), bits(128.99), bits(129.0), bits(255.0), bits(255.99), bits(256.0), bits(32767.5), bits(32768.0),
+           bits(32768.5), bits(65535.5), bits(65536.0), bits(2147483647.5), bits(2147483648.0), bits(2147483648.5),
+           bits(4294967295.5), bits(4294967296.0), 0x3ff0000010000000, 0x3ff0000030000000, 0x3ff0000010000001,
+           0x47efffffe0000000, 0x47efffffefffffff, 0x47effffff0000000, 0x36a0000000000000, 0x3690000000000000,
+           0x3690000000000001, 0x380fffffe0000000, 0x380ffffff0000000, 0x7fdfffffffffffff, 0x7c90000000000000,
+           0x7c8fffffffffffff]
+
+
+def word():
+    w = random.getrandbits(64)
+    return random.choice([
+        lambda: random.choice(SPECIAL) + random.choice([0, SIGN]),
+        lambda: w,
+        lambda: w % (1 << 52) + random.choice([0, SIGN]),                                 # subnormal
+        lambda: (w % SIGN) // (1 << 40) * (1 << 40),                                      # few digits: ties
+        lambda: w % (1 << 52) + (random.randrange(1010, 1060) << 52) + random.choice([0, SIGN]),
+        lambda: w % (1 << 52) + (random.randrange(2040, 2048) << 52) + random.choice([0, SIGN]),
+        lambda: bits(float(random.randrange(-40000, 40000)) / random.choice([1, 2, 4, 256])),
+        lambda: bits(float(random.randrange(-(1 << 33), 1 << 33)) / random.choice([1, 2, 3])),
+        lambda: w % (1 << 52) + (random.randrange(870, 900) << 52) + random.choice([0, SIGN]),  # around binary32's least
+        lambda: (w >> 63 << 63) + (random.randrange(870, 1160) << 52) + (w >> 29) % (1 << 23) * (1 << 29) + (1 << 28),
+    ])()
+
+
+def partner(a):
+    """an operand that makes the sum cancel, tie, carry or overflow"""
+    field = a % SIGN >> 52
+    near = min(2047, max(0, field + random.randrange(-56, 57)))
+    return random.choice([
+        word,
+        lambda: a ^ SIGN,
+        lambda: a,
+        lambda: (a ^ SIGN) ^ random.randrange(1, 16),
+        lambda: (near << 52) + random.choice([0, 1, (1 << 52) - 1, 1 << 51, 3 << 50, random.getrandbits(52)]) + random.choice([0, SIGN]),
+        lambda: (max(0, field - 53) << 52) + random.choice([0, 1, (1 << 52) - 1]) + random.choice([0, SIGN]),   # half a last digit
+    ])()
+
+
+def cases():
+    for a in SPECIAL:
+        for s in (0, SIGN):
+            for kind in range(9):
+                yield (a + s) % (1 << 64), random.choice(SPECIAL), random.choice([0, 1, 2, 3, 0xffffffff]), kind
+    for _ in range(1200):
+        a = word()
+        q = random.choice([random.randrange(0, 16), random.getrandbits(random.randrange(1, 33)), 0xffffffff, (1 << 32) - (1 << random.randrange(0, 20))])
+        yield a, partner(a), q, random.randrange(0, 9)
+
+
+def shown(x):
+    return 'r9' if x is REFUSED else '%x' % x
+
+
+def main():
+    data, lines = b'', []
+    for a, b, q, kind in cases():
+        check(a, b, q, kind)
+        data += struct.pack('<QQII', a, b, q, kind)
+        less, same = whole(a) < whole(b), a == b or whole(a) == whole(b) == 0
+        o = offset(kind, q % 5)
+        lines.append('%016x %016x %016x %x %x %x %08x %016x %x %s %s %s \n' % (
+            plus(a, b), scale(a, q), a if less else b, less, same, a % SIGN < INF, narrow(a), number(b, kind),
+            size(kind), shown(integer(a, kind)), shown(stored(a, kind)), 'r8' if o is REFUSED else '%x' % o))
+    assert len(lines) >= 2000 and len(data) <= 65536
+    folder = 'crates/lerc_numeric_cases/'
+    open(folder + 'stdin', 'wb').write(data)
+    open(folder + 'stdout', 'w').write(''.join(lines))
+    print(len(lines), 'cases')
+
+
+main()
