@@ -11,14 +11,17 @@ use borrow.Author.Tests.{le-leb, lt-leb, eq-eqb, ne-eqb}
 use Rattle.lerc_words.specs.declared.Refusal.{Refusal}
 use Rattle.lerc_words.specs.Res.{Res, ok, fail, _>>=_, refuse, after}
 use Rattle.lerc_words.specs.Lists.{over}
-use Rattle.lerc_words.proofs.Laws.{ok-is}
+use Rattle.lerc_words.proofs.Laws.{ok-is, bind-is}
 use Rattle.lerc_header.specs.declared.Header.{Header}
 use Rattle.lerc_header.specs.Header.{shapeOf, extentOf, held, headerSays}
 use Rattle.lerc_header.specs.Shape.{pixels, cells, maskLength, blockCount}
 use Rattle.lerc_header.proofs.Kept.{held-shaped}
 use Rattle.lerc_mask.specs.Mask.{validBelow}
 use Rattle.lerc_planes.specs.declared.Ranges.{Ranges}
-use Rattle.lerc_planes.specs.Ranges.{rangesSays}
+use Rattle.lerc_planes.specs.declared.RangesRead.{RangesRead}
+use Rattle.lerc_planes.specs.declared.RangesAnswer.the-variants as ranges
+use Rattle.lerc_planes.specs.Ranges.{rangesSays, readRangesSays, rangesSaid, constantWords}
+use Rattle.lerc_block.specs.Block.{rawWords}
 use Rattle.lerc_image.specs.declared.WalkAnswer.{WalkAnswer}
 use Rattle.lerc_image.specs.declared.WalkAnswer.the-variants as walk
 use Rattle.lerc_image.specs.Geometry.{isValidCell}
@@ -30,7 +33,7 @@ use Rattle.lerc_image.specs.Tiles.{tilesSays, tilesImage, Tiled}
 use Rattle.lerc_image.proofs.Chain.{chain-lengths}
 use Rattle.lerc.specs.declared.ReadAnswer.{ReadAnswer}
 use Rattle.lerc.specs.declared.ReadAnswer.the-variants as answer
-use Rattle.lerc.specs.Meaning.{Body, empty, constant, raw, blocks, rawBody, blockBody, constantBody, bodyFrom, bodySays, cellWord, startsOf, meaningFrom}
+use Rattle.lerc.specs.Meaning.{Body, empty, constant, raw, blocks, rawBody, blockBody, constantBody, bodyFrom, sweptBody, bodySays, cellWord, startsOf, meaningFrom}
 use Rattle.lerc_planes.specs.Validity.{InForce, bytesOf, maskSays, spareWith}
 use Rattle.lerc.specs.Read.{Lent, room, Masked, masked, readSays, published, refusedAfter, Whole, readSaid, WholeRead}
 use Rattle.lerc.specs.Parts.{Ready, LinearRead, BodyRead, bodyCount, bodyImage}
@@ -93,18 +96,22 @@ pick-no false x y e = refl
 module _ (s : List ℕ) (h : Header) (m : List ℕ) {list list' image image' : List ℕ} {r : ReadAnswer} where
   -- the body is what follows the ranges
   pub after-ranges : (k : Ranges) → (h .valid ≡ 0 → ⊥) → rangesSays s h ≡ ok k
-      → BodyRead (cond (k .constant) (constantBody h k) (swept s (h .kind) (h .error) (k .at) >>= bodyFrom s h k m)) h m r list list' image image'
+      → BodyRead (cond (k .constant) (constantBody h k) (sweptBody s h k m)) h m r list list' image image'
       → BodyRead (bodySays s h m) h m r list list' image image'
   unfolding bodySays
   after-ranges k v e t = rw (ne-eqb (h .valid) 0 v, e) t
 
   pub after-constant : (k : Ranges) → k .constant ≡ true → BodyRead (constantBody h k) h m r list list' image image'
-      → BodyRead (cond (k .constant) (constantBody h k) (swept s (h .kind) (h .error) (k .at) >>= bodyFrom s h k m)) h m r list list' image image'
-  after-constant k e t = rw (pick-yes (k .constant) (constantBody h k) (swept s (h .kind) (h .error) (k .at) >>= bodyFrom s h k m) e) t
+      → BodyRead (cond (k .constant) (constantBody h k) (sweptBody s h k m)) h m r list list' image image'
+  after-constant k e t = rw (pick-yes (k .constant) (constantBody h k) (sweptBody s h k m) e) t
 
-  pub after-sweep : (k : Ranges) (w : Way) → k .constant ≡ false → swept s (h .kind) (h .error) (k .at) ≡ ok w → BodyRead (bodyFrom s h k m w) h m r list list' image image'
-      → BodyRead (cond (k .constant) (constantBody h k) (swept s (h .kind) (h .error) (k .at) >>= bodyFrom s h k m)) h m r list list' image image'
-  after-sweep k w e d t = rw (pick-no (k .constant) (constantBody h k) (swept s (h .kind) (h .error) (k .at) >>= bodyFrom s h k m) e, d) t
+  pub after-other : (k : Ranges) → k .constant ≡ false → BodyRead (sweptBody s h k m) h m r list list' image image'
+      → BodyRead (cond (k .constant) (constantBody h k) (sweptBody s h k m)) h m r list list' image image'
+  after-other k e t = rw (pick-no (k .constant) (constantBody h k) (sweptBody s h k m) e) t
+
+  pub swept-to : (k : Ranges) (w : Way) → swept s (h .kind) (h .error) (k .at) ≡ ok w → BodyRead (bodyFrom s h k m w) h m r list list' image image' → BodyRead (sweptBody s h k m) h m r list list' image image'
+  unfolding sweptBody
+  swept-to k w d t = rw (d) t
 
 module _ {y : Res Body} {h : Header} {m list image : List ℕ} where
   -- a refusal leaves list and image
@@ -116,9 +123,9 @@ module _ (s : List ℕ) (h : Header) (m list image : List ℕ) where
   unfolding bodySays
   ranges-no v e = rw (ne-eqb (h .valid) 0 v, e)
 
-  pub sweep-no : (k : Ranges) {why : Refusal} → (h .valid ≡ 0 → ⊥) → rangesSays s h ≡ ok k → k .constant ≡ false → swept s (h .kind) (h .error) (k .at) ≡ fail why → bodySays s h m ≡ fail why
-  unfolding bodySays
-  sweep-no k v e d f = rw (ne-eqb (h .valid) 0 v, e, d, f)
+  pub sweep-no : (k : Ranges) {why : Refusal} → swept s (h .kind) (h .error) (k .at) ≡ fail why → sweptBody s h k m ≡ fail why
+  unfolding sweptBody
+  sweep-no k f = rw (f)
 
   -- no valid pixel: nothing is read and nothing is written
   pub body-empty : {b : List ℕ} → Ready b h m image → h .valid ≡ 0 → BodyRead (bodySays s h m) h m (answer.Whole 0 70) list list image image
@@ -130,6 +137,31 @@ module _ (s : List ℕ) (h : Header) (m list image : List ℕ) where
         list = refl;
         image = image-empty (shapeOf h) m image (cellWord h m empty) (held-shaped h (length b) (p .header) .depth .0) (p .counts ∙ v);
       })
+
+-- ---- no starts
+
+pub constant-starts : (h : Header) (k : Ranges) (b : Body) → constantBody h k ≡ ok b → startsOf b ≡ []
+unfolding constantBody
+constant-starts h k b e = let (ws, p, q) = bind-is (constantWords (h .depth) (h .kind) (k .min)) _ e in rw (← ok-is q)
+
+pub raw-starts : (s : List ℕ) (h : Header) (at : ℕ) (b : Body) → rawBody s h at ≡ ok b → startsOf b ≡ []
+unfolding rawBody
+raw-starts s h at b e = let (w, p, q) = bind-is (rawWords s at (h .kind) (h .valid * h .depth)) _ e in rw (← ok-is q)
+
+-- ---- the ranges that the code has
+
+pub ranges-read : (x : Res Ranges) {g : RangesRead} → g ≡ rangesSaid x → g .answer ≡ ranges.Read → x ≡ ok (g .ranges)
+ranges-read (ok r) e d = ap ok (sym (ap (λ (y : RangesRead). y .ranges) e))
+ranges-read (fail why) {g} e d = absurd (let f : g .answer ≡ ranges.Refused why = ap (λ (y : RangesRead). y .answer) e in let z : _≡_ {A = ℕ} 0 1 = cc in omega arith)
+
+pub ranges-refused : (x : Res Ranges) {g : RangesRead} {why : Refusal} → g ≡ rangesSaid x → g .answer ≡ ranges.Refused why → x ≡ fail why
+ranges-refused (ok r) {g} e d = absurd (let f : g .answer ≡ ranges.Read = ap (λ (y : RangesRead). y .answer) e in let z : _≡_ {A = ℕ} 0 1 = cc in omega arith)
+ranges-refused (fail r) {g} e d = let f : g .answer ≡ ranges.Refused r = ap (λ (y : RangesRead). y .answer) e in cc
+
+-- a held header's ranges are those of the slice
+pub ranges-held : (b : List ℕ) (h : Header) → held h (length b) ≡ ok (extentOf h) → readRangesSays b h ≡ rangesSays (take (h .size) b) h
+unfolding readRangesSays
+ranges-held b h e = rw (e)
 
 -- ---- the whole read
 

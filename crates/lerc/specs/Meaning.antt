@@ -40,6 +40,12 @@ abbrev pub bodyFrom : List ℕ → Header → Ranges → List ℕ → Way → Re
 bodyFrom s h r m (rawFrom at) = rawBody s h at
 bodyFrom s h r m (blocksFrom at) = blockBody s h (r .max) m at
 
+-- "Else a sweep byte": the body that it announces
+unfoldable pub sweptBody : List ℕ → Header → Ranges → List ℕ → Res Body
+sweptBody s h r m = do
+  way ← swept s (h .kind) (h .error) (r .at)
+  bodyFrom s h r m way
+
 -- "A constant body writes the minimum of each depth."
 unfoldable pub constantBody : Header → Ranges → Res Body
 constantBody h r = do
@@ -52,7 +58,7 @@ bodySays s h m =
     cond (eqb (h .valid) 0) (ok empty)
     ((do
       r ← rangesSays s h
-      cond (r .constant) (constantBody h r) (swept s (h .kind) (h .error) (r .at) >>= bodyFrom s h r m)))
+      cond (r .constant) (constantBody h r) (sweptBody s h r m)))
 
 -- "the end is 70" for an empty body
 abbrev pub endOf : Body → ℕ

@@ -14,3 +14,4 @@ pub mod Chain
 pub mod Passes
 pub mod Filling
 pub mod Walks
+pub mod Decoding

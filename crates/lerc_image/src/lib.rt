@@ -19,8 +19,10 @@ use lerc_planes::PairsAnswer;
 use lerc_planes::Ranges;
 use lerc_words::Refusal;
 
+mod decode;
 mod sweep;
 
+pub use decode::decode_tiles;
 pub use sweep::WayAnswer;
 pub use sweep::read_sweep;
 

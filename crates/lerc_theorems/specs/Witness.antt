@@ -24,7 +24,7 @@ use Rattle.lerc_image.specs.Paint.{painted, indexOf}
 use Rattle.lerc_image.specs.Sweep.{modeAt, moded, swept}
 use Rattle.lerc_image.specs.Blocks.{blockAt, chain}
 use Rattle.lerc_image.specs.Fill.{fillSays}
-use Rattle.lerc.specs.Meaning.{rawBody, blockBody, constantBody, bodySays, cellWord, meaningFrom}
+use Rattle.lerc.specs.Meaning.{rawBody, blockBody, sweptBody, constantBody, bodySays, cellWord, meaningFrom}
 use Rattle.lerc.specs.Read.{Lent, room, masked, readSays, published, refusedAfter, readAfter, Whole, readCount}
 
 -- x as n bytes, the lowest first
@@ -112,6 +112,8 @@ bodies =
     ∷ shown (row 8 0 ten twelve [] [])
     -- tiles of one pixel: one offset, zeros, raw words
     ∷ shown (row 1 3 ten twelve [] (0x0A ∷ 0x0C ∷ 0x00 ∷ 0x00 ∷ 0x03 ∷ 0x0B ∷ 0x02 ∷ 0x00 ∷ 0x0C ∷ []))
+    -- a block refused behind an accepted mask: only the spare changes
+    ∷ shown (row 8 3 ten twelve [] (0x0A ∷ 0x0C ∷ 0x00 ∷ 0x00 ∷ 0x05 ∷ []))
     ∷ []
 
 -- ---- a call for each number
@@ -150,11 +152,12 @@ pub witnesses :
     ∷ gives 0 70 (255 ∷ []) (7 ∷ 7 ∷ 7 ∷ []) (10 ∷ 10 ∷ 10 ∷ 7 ∷ [])
     ∷ gives 0 70 (0 ∷ []) (7 ∷ 7 ∷ 7 ∷ []) (7 ∷ 7 ∷ 7 ∷ 7 ∷ [])
     ∷ gives 3 79 (255 ∷ []) (74 ∷ 76 ∷ 77 ∷ []) (11 ∷ 0 ∷ 12 ∷ 7 ∷ [])
+    ∷ record { said = fail (refuse 8); left = record { kept = 7 ∷ []; spare = 255 ∷ 7 ∷ []; list = 7 ∷ 7 ∷ 7 ∷ []; image = replicate 4 7 } }
     ∷ [])
     × (numbers ≡ 1 ∷ 2 ∷ 3 ∷ 4 ∷ 5 ∷ 6 ∷ 7 ∷ 8 ∷ 9 ∷ 10 ∷ 11 ∷ 0 ∷ [])
 unfolding wordAt little each from count allTo mag code sum scaled less same lesser integer valueOf whole cut sampleAt stored offsetKinds offsetKind
     counts plan tabled unpacked valuesOf lookedUp digits chosen pixelValid copyAt repeatAt endAt signedAt stepAt runs coded strips errorRight pairRight fieldsRight withinCeilings
     held keyRight headerOf headerSays uniform kept unrolled maskSays uniformRanges numberAt byDepth codedRanges pairsRight rangesSays constantWords rawWords
     levelBlock stepValue steppedBlock offsetBlock formed blockSays tileOf pixelOf blockOf placeIn rank isValidCell painted indexOf blockAt chain modeAt moded
-    swept rawBody blockBody constantBody bodySays cellWord meaningFrom room masked readSays published refusedAfter size span climb readRangesSays fillSays
+    swept rawBody blockBody sweptBody constantBody bodySays cellWord meaningFrom room masked readSays published refusedAfter size span climb readRangesSays fillSays
 witnesses = (refl, refl)

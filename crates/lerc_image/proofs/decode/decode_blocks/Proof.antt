@@ -1,0 +1,57 @@
+use mathlib.Core.Path.{_≡_, _∙_, sym, ap}
+use native.Mathlib.Omega.{arith}
+use denote.Ref.{now}
+use lib.ListN.{length}
+use borrow.Author.Needs.{needs}
+use Rattle.lerc_image.specs.Walk.{BodyListed}
+use Rattle.lerc_image.proofs.Decoding.{tiled-no, tiled-ok}
+use Rattle.lerc_image.proofs.decode.decode_blocks.Statement.{statement}
+use Rattle.lerc_image.proofs.decode.decode_blocks.Tie as tie
+
+walk-blocks-requires : tie.Need-walk-blocks-requires
+walk-blocks-requires c κs = search needs
+
+enum-known-walked : tie.Need-enum-known-walked
+enum-known-walked c = search needs
+
+enum-told : tie.Need-enum-told
+enum-told c = search needs
+
+same-length : tie.Need-same-length
+same-length c = search needs
+
+returns : tie.Need-returns
+returns c =
+    let told = c .enum-told .given .1 in
+    rw (told) (tiled-no _ (rw (told) at (c .before .before .before .before .walk-blocks .ensures)))
+
+fill-listed-requires : tie.Need-fill-listed-requires
+fill-listed-requires c κs =
+    let s = c .before .before .before .before .before .before .before .before .before .before .before .before .before in
+    (s .pre .0, omega (arith, s .pre .1, c .before .before .before .before .before .before .list .given), s .pre .2)
+
+same-length-2 : tie.Need-same-length-2
+same-length-2 c = search needs
+
+same-length-3 : tie.Need-same-length-3
+same-length-3 c = search needs
+
+returns-2 : tie.Need-returns-2
+returns-2 c =
+    let s = c .before .before .before .before .before .before .before .before .before .before .before .before .before .before .before .before in
+    let told = c .before .before .before .before .before .before .walked .given .1 in
+    tiled-ok _ (s .pre .0) _ _ _ _ _ (rw (told) at (c .before .before .before .before .before .before .before .before .before .before .walk-blocks .ensures)) (c .before .before .fill-listed .ensures)
+
+pub decode-blocks-spec : {M : Type 1} → statement M
+decode-blocks-spec =
+    tie.close
+    (tie.spec
+    walk-blocks-requires
+    enum-known-walked
+    enum-told
+    same-length
+    returns
+    fill-listed-requires
+    same-length-2
+    same-length-3
+    returns-2)
