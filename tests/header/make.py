@@ -3,7 +3,7 @@
 
     python3 tests/header/make.py            in the repository's root: writes crates/lerc_header_cases/{stdin,stdout}
 
-Written from document 01 alone, over whole numbers: a binary64 is its bits, and two finite ones are compared by sign and
+Written from the rules alone, over whole numbers: a binary64 is its bits, and two finite ones are compared by sign and
 magnitude. A record is its size (4 bytes), another length (4 bytes) and a blob. Its line says what the header reader answers,
 then what follows from the fields by value beside a slice of the other length, then the ranges read with these fields.
 """

@@ -117,7 +117,7 @@ fn read_swept(
 }
 
 // the body: empty, constant, raw or in blocks
-pub fn read_body(
+pub(crate) fn read_body(
     blob: &[u8],
     h: Header,
     mask: &[u8],

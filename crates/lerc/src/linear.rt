@@ -25,7 +25,7 @@ fn put_constant(words: &[u64; DEPTHS], depth: usize, base: usize, image: &mut [u
 }
 
 // every valid pixel of a constant body
-pub fn write_constant(h: Shape, words: &[u64; DEPTHS], mask: &[u8], image: &mut [u64])
+pub(crate) fn write_constant(h: Shape, words: &[u64; DEPTHS], mask: &[u8], image: &mut [u64])
     requires { ⌜ Shaped h × (cells h ≤ length (now image)) ⌝ }
     ensures { λ r. ⌜ now (image .exit) ≡ painted (now (image .entry)) (isValidCell h (now (mask .entry))) (depthWord h (now (words .entry))) ⌝ }
 {
@@ -56,7 +56,7 @@ fn put_raw(s: &[u8], at: usize, size: usize, depth: usize, base: usize, image: &
 }
 
 // every valid pixel of a raw body
-pub fn write_raw(h: Shape, s: &[u8], at: usize, size: usize, mask: &[u8], image: &mut [u64])
+pub(crate) fn write_raw(h: Shape, s: &[u8], at: usize, size: usize, mask: &[u8], image: &mut [u64])
     requires { ⌜ RawAsked h (now s) at size (now mask) (now image) ⌝ }
     ensures { λ r. ⌜ now (image .exit) ≡ painted (now (image .entry)) (isValidCell h (now (mask .entry))) (rawWord (now (s .entry)) at size h (now (mask .entry))) ⌝ }
 {
