@@ -2,3 +2,4 @@ pub mod Pixels
 pub mod Bodies
 pub mod Answers
 pub mod Whole
+pub mod Masked

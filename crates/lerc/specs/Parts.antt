@@ -10,6 +10,9 @@ use Rattle.lerc_header.specs.declared.Header.{Header}
 use Rattle.lerc_header.specs.Header.{shapeOf, extentOf, held}
 use Rattle.lerc_header.specs.Shape.{pixels, cells, blockCount, maskLength}
 use Rattle.lerc_mask.specs.Mask.{validBelow}
+use Rattle.lerc_planes.specs.declared.MaskAnswer.{MaskAnswer}
+use Rattle.lerc_planes.specs.declared.MaskAnswer.the-variants as mask
+use Rattle.lerc_planes.specs.Validity.{inForce}
 use Rattle.lerc_image.specs.Geometry.{isValidCell}
 use Rattle.lerc_image.specs.Paint.{painted}
 use Rattle.lerc.specs.declared.ReadAnswer.{ReadAnswer}
@@ -39,3 +42,20 @@ pub record BodyRead (y : Res Body) (h : Header) (m : List ℕ) (r : ReadAnswer) 
   pub says : readSaid r ≡ (y >>= bodyCount)
   pub list : new-list ≡ after y old-list (λ b. over (startsOf b) old-list)
   pub image : new-image ≡ after y old-image (bodyImage h m old-image)
+
+-- ---- behind an accepted mask
+
+-- a new mask lies within both slices
+abbrev pub Fits : MaskAnswer → List ℕ → List ℕ → Type 0
+Fits said kept spare = (n : ℕ) → said ≡ mask.Spare n → (n ≤ length kept) × (n ≤ length spare)
+
+-- header, mask and room; the mask is the part that the answer names
+pub record Behind (b : List ℕ) (h : Header) (said : MaskAnswer) (kept spare list image : List ℕ) : Type 0 where
+  pub ready : Ready b h (inForce said kept spare) image
+  pub blocks : blockCount (shapeOf h) ≤ length list
+  pub fits : Fits said kept spare
+
+-- the body's answer, list and image; the kept mask changes only on acceptance
+pub record KeptRead (y : Res Body) (h : Header) (m : List ℕ) (r : ReadAnswer) (old-kept new-kept old-list new-list old-image new-image : List ℕ) : Type 0 where
+  pub body : BodyRead y h m r old-list new-list old-image new-image
+  pub kept : new-kept ≡ after y old-kept (λ _. over m old-kept)
