@@ -15,7 +15,7 @@ use Rattle.lerc_bits.specs.declared.PlanAnswer.{PlanAnswer}
 use Rattle.lerc_bits.specs.declared.PlanAnswer.the-variants as found
 use Rattle.lerc_bits.specs.declared.CountsAnswer.{CountsAnswer}
 use Rattle.lerc_bits.specs.declared.CountsAnswer.the-variants as answer
-use Rattle.lerc_bits.specs.Bits.{countBytes, plainPlan, tablePlan, fits, tabled, plan, planSaid, planRefused, run, chosen, allBelow, lookedUp, valuesOf, unpacked, Counts, counts, Span, countsSaid, countsRefused, Decoded}
+use Rattle.lerc_bits.specs.Bits.{countBytes, plainPlan, tablePlan, fits, tabled, plan, planSaid, planRefused, run, chosen, allBelow, lookedUp, valuesOf, unpacked, Counts, counts, Span, spanned, countsSaid, countsRefused, Decoded}
 
 -- ---- plans
 
@@ -133,6 +133,15 @@ given values n e l d = rw (e, d) (record { says = rw (l); left = rw (l) })
 ok-inj : {x y : Span} → _≡_ {A = Res Span} (ok x) (ok y) → x ≡ y
 ok-inj e = cc
 
+-- ---- the promise of check
+
+pub uncounted : {m : Res Counts} {r : Refusal} → m ≡ fail r → countsSaid (answer.Refused r) ≡ spanned m
+uncounted e = rw e
+
+pub counted : {m : Res Counts} (values : List ℕ) (n : ℕ) {next : ℕ} → m ≡ ok (record { values = values; next = next }) → length values ≡ n
+    → countsSaid (answer.Counts n next) ≡ spanned m
+counted values n e l = rw (e, l)
+
 -- ---- what an answer that was taken apart says
 
 pub inspect-ok : (s : List ℕ) (at : ℕ) {r : PlanAnswer} {p : Plan} → planSaid r ≡ plan s at → r ≡ found.Plan p → plan s at ≡ ok p
@@ -148,21 +157,30 @@ pub record Given (m : Res Counts) (n next : ℕ) (old new : List ℕ) : Type 0 w
   pub many : length values ≡ n
   pub left : new ≡ over values old
 
+pub check-ok : (m : Res Counts) {r : CountsAnswer} {n next : ℕ} → countsSaid r ≡ spanned m → r ≡ answer.Counts n next
+    → (c : Counts) × (m ≡ ok c) × (length (c .values) ≡ n) × (c .next ≡ next)
+check-ok (ok c) e d =
+    let p = ok-inj (sym (ap countsSaid d) ∙ e) in
+    (c, refl, sym (ap (λ (z : Span). z .n) p), sym (ap (λ (z : Span). z .next) p))
+check-ok (fail q) e d = absurd (let f = ap countsSaid d in let z : _≡_ {A = ℕ} 0 1 = cc in omega arith)
+
+pub check-no : (m : Res Counts) {r : CountsAnswer} {q why : Refusal} → countsSaid r ≡ spanned m → r ≡ answer.Refused q → why ≡ countsRefused r → m ≡ fail why
+check-no (ok c) e d f = absurd (let g = ap countsSaid d in let z : _≡_ {A = ℕ} 0 1 = cc in omega arith)
+check-no (fail w) {r} {q} {why} e d f =
+    let a : q ≡ w = cc (e, ap countsSaid d) in
+    let b : why ≡ q = f ∙ ap countsRefused d in
+    ap fail (sym (b ∙ a))
+
 pub decode-ok : (m : Res Counts) {r : CountsAnswer} {n next : ℕ} {old new : List ℕ} → Decoded m r old new → r ≡ answer.Counts n next → Given m n next old new
-decode-ok (ok c) {r} {n} {next} g d =
-    let p = ok-inj (sym (ap countsSaid d) ∙ g .says) in
-    let x : n ≡ length (c .values) = ap (λ (z : Span). z .n) p in
-    let y : next ≡ c .next = ap (λ (z : Span). z .next) p in
-    record { values = c .values; reads = rw (y); many = sym x; left = g .left }
-decode-ok (fail q) g d = absurd (let e = ap countsSaid d in let z : _≡_ {A = ℕ} 0 1 = cc (g .says) in omega arith)
+decode-ok m g d =
+    let (c, e, l, x) = check-ok m (g .says) d in
+    record { values = c .values; reads = e ∙ ap (λ (z : ℕ). ok (record { values = c .values; next = z })) x; many = l; left = rw (e) at (g .left) }
 
 pub decode-no : (m : Res Counts) {r : CountsAnswer} {q why : Refusal} {old new : List ℕ} → Decoded m r old new → r ≡ answer.Refused q → why ≡ countsRefused r
     → (m ≡ fail why) × (new ≡ old)
-decode-no (ok c) g d f = absurd (let e = ap countsSaid d in let z : _≡_ {A = ℕ} 0 1 = cc (g .says) in omega arith)
-decode-no (fail w) {r} {q} {why} g d f =
-    let a : q ≡ w = cc (g .says, ap countsSaid d) in
-    let b : why ≡ q = f ∙ ap countsRefused d in
-    (ap fail (sym (b ∙ a)), g .left)
+decode-no m g d f =
+    let e = check-no m (g .says) d f in
+    (e, rw (e) at (g .left))
 
 -- ---- two outcomes that a promise allows coincide
 

@@ -130,6 +130,9 @@ pub record Span : Type 0 where
 abbrev pub span : Counts → Res Span
 span c = ok (record { n = length (c .values); next = c .next })
 
+abbrev pub spanned : Res Counts → Res Span
+spanned m = m >>= span
+
 abbrev pub countsSaid : CountsAnswer → Res Span
 countsSaid (answer.Counts n next) = ok (record { n = n; next = next })
 countsSaid (answer.Refused r) = fail r
@@ -142,7 +145,7 @@ countsRefused (answer.Refused r) = r
 -- the values stand in front, and the entries behind them keep what they held;
 -- a refusal "leaves every lent slice unchanged"
 pub record Decoded (m : Res Counts) (r : CountsAnswer) (old new : List ℕ) : Type 0 where
-  pub says : countsSaid r ≡ (m >>= span)
+  pub says : countsSaid r ≡ spanned m
   pub left : new ≡ after m old (λ c. over (c .values) old)
 
 -- what every plan keeps to, in a slice of `len` bytes

@@ -8,6 +8,10 @@ ghost use Rattle.lerc_bits.specs.Bits.{runBytes, indexWidth, plainPlan, 
 use lerc_words::Refusal;
 use lerc_words::WordAnswer;
 
+mod checks;
+
+pub use checks::check;
+
 // where packed counts stand: n values, or n indices into a table of `entries` values
 pub struct Plan {
     pub n: usize,

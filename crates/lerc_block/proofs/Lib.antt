@@ -4,3 +4,5 @@ pub mod Steps
 pub mod Accepted
 pub mod Finish
 pub mod Numbers
+pub mod Fitting
+pub mod Spared

@@ -82,11 +82,15 @@ abbrev pub blockSaid : BlockAnswer → Res ℕ
 blockSaid (answer.Block next) = ok next
 blockSaid (answer.Refused r) = fail r
 
+-- where the next block begins
+abbrev pub nextBlock : Res Block → Res ℕ
+nextBlock m = m >>= λ b. ok (b .next)
+
 abbrev pub blockRefused : BlockAnswer → Refusal
 blockRefused (answer.Block next) = refuse 0
 blockRefused (answer.Refused r) = r
 
 -- the words stand in front; a refusal leaves the array
 pub record BlockRead (m : Res Block) (r : BlockAnswer) (old new : List ℕ) : Type 0 where
-  pub says : blockSaid r ≡ (m >>= λ b. ok (b .next))
+  pub says : blockSaid r ≡ nextBlock m
   pub words : new ≡ after m old (λ b. over (b .words) old)

@@ -1,3 +1,4 @@
 pub mod Block
 pub mod Steps
 pub mod End
+pub mod Check

@@ -10,7 +10,7 @@ use lerc_samples::OffsetAnswer;
 use lerc_words::Refusal;
 use lerc_words::WordAnswer;
 
-fn raw_end(s: &[u8], at: usize, kind: u32, n: usize) -> BlockAnswer
+pub(crate) fn raw_end(s: &[u8], at: usize, kind: u32, n: usize) -> BlockAnswer
     requires { ⌜ at ≤ length (now s) ⌝ }
     ensures { λ r. ⌜ blockSaid r ≡ rawEnd (now (s .entry)) at kind n ⌝ }
 {

@@ -15,8 +15,10 @@ use lerc_samples::StoredAnswer;
 use lerc_words::Refusal;
 use lerc_words::WordAnswer;
 
+mod checks;
 mod ends;
 
+pub use checks::check_block;
 pub use ends::block_end;
 
 // Where the next block begins.

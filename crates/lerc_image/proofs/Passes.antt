@@ -21,7 +21,7 @@ use Rattle.lerc_header.specs.Header.{shapeOf}
 use Rattle.lerc_header.proofs.Sizes.{blocks-le}
 use Rattle.lerc_block.specs.declared.BlockAnswer.{BlockAnswer}
 use Rattle.lerc_block.specs.declared.BlockAnswer.the-variants as block
-use Rattle.lerc_block.specs.Block.{Block, BlockRead, blockSaid, blockSays}
+use Rattle.lerc_block.specs.Block.{Block, blockSaid, blockSays, nextBlock}
 use Rattle.lerc_block.specs.End.{endSays}
 use Rattle.lerc_block.proofs.Finish.{end-is}
 use Rattle.lerc_image.specs.declared.Tile.{Tile}
@@ -33,7 +33,7 @@ use Rattle.lerc_image.specs.Walk.{Listed}
 use Rattle.lerc_image.proofs.Partition.{tile-depth}
 use Rattle.lerc_image.proofs.Steps.{position-first, position-next, position-within, tile-here}
 use Rattle.lerc_image.proofs.Cursors.{tile-in}
-use Rattle.lerc_image.proofs.Reading.{read-accepted}
+use Rattle.lerc_image.proofs.Reading.{said-accepted}
 use Rattle.lerc_image.proofs.Chain.{longer, chain-none, chain-on, chain-ends, chain-stops, chain-lengths, chain-first, chain-block}
 
 -- ---- a block at its position
@@ -119,9 +119,9 @@ module _ {s : List ℕ} {h : Header} {maxima m : List ℕ} {at : ℕ} {e : Exten
         record { stands = standing-next (w .stands) l; done = longer (w .done) b; is = rw (add-one) (chain-on s h maxima m n at (w .done) b (w .is) (rw (w .end) q)); end = z }
 
     -- it is accepted
-    pub walking-next : {got : BlockAnswer} {old new : List ℕ} {to : ℕ} → BlockRead (blockAt s h maxima m n next) got old new → got ≡ block.Block to
+    pub walking-next : {got : BlockAnswer} {to : ℕ} → blockSaid got ≡ nextBlock (blockAt s h maxima m n next) → got ≡ block.Block to
         → Walking s h maxima m at e (nextOf (e .shape) p) (n + 1) to
-    walking-next r q = let (b, f, z, _) = read-accepted r q in walking-on b f z
+    walking-next r q = let (b, f, z) = said-accepted r q in walking-on b f z
 
 -- ---- the second pass: the list of starts
 

@@ -14,7 +14,7 @@ use Rattle.lerc_header.specs.declared.Shape.{Shape}
 use Rattle.lerc_header.specs.Shape.{Shaped, blockCount}
 use Rattle.lerc_block.specs.declared.BlockAnswer.{BlockAnswer}
 use Rattle.lerc_block.specs.declared.BlockAnswer.the-variants as block
-use Rattle.lerc_block.specs.Block.{Block, tileLimit, blockSays, readBlockSays, blockSaid, BlockRead}
+use Rattle.lerc_block.specs.Block.{Block, tileLimit, blockSays, readBlockSays, blockSaid, nextBlock, BlockRead}
 use Rattle.lerc_image.specs.declared.FillAnswer.the-variants as answer
 use Rattle.lerc_image.specs.Geometry.{tileOf, tileValid}
 use Rattle.lerc_image.specs.Paint.{scattered, Scattered}
@@ -31,24 +31,30 @@ pub bind-fail : {A B : Type 0} (m : Res A) (f : A → B) {r : Refusal} → (m >>
 bind-fail (ok a) f e = absurd (let z : _≡_ {A = ℕ} 0 1 = cc in omega arith)
 bind-fail (fail q) f e = cc
 
-module _ {b : Res Block} {got : BlockAnswer} {old new : List ℕ} (e : BlockRead b got old new) where
-  pub read-refused : {why : Refusal} → got ≡ block.Refused why → b ≡ fail why
-  read-refused q = bind-fail b (λ k. k .next) (sym (e .says) ∙ ap blockSaid q)
+module _ {b : Res Block} {got : BlockAnswer} (e : blockSaid got ≡ nextBlock b) where
+  pub said-refused : {why : Refusal} → got ≡ block.Refused why → b ≡ fail why
+  said-refused q = bind-fail b (λ k. k .next) (sym e ∙ ap blockSaid q)
 
+  pub said-accepted : {next : ℕ} → got ≡ block.Block next → (k : Block) × (b ≡ ok k) × (k .next ≡ next)
+  said-accepted q =
+      let (k, p, t) = bind-is b _ (sym e ∙ ap blockSaid q) in
+      (k, p, cc)
+
+module _ {b : Res Block} {got : BlockAnswer} {old new : List ℕ} (e : BlockRead b got old new) where
   -- what was read, and the array that holds it
-  pub read-accepted : {next : ℕ} → got ≡ block.Block next → (k : Block) × (b ≡ ok k) × (k .next ≡ next) × (new ≡ over (k .words) old)
+  pub read-accepted : {next : ℕ} → got ≡ block.Block next → (k : Block) × (b ≡ ok k) × (new ≡ over (k .words) old)
   read-accepted q =
-      let (k, p, t) = bind-is b _ (sym (e .says) ∙ ap blockSaid q) in
-      (k, p, cc, rw (p) at (e .words))
+      let (k, p, _) = said-accepted (e .says) q in
+      (k, p, rw (p) at (e .words))
 
   pub fill-refused : (h : Shape) (m : List ℕ) (n : ℕ) {why : Refusal} {image : List ℕ} → got ≡ block.Refused why → BlockFilled h m n b (answer.Refused why) image image
-  fill-refused h m n q = rw (read-refused q) (record { says = refl; image = refl })
+  fill-refused h m n {why} q = let r : b ≡ fail why = said-refused (e .says) q in rw (r) (record { says = refl; image = refl })
 
   pub fill-accepted : (h : Shape) → Shaped h → (m : List ℕ) (n : ℕ) → n < blockCount h → {next r : ℕ} {image result : List ℕ}
       → got ≡ block.Block next → ((k : Block) → b ≡ ok k → length (k .words) ≡ tileValid h m (tileOf h n)) → Scattered h n m new image r result
       → BlockFilled h m n b (answer.Filled r) image result
   fill-accepted h s m n l {image = image} q f w =
-      let (k, p, _, is) = read-accepted q in
+      let (k, p, is) = read-accepted q in
       rw (p)
       (record {
         says = ap ok (w .says);

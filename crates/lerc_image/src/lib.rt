@@ -8,7 +8,7 @@ ghost use Rattle.lerc_image.specs.Paint.{Asked, Scattered};
 ghost use Rattle.lerc_image.specs.Fill.{BlockFilled, FillAsked, Filled, fillRefused};
 ghost use Rattle.lerc_image.specs.Blocks.{BlockHere, BodyAsked, blockAt, chainEnd, allBlocks};
 ghost use Rattle.lerc_image.specs.Walk.{Walked, BodyListed, Listed, bodyWalked, walkRefused};
-ghost use Rattle.lerc_block.specs.Block.{BlockRead, blockSaid, blockSays};
+ghost use Rattle.lerc_block.specs.Block.{BlockRead, blockSaid, blockSays, nextBlock};
 use lerc_block::BlockAnswer;
 use lerc_header::DEPTHS;
 use lerc_header::Extent;
@@ -355,8 +355,8 @@ pub fn fill(
     fill_number(blob, h, e, &ranges.max, mask, list, number, &mut image[..])
 }
 
-// Block n at a place, where p is its position.
-fn read_at(
+// Block n at a place, where p is its position, as it is judged: where the next begins.
+fn check_at(
     s: &[u8],
     at: usize,
     h: Header,
@@ -365,22 +365,18 @@ fn read_at(
     p: Position,
     maxima: &[u64; DEPTHS],
     mask: &[u8],
-    words: &mut [u64; 256],
 ) -> BlockAnswer
     requires { ⌜ BlockHere h shape n p ⌝ }
-    ensures { λ r. ⌜ BlockRead (blockAt (now (s .entry)) h (now (maxima .entry)) (now (mask .entry)) n at) r (now (words .entry)) (now (words .exit)) ⌝ }
+    ensures { λ r. ⌜ blockSaid r ≡ nextBlock (blockAt (now (s .entry)) h (now (maxima .entry)) (now (mask .entry)) n at) ⌝ }
 {
     let t = p.current(shape);
     let plane = t.d;
-    let c = Coding {
-        kind: h.kind,
-        error: h.error,
-        maximum: maxima[plane],
-    };
-    read_tile(s, at, c, shape, t, mask, words)
+    let top = maxima[plane];
+    let valid = count_valid(shape, t, mask);
+    lerc_block::check_block(s, at, h.kind, h.error, top, t.x, valid)
 }
 
-// Every block, values included: where the last one ends.
+// Every block, judged with its values: where the last one ends.
 fn check_blocks(
     s: &[u8],
     at: usize,
@@ -393,12 +389,11 @@ fn check_blocks(
     ensures { λ r. ⌜ blockSaid r ≡ chainEnd (now (s .entry)) h (now (maxima .entry)) (now (mask .entry)) (e .blocks) 0 at ⌝ }
 {
     let shape = e.shape;
-    let mut words = [0u64; 256];
     let mut p = Position::start();
     let mut n: usize = 0;
     let mut next = at;
     while n < e.blocks {
-        let got = read_at(s, next, h, shape, n, p, maxima, mask, &mut words);
+        let got = check_at(s, next, h, shape, n, p, maxima, mask);
         let BlockAnswer::Block(end) = got else {
             return got;
         };

@@ -1,5 +1,5 @@
--- What can be stored: a sample that was read comes back, every stored word fits its kind, and a step of a block fits a kind of
--- integers wherever the block's maximum does.
+-- What can be stored: a sample that was read comes back, every stored word fits its kind, so does a block's offset, and so does
+-- a step from it wherever the block's maximum does.
 -- Assumes nothing.
 use mathlib.Core.Path.{_≡_, refl, sym, _∙_}
 use mathlib.Core.Bool.{Bool, true, false, not, cond, _&&_, _||_}
@@ -108,16 +108,16 @@ table : allTo 6 (λ kind. allTo 4 (λ code. fitting kind code)) ≡ true
 unfolding allTo fitting narrower offsetKinds
 table = refl
 
--- so a step of a block of integers, from any offset that the table allows, fits wherever the maximum does
+-- so any offset that the table allows can be stored
 split : (a b : Bool) → (a && b) ≡ true → (a ≡ true) × (b ≡ true)
 split true true e = (refl, refl)
 split true false e = absurd (let z : _≡_ {A = ℕ} 0 1 = cc in omega arith)
 split false b e = absurd (let z : _≡_ {A = ℕ} 0 1 = cc in omega arith)
 
-pub record Narrower (k kind : ℕ) : Type 0 where
-  pub integers : k < 6
-  pub low : bound k true ≤ bound kind true
-  pub high : bound k false ≤ bound kind false
+record Narrower (k kind : ℕ) : Type 0 where
+  integers : k < 6
+  low : bound k true ≤ bound kind true
+  high : bound k false ≤ bound kind false
 
 narrower-is : (k kind : ℕ) → narrower k kind ≡ true → Narrower k kind
 unfolding narrower
@@ -135,7 +135,7 @@ code-lt kind code k h e = go (decLt code 4)
         let f = offset-code-past kind code (omega arith) (omega arith) in
         absurd (let z : _≡_ {A = ℕ} 0 1 = cc in omega arith)
 
-pub offset-narrower : (kind code k : ℕ) → kind < 6 → offsetKind kind code ≡ ok k → Narrower k kind
+offset-narrower : (kind code k : ℕ) → kind < 6 → offsetKind kind code ≡ ok k → Narrower k kind
 unfolding offsetKind fitting
 offset-narrower kind code k hk e =
     let hc = code-lt kind code k hk e in
@@ -147,9 +147,11 @@ offset-narrower kind code k hk e =
     let n : narrower x kind ≡ true = rw (l) at t in
     rw (← z) (narrower-is x kind n)
 
-pub step-storable : (kind code k w error q maximum : ℕ) → kind < 6 → offsetKind kind code ≡ ok k → Storable kind maximum → negative error ≡ false
-    → Storable kind (lesser (sum (valueOf k w) (scaled error q)) maximum)
-step-storable kind code k w error q maximum hk e sm en =
-    let n = offset-narrower kind code k hk e in
-    storable-clamped kind (valueOf k w) error q maximum
-    (held-storable kind (valueOf k w) (held-wider k kind (valueOf k w) hk (n .low) (n .high) (value-held k w (n .integers)))) sm en
+pub offset-storable : (kind code k w : ℕ) → offsetKind kind code ≡ ok k → Storable kind (valueOf k w)
+offset-storable kind code k w e = go (decLt kind 6)
+  where
+    go : Dec (kind < 6) → Storable kind (valueOf k w)
+    go (yes h) =
+        let n = offset-narrower kind code k h e in
+        held-storable kind (valueOf k w) (held-wider k kind (valueOf k w) h (n .low) (n .high) (value-held k w (n .integers)))
+    go (no h) = storable-float kind (valueOf k w) (omega arith)

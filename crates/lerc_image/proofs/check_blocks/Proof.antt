@@ -2,17 +2,17 @@ use mathlib.Core.Path.{_≡_, _∙_, sym, ap}
 use Prim.Native.Nat.{_-_}
 use native.Mathlib.Omega.{arith}
 use Rattle.lerc_block.specs.Block.{blockSaid}
-use Rattle.lerc_image.proofs.Reading.{read-refused}
+use Rattle.lerc_image.proofs.Reading.{said-refused}
 use Rattle.lerc_image.proofs.Passes.{standing-here, standing-within, standing-few, Walking, walking-none, walking-all, walking-no, walking-next}
 use borrow.Author.Needs.{needs}
 use Rattle.lerc_image.proofs.check_blocks.Statement.{statement}
 use Rattle.lerc_image.proofs.check_blocks.Tie as tie
 
 abbrev Inv-loop : tie.InvT-loop
-Inv-loop s at h e maxima mask shape words₀ p₀ n₀ next₀ words p n next = Walking s h maxima mask at e p n next
+Inv-loop s at h e maxima mask shape p₀ n₀ next₀ p n next = Walking s h maxima mask at e p n next
 
 abbrev μ-loop : tie.MeasureT-loop
-μ-loop s at h e maxima mask shape words₀ p₀ n₀ next₀ words p n next = e .blocks - n
+μ-loop s at h e maxima mask shape p₀ n₀ next₀ p n next = e .blocks - n
 
 start-requires : tie.Need-start-requires Inv-loop μ-loop
 start-requires c κs = search needs
@@ -20,8 +20,8 @@ start-requires c κs = search needs
 loop-holds : tie.Need-loop-holds Inv-loop μ-loop
 loop-holds c = rw (c .start .ensures) (walking-none _ _ _ _ (c .before .before .before .before .pre))
 
-read-at-requires : tie.Need-read-at-requires Inv-loop μ-loop
-read-at-requires c κs = standing-here (c .before .before .before .loop .inv .stands) (c .before .if1 .taken)
+check-at-requires : tie.Need-check-at-requires Inv-loop μ-loop
+check-at-requires c κs = standing-here (c .before .before .loop .inv .stands) (c .if1 .taken)
 
 enum-known-got : tie.Need-enum-known-got Inv-loop μ-loop
 enum-known-got c = search needs
@@ -32,19 +32,19 @@ enum-told c = search needs
 returns : tie.Need-returns Inv-loop μ-loop
 returns c =
     let told = c .enum-told .given .1 in
-    ap blockSaid told ∙ sym (walking-no (c .before .before .before .before .before .before .loop .inv) (c .before .before .before .before .if1 .taken) (read-refused (c .before .before .read-at .ensures) told))
+    ap blockSaid told ∙ sym (walking-no (c .before .before .before .before .before .loop .inv) (c .before .before .before .if1 .taken) (said-refused (c .before .before .check-at .ensures) told))
 
 advance-requires : tie.Need-advance-requires Inv-loop μ-loop
-advance-requires c κs = let w = c .before .before .before .before .before .before .before .loop .inv .stands in (w .asked .shaped, standing-within w (c .before .before .before .before .before .if1 .taken))
+advance-requires c κs = let w = c .before .before .before .before .before .before .loop .inv .stands in (w .asked .shaped, standing-within w (c .before .before .before .before .if1 .taken))
 
 add-n : tie.Need-add-n Inv-loop μ-loop
-add-n c = omega (arith, standing-few (c .before .before .before .before .before .before .before .before .loop .inv .stands) (c .before .before .before .before .before .before .if1 .taken))
+add-n c = omega (arith, standing-few (c .before .before .before .before .before .before .before .loop .inv .stands) (c .before .before .before .before .before .if1 .taken))
 
 loop-less : tie.Need-loop-less Inv-loop μ-loop
 loop-less c = search needs
 
 loop-again : tie.Need-loop-again Inv-loop μ-loop
-loop-again c = rw (c .advance .ensures) (walking-next (c .before .before .before .before .before .before .before .before .loop .inv) (c .before .before .before .before .before .before .if1 .taken) (c .before .before .before .before .read-at .ensures) (c .before .before .got .given .1))
+loop-again c = rw (c .advance .ensures) (walking-next (c .before .before .before .before .before .before .before .loop .inv) (c .before .before .before .before .before .if1 .taken) (c .before .before .before .before .check-at .ensures) (c .before .before .got .given .1))
 
 returns-2 : tie.Need-returns-2 Inv-loop μ-loop
 returns-2 c = sym (walking-all (c .before .before .loop .inv) (c .if1 .left))
@@ -57,7 +57,7 @@ check-blocks-spec =
     μ-loop
     start-requires
     loop-holds
-    read-at-requires
+    check-at-requires
     enum-known-got
     enum-told
     returns

@@ -1,0 +1,46 @@
+// Whether packed counts are accepted, without their values.
+ghost use mathlib.Core.Path.{_≡_};
+ghost use Prim.Native.Nat.{_≤_};
+ghost use lib.ListN.{length};
+ghost use Rattle.lerc_bits.specs.Bits.{unpacked, counts, spanned, countsSaid, Kept};
+use super::CountsAnswer;
+use super::Plan;
+use super::PlanAnswer;
+use super::all_below;
+use super::inspect;
+use super::unpack;
+use lerc_words::Refusal;
+
+// a table's values are not looked at, only the indices: none may be too large
+fn check_table(s: &[u8], p: Plan) -> CountsAnswer
+    requires { ⌜ Kept (length (now s)) p × (1 ≤ p .entries) ⌝ }
+    ensures { λ r. ⌜ countsSaid r ≡ spanned (unpacked (now (s .entry)) p) ⌝ }
+{
+    let mut index = [0u32; 256];
+    unpack(s, p.at, p.n, p.width, &mut index);
+    if all_below(&index, p.n, p.entries) {
+        return CountsAnswer::Counts {
+            n: p.n,
+            next: p.next,
+        };
+    }
+    CountsAnswer::Refused(Refusal { number: 8 })
+}
+
+// what `decode` answers, without the values
+pub fn check(s: &[u8], start: usize) -> CountsAnswer
+    ensures { λ r. ⌜ countsSaid r ≡ spanned (counts (now (s .entry)) start) ⌝ }
+{
+    let a = inspect(s, start);
+    let PlanAnswer::Plan(p) = a else {
+        let why = a.refusal();
+        return CountsAnswer::Refused(why);
+    };
+    if p.entries == 0 {
+        return CountsAnswer::Counts {
+            n: p.n,
+            next: p.next,
+        };
+    }
+    check_table(s, p)
+}
