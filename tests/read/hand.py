@@ -1,0 +1,362 @@
+"""Blobs by hand and what the rules say of them, the sentence of the rules beside each."""
+import struct
+
+import blobs
+from blobs import changed, made
+
+VERSION = 'key or version differs'
+CEILING = 'a ceiling is passed'
+MODE = 'kinds 0 and 1 with error exactly 0.5 have a mode byte: 1, 2 refused 10'
+FRONT = 'reading goes front to back and the first failing read decides the number'
+FIELD = 'a field, number or packed run passes the declared size'
+FIT = 'depth minima then depth maxima in the blob\'s kind, all of which must fit (1) before a number is judged'
+RUN = 'each run ends on a byte, and its whole length must fit (1) before its content is judged'
+SHORT = 'the slice is shorter than the declared size or than 70'
+RULE = 'a header field breaks its rule'
+ORDER = 'order: slice under 70 gives 1; then 2; then 3; then ceilings (4); then slice shorter than size: 1'
+ROOM = 'room is judged right after the header\'s refusals, for every slice an entry is lent, the list included, whatever the body'
+MASK = 'any breach is 6'
+ENDS = '-32768 ends, exactly at the section\'s end and after exactly the mask length'
+PAIR = 'a range number not finite, or maximum less than minimum'
+SWEEP = 'a sweep byte: 1 is raw words; 0 goes on; others are 8'
+CHECK = '(flag/4)%16 must equal (x/8)%16'
+TABLE = 'offset kinds, as one table by kind and flag/64, "-" is 8'
+OFFSET = 'a non-finite offset is 8'
+COUNTS = 'counts must number the tile\'s valid pixels, else 8'
+PACKED = 'h/64 = 3 is 8; n above 256 is 8'
+ENTRIES = 'set: bits 0 is, once n has been read, 8; one byte entries, under 2 is 8; an index at or above entries is 8'
+VALUE = 'kinds 0 to 5 cut toward zero and refuse outside the range'
+SPARE = 'where the mask section was accepted and no mask was reused, the spare holds the new mask'
+
+P7 = bytes.fromhex('0200A0400080')
+THREE = b'\xA0\x40'
+WHOLE = bytes.fromhex('0A0C0000010A820324')
+BLOCK = bytes.fromhex('0A0C00010A820324')
+INF, NAN, SIGN = 2047 << 52, (2047 << 52) + 1, 1 << 63
+
+
+def hexed(text):
+    return bytes.fromhex(text.replace(' ', ''))
+
+
+def u32(v):
+    return struct.pack('<I', v)
+
+
+def u64(v):
+    return struct.pack('<Q', v)
+
+
+def room(h):
+    """slices with room, some of them more than enough; for a header past any room, small ones"""
+    mask, blocks, cells = blobs.needs(h) if h['side'] else (9, 9, 9)
+    if cells > 4096 or mask > 4096 or blocks > 4096:
+        mask, blocks, cells = 9, 9, 40
+    return dict(lent_kept=mask + 2, lent_spare=mask + 4, lent_list=blocks + 1, lent_image=cells + 3)
+
+
+def no(name, blob, number, note, spare=b'', before=b'', reuse=False, **lent):
+    """a refusal: the kept mask, the list and the image as before"""
+    slices = dict(room(blobs.header(blob)), **lent)
+    return dict(name=name, blob=blob, number=number, note=note, spare=spare, before=before, kept=before, reuse=reuse, lent=slices)
+
+
+def pairs(kind, low, high):
+    """one depth's range"""
+    return struct.pack('<2' + blobs.CODES[kind], low, high)
+
+
+# --- accepted ---------------------------------------------------------------------------------------------------------------------
+
+
+def constants():
+    """low = high, and the word it becomes"""
+    cut = 'storing: kinds 0 to 5 cut toward zero; 6 rounds to binary32, too large becoming infinity; 7 keeps the bits'
+    for kind, value, word in ((0, 127.99, 127), (0, -128.99, 128), (0, -0.99, 0), (1, 255.99, 255), (1, -0.99, 0), (2, 32767.9, 32767),
+                              (2, -32768.9, 32768), (3, 65535.9, 65535), (4, 2147483647.9, 2147483647), (4, -2147483648.9, 1 << 31),
+                              (5, 4294967295.9, 4294967295), (6, 1e300, 0x7F800000), (6, -1e300, 0xFF800000),
+                              (6, 0x3FF0000010000000, 0x3F800000), (7, 0x3FF0000010000000, 0x3FF0000010000000), (7, SIGN, SIGN)):
+        yield 'constant-%d-%s' % (kind, value), made(b'', kind=kind, low=value, high=value), [word] * 3, cut
+    masked = made(b'', columns=10, valid=3, mask=P7, low=7.5, high=7.5)
+    yield 'constant-masked', masked, [7] * 10, 'a constant body writes the minimum of each depth'
+    zeros = made(b'', kind=7, low=0, high=SIGN)
+    yield 'constant-zeros', zeros, [0] * 3, 'min and max the same (equal bits, or both zero): constant'
+    yield 'depth-64', made(b'', columns=1, depth=64, side=16, low=5.0, high=5.0), [5] * 64, 'ceilings (4): depth 64, side 16'
+    long = 'ceilings (4): rows and columns 4,096'
+    yield 'columns-4096', made(b'', columns=4096, side=1, low=5.0, high=5.0), [5] * 4096, long
+    yield 'rows-4096', made(b'', rows=4096, columns=1, side=1, low=5.0, high=5.0), [5] * 4096, long
+    error = made(b'', error=(2046 << 52) - 1, low=5.0, high=5.0)
+    yield 'error-below-2^1023', error, [5] * 3, 'error sign clear and below 2^1023'
+
+
+def empties():
+    text = 'valid 0: the body is empty whatever min and max are, and the end is 70'
+    yield 'empty', made(b'', valid=0), [0] * 3, text
+    yield 'empty-tail', made(b'\x02\xFF', valid=0), [0] * 3, text
+    yield 'empty-300', made(b'', valid=0, low=300.0, high=300.0), [0] * 3, text + ' (nothing is stored, so not 9)'
+
+
+def bodies():
+    yield 'whole-blob', made(WHOLE, error=0.5), [10, 11, 12], 'the rules\' whole blob'
+    after = 'bytes after size, or between the body\'s end and size, are never looked at'
+    yield 'behind-size', made(WHOLE, error=0.5) + b'\xFF' * 11, [10, 11, 12], after
+    yield 'behind-body', made(WHOLE + b'\xFF' * 6, error=0.5), [10, 11, 12], after
+    raw = 'a sweep byte: 1 is raw words, valid pixels in order'
+    yield 'raw', made(hexed('0A0C01 0A0B0C')), [10, 11, 12], raw
+    yield 'raw-error-half', made(hexed('0A0C01 0A0B0C'), error=0.5), [10, 11, 12], raw + ' (the mode byte is behind sweep byte 0 only)'
+    masked = dict(columns=10, valid=3, mask=P7)
+    yield 'raw-masked', made(hexed('0A0C01 0A0B0C'), **masked), [10, 0, 11, 0, 0, 0, 0, 0, 0, 12], raw
+    past = made(hexed('0A0C01 0A0B0C'), columns=10, valid=3, mask=hexed('0200A060 0080'))
+    yield 'mask-bits-past', past, [10, 0, 11, 0, 0, 0, 0, 0, 0, 12], 'valid pixels must number `valid` (bits past the pixels are none)'
+    yield 'raw-not-clamped', made(hexed('0A0C01 FF00FF')), [255, 0, 255], raw
+    yield 'kind-2-error-half', made(pairs(2, 10, 12) + hexed('00 030B00'), kind=2, error=0.5), [11] * 3, MODE
+    low = 'with low bits 0 or 2, flag/64 is not looked at'
+    yield 'raw-block-code-3', made(hexed('0A0C00 C00A0B0C')), [10, 11, 12], low
+    yield 'zero-block-code-3', made(hexed('0A0C00 C2')), [0, 0, 0], low
+    p5 = made(hexed('0A0C00 010A400001'), rows=16, columns=16, side=16)
+    yield 'p5-block', p5, [10] * 256, 'P5 40 00 01: 256 zeros'
+    x = 'a position (x, y, depth) steps depth first, then x, then y; ' + CHECK
+    yield 'two-tiles-two-depths', made(hexed('0A0A0C0C00 030A 030B 070C 070D'), columns=9, depth=2), [10, 11] * 8 + [12, 13], x
+
+
+def accepted():
+    """name, blob, words of all cells (those of invalid pixels do not matter), sentence"""
+    return [*constants(), *empties(), *bodies()]
+
+
+def reused():
+    """what is kept before the call"""
+    reuse, raw = 'mask bytes 0 means the kept mask, if the caller allows reuse', hexed('0A0C01 0A0B0C')
+    words = [10, 0, 11, 0, 0, 0, 0, 0, 0, 12]
+    none = made(raw, columns=10, valid=3)
+    new = made(raw, columns=10, valid=3, mask=P7)
+    common = dict(words=words, depth=1, size=1, lent=room(blobs.header(new)))
+    return [
+        dict(common, name='reuse', note=reuse, blob=none, reuse=True, before=THREE, kept=THREE, end=76),
+        dict(common, name='reuse-bits-past', note=reuse + ' (bits past the pixels do not matter)', blob=none, reuse=True, before=b'\xA0\x7F',
+             kept=b'\xA0\x7F', end=76),
+        dict(common, name='reuse-not-needed', note='whole read copies it to the kept mask only on acceptance', blob=new, reuse=True,
+             before=b'\xFF\xFF', kept=THREE, spare=THREE, end=82),
+    ]
+
+
+# --- refused ----------------------------------------------------------------------------------------------------------------------
+
+
+def short():
+    whole = made(WHOLE, error=0.5)
+    yield no('nothing', b'', 1, SHORT)
+    yield no('69-bytes', whole[:69], 1, SHORT)
+    yield no('69-bytes-other-key', b'LERC2 ' + whole[6:69], 1, ORDER)
+    yield no('70-bytes', whole[:70], 1, SHORT)
+    yield no('78-bytes', whole[:78], 1, SHORT)
+    yield no('78-bytes-kind-8', changed(whole, 38, u32(8))[:78], 3, ORDER)
+    yield no('78-bytes-side-17', changed(whole, 30, u32(17))[:78], 4, ORDER)
+    yield no('78-bytes-no-room', whole[:78], 1, ROOM, lent_image=2)
+    yield no('size-16777216', changed(whole, 34, u32(1 << 24)), 1, ORDER)
+
+
+def keys():
+    whole = made(WHOLE, error=0.5)
+    for at in range(6):
+        yield no('key-%d' % at, changed(whole, at, bytes([whole[at] ^ 32])), 2, VERSION)
+    for number in (0, 3, 5, 260, 1 << 31 | 4):
+        yield no('version-%d' % number, changed(whole, 6, u32(number)), 2, VERSION)
+    yield no('version-5-rows-0', changed(changed(whole, 6, u32(5)), 14, u32(0)), 2, ORDER)
+
+
+def fields():
+    whole = made(WHOLE, error=0.5)
+    for name, at in (('rows', 14), ('columns', 18), ('depth', 22), ('side', 30)):
+        yield no(name + '-0', changed(whole, at, u32(0)), 3, RULE)
+    for name, at, v in (('valid-4', 26, 4), ('valid-max', 26, 0xFFFFFFFF), ('kind-8', 38, 8), ('kind-max', 38, 0xFFFFFFFF), ('size-69', 34, 69),
+                        ('size-0', 34, 0), ('mask-10', 66, 10), ('mask-max', 66, 0xFFFFFFFF)):
+        yield no(name, changed(whole, at, u32(v)), 3, RULE)
+    for name, at, v in (('error-minus-0', 42, SIGN), ('error-minus-1', 42, SIGN + (1023 << 52)), ('error-2^1023', 42, 2046 << 52),
+                        ('error-infinite', 42, INF), ('error-nan', 42, NAN), ('min-infinite', 50, SIGN + INF), ('min-nan', 50, NAN),
+                        ('max-infinite', 58, INF), ('max-nan', 58, NAN), ('max-below-min', 58, 1022 << 52)):
+        yield no(name, changed(whole, at, u64(v)), 3, RULE)
+    yield no('kind-8-rows-5000', changed(changed(whole, 38, u32(8)), 14, u32(5000)), 3, ORDER)
+    yield no('size-69-side-17', changed(changed(whole, 34, u32(69)), 30, u32(17)), 3, ORDER)
+    yield no('empty-kind-8', made(b'', valid=0, kind=8), 3, RULE)
+
+
+def ceilings():
+    whole = made(WHOLE, error=0.5)
+    for name, at, v in (('rows-4097', 14, 4097), ('columns-4097', 18, 4097), ('depth-65', 22, 65), ('side-17', 30, 17), ('side-max', 30, 0xFFFFFFFF),
+                        ('size-16777217', 34, (1 << 24) + 1), ('size-max', 34, 0xFFFFFFFF)):
+        yield no(name, changed(whole, at, u32(v)), 4, CEILING)
+    big = 'ceilings (4): cells (pixels × depth) 4,194,304'
+    yield no('cells-4198400', made(WHOLE, rows=4096, columns=1025), 4, big)
+    yield no('cells-times-depth', made(WHOLE, rows=4096, columns=17, depth=61), 4, big)
+    yield no('pixels-2^32', changed(changed(whole, 14, u32(1 << 16)), 18, u32(1 << 16)), 4, CEILING + ' (the pixels do not fit 32 bits)')
+    yield no('raw-side-17', made(hexed('0A0C01 0A0B0C'), side=17), 4, CEILING + ', whatever the body')
+    yield no('side-17-no-slice', changed(whole, 30, u32(17)), 4, ROOM, lent_kept=0, lent_spare=0, lent_list=0, lent_image=0)
+    yield no('constant-side-17', made(b'', side=17, low=5.0, high=5.0), 4, CEILING + ', whatever the body')
+
+
+def rooms():
+    forms = (('blocks', made(WHOLE, error=0.5)), ('raw', made(hexed('0A0C01 0A0B0C'))), ('constant', made(b'', low=5.0, high=5.0)),
+             ('constant-ranges', made(hexed('0A0A'))), ('empty', made(b'', valid=0)))
+    for form, blob in forms:
+        for name, n in (('kept', 0), ('spare', 0), ('list', 0), ('image', 2)):
+            yield no('%s-%s-short' % (form, name), blob, 5, ROOM, **{'lent_' + name: n})
+    wide = made(b'', columns=10, depth=3, valid=3, mask=P7, low=5.0, high=5.0)
+    for name, n in (('kept', 1), ('spare', 1), ('list', 5), ('image', 29)):
+        yield no('masked-%s-short' % name, wide, 5, ROOM, **{'lent_' + name: n})
+    none = made(hexed('0A0C01 0A0B0C'), columns=10, valid=3)
+    yield no('reuse-kept-short', none, 5, ROOM, before=THREE[:1], reuse=True, lent_kept=1)
+    yield no('reuse-spare-short', none, 5, ROOM + ' (the spare too, though the kept mask would do)', before=THREE, reuse=True, lent_spare=1)
+    wrong = made(hexed('0A0C01 0A0B0C'), columns=10, valid=3, mask=b'\x00\x00')
+    yield no('mask-wrong-list-short', wrong, 5, ROOM, lent_list=0)
+    yield no('no-slice', made(WHOLE, error=0.5), 5, ROOM, lent_kept=0, lent_spare=0, lent_list=0, lent_image=0)
+    yield no('cells-4194304', made(b'', rows=4096, columns=1024, side=16, low=5.0, high=5.0), 5, ROOM)
+
+
+def masks():
+    wrong = (('zero-run', '0000 0200A040 0080', MASK + ' (n = 0 is wrong)'), ('zero-run-last', '0200A040 0000 0080', MASK + ' (n = 0 is wrong)'),
+             ('end-early', '0200A040 0080 00', ENDS), ('end-missing', '0200A040', ENDS), ('end-cut', '0200A040 00', ENDS), ('one-byte', '02', ENDS),
+             ('too-long', '0300A04000 0080', ENDS), ('too-short', '0100A0 0080', ENDS), ('only-the-end', '0080', ENDS),
+             ('copy-cut', '0200A0', MASK), ('copy-long', '2000A040 0080', MASK), ('repeat-cut', 'FEFF', MASK), ('repeat-long', 'FDFF00 0080', ENDS),
+             ('repeat-32767', '018000 0080', ENDS), ('two-valid', '0200A000 0080', 'valid pixels must number `valid`'),
+             ('four-valid', '0200A0C0 0080', 'valid pixels must number `valid`'), ('past-the-pixels', '0200A001 0080', 'valid pixels must number `valid`'),
+             ('second-run-long', '0100A0 FEFF40 0080', ENDS))
+    for name, section, note in wrong:
+        yield no('mask-' + name, made(BLOCK, columns=10, valid=3, side=16, mask=hexed(section)), 6, note)
+    text = 'valid 0 gives all 0, valid = pixels all 255; mask bytes must then be 0'
+    yield no('mask-none-valid', made(b'', columns=10, valid=0, mask=hexed('FEFF00 0080')), 6, text)
+    yield no('mask-all-valid', made(BLOCK, columns=10, mask=hexed('FEFFFF 0080')), 6, text)
+    none, kept = made(BLOCK, columns=10, valid=3, side=16), 'mask bytes 0 means the kept mask, if the caller allows reuse'
+    yield no('no-reuse', none, 6, kept, before=THREE)
+    yield no('reuse-two-valid', none, 6, 'valid pixels must number `valid`', before=b'\xA0\x00', reuse=True)
+    yield no('reuse-all-valid', none, 6, 'valid pixels must number `valid`', before=b'\xFF\xFF', reuse=True)
+    yield no('reuse-bits-past', none, 6, 'valid pixels must number `valid`', before=b'\xA0\x01', reuse=True)
+    yield no('mask-wrong-reuse', made(BLOCK, columns=10, valid=3, side=16, mask=hexed('0000 0080')), 6, MASK, before=THREE, reuse=True)
+    crossed = made(hexed('0C0A02'), columns=10, valid=3, side=16, mask=hexed('0200A000 0080'))
+    yield no('mask-wrong-ranges-wrong', crossed, 6, FRONT)
+    yield no('mask-wrong-constant-300', made(b'', columns=10, valid=3, mask=hexed('0080'), low=300.0, high=300.0), 6, FRONT)
+
+
+def cut_tails():
+    for name, tail, note in (('ranges', '0A', FIT), ('sweep', '0A0C', FIELD), ('flag', '0A0C00', FIELD), ('offset', '0A0C00 01', FIELD),
+                             ('counts', '0A0C00 010A', FIELD), ('count', '0A0C00 010A82', FIELD), ('count-of-4', '0A0C00 010A02030000', FIELD),
+                             ('count-of-2', '0A0C00 010A4203', FIELD), ('packed', '0A0C00 010A8203', RUN), ('count-bits-0', '0A0C00 010AA0', ENTRIES),
+                             ('entries', '0A0C00 010AA403', FIELD), ('table', '0A0C00 010AA40303', RUN), ('indices', '0A0C00 010AA4030395', RUN),
+                             ('indices-high', '0A0C00 010AA80303FFFF', RUN), ('raw', '0A0C01 0A0B', FIELD), ('raw-none', '0A0C01', FIELD),
+                             ('raw-block', '0A0C00 000A0B', FIELD), ('raw-block-none', '0A0C00 00', FIELD)):
+        yield 'no-' + name, hexed(tail), {}, 1, note
+    yield 'no-mode', hexed('0A0C00'), dict(error=0.5), 1, FIELD
+    yield 'ranges-nan-cut', hexed('0000C07F 000080'), dict(kind=6), 1, FIT
+    yield 'offset-of-8-cut', pairs(7, 10.0, 12.0) + hexed('00 03 00000000000026'), dict(kind=7), 1, FIELD
+    for name, tail in (('packed', '0A0C00 010A820324'), ('offset', '0A0C00 030B'), ('raw', '0A0C01 0A0B0C')):
+        yield 'behind-size-' + name, hexed(tail), dict(less=1), 1, FIELD
+
+
+def pair_tails():
+    yield 'range-crossed', hexed('0C0A 00030B'), {}, 7, PAIR
+    yield 'range-crossed-only', hexed('0C0A'), {}, 7, PAIR
+    yield 'range-crossed-sweep-2', hexed('0C0A 02'), {}, 7, FRONT
+    yield 'range-infinite', hexed('0000803F 0000807F 00'), dict(kind=6), 7, PAIR
+    yield 'range-minus-infinite', hexed('000080FF 0000803F 00'), dict(kind=6), 7, PAIR
+    yield 'range-nan', struct.pack('<2Q', NAN, 0) + b'\0', dict(kind=7), 7, PAIR
+    yield 'range-nan-above', struct.pack('<2Q', 0, NAN) + b'\0', dict(kind=7), 7, PAIR
+    yield 'range-second-depth', hexed('0A0A 0C09 01'), dict(depth=2), 7, PAIR
+    yield 'range-signed', pairs(0, 5, -5) + b'\1', dict(kind=0), 7, PAIR
+
+
+def byte_tails():
+    for sweep in (2, 3, 128, 255):
+        yield 'sweep-%d' % sweep, hexed('0A0C') + bytes([sweep]) + b'\x0A\x0B\x0C', {}, 8, SWEEP
+    for mode in (3, 4, 255):
+        yield 'mode-%d' % mode, hexed('0A0C00') + bytes([mode]) + hexed('010A820324'), dict(error=0.5), 8, MODE + '; others 8'
+    for kind in (0, 1):
+        for mode in (1, 2):
+            yield 'mode-%d-kind-%d' % (mode, kind), hexed('0A0C00') + bytes([mode]), dict(error=0.5, kind=kind), 10, MODE
+    for flag in (0x04, 0x05, 0x3E, 0x43):
+        yield 'check-%02x' % flag, hexed('0A0C00') + bytes([flag]) + hexed('0A820324'), {}, 8, CHECK
+    yield 'second-block', hexed('0A0A 0C0C 00 030A 070B'), dict(depth=2), 8, CHECK + '; a refusal leaves every lent slice unchanged'
+    yield 'second-block-none', hexed('0A0A 0C0C 00 030A'), dict(depth=2), 1, FIELD + '; a refusal leaves every lent slice unchanged'
+
+
+def offset_tails():
+    for kind, row in enumerate(blobs.OFFSETS):
+        for code in range(len(row), 4):
+            tail = pairs(kind, 10, 12) + bytes([0, 64 * code + 1 + 2 * (code % 2)]) + hexed('0A820324') + bytes(8)
+            yield 'offset-kind-%d-code-%d' % (kind, code), tail, dict(kind=kind), 8, TABLE
+    for name, word in (('infinite', 0x7F800000), ('minus-infinite', 0xFF800000), ('nan', 0x7FC00000)):
+        yield 'offset-' + name, pairs(6, 10, 12) + b'\0\3' + u32(word), dict(kind=6), 8, OFFSET
+        yield 'offset-counts-' + name, pairs(7, 10, 12) + b'\0\x41' + u32(word) + hexed('820324'), dict(kind=7), 8, OFFSET
+    yield 'offset-nan-8', pairs(7, 10, 12) + b'\0\3' + u64(NAN), dict(kind=7), 8, OFFSET
+    yield 'offset-nan-no-counts', pairs(6, 10, 12) + b'\0\1' + u32(0x7FC00000), dict(kind=6), 8, FRONT
+
+
+def count_tails():
+    for name, counts, note in (('two', '820204', COUNTS), ('four', '820424', COUNTS), ('none', '8200', COUNTS), ('all-ten', '820A000000', COUNTS),
+                               ('two-bits-0', '8002', COUNTS), ('p4', 'C20100', PACKED), ('code-3-only', 'C2', PACKED), ('p6', '400101', PACKED),
+                               ('n-65536', '0200000100', PACKED), ('n-max', '02FFFFFFFF', PACKED), ('bits-0-table', 'A003', ENTRIES),
+                               ('bits-0-table-whole', 'A00303000018', ENTRIES), ('entries-0', 'A40300', ENTRIES), ('entries-1', 'A4030118', ENTRIES),
+                               ('p3', 'A40303951C', ENTRIES)):
+        yield 'counts-' + name, hexed('0A0C00 010A' + counts), {}, 8, note
+
+
+def tails():
+    return [*cut_tails(), *pair_tails(), *byte_tails(), *offset_tails(), *count_tails()]
+
+
+def made_small(tail, less=0, **named):
+    blob = made(tail, **named)
+    return changed(blob, 34, u32(len(blob) - less))
+
+
+def behind_masks():
+    """each wrong tail behind no mask section, behind a new mask, and behind a reused one: three valid pixels in one tile"""
+    reused = 'a mask reused: no slice is written'
+    for name, tail, named, number, note in tails():
+        yield no(name, made_small(tail, **named), number, note + '; ' + SPARE, spare=b'\xFF')
+        wide = dict(named, columns=10, valid=3, side=16)
+        yield no('masked-' + name, made_small(tail, mask=P7, **wide), number, note + '; ' + SPARE, spare=THREE, before=b'\x11\x22')
+    for name, tail, named, number, note in tails()[::7]:
+        wide = dict(named, columns=10, valid=3, side=16)
+        yield no('reused-' + name, made_small(tail, **wide), number, note + '; ' + reused, before=THREE, reuse=True)
+
+
+def values():
+    """a constant outside its kind"""
+    for kind, value in ((0, 128.0), (0, -129.0), (1, 256.0), (1, 300.0), (1, -1.0), (2, 32768.0), (2, -32769.0), (3, 65536.0), (3, -1.0), (4, 2147483648.0),
+                        (4, -2147483649.0), (5, 4294967296.0), (5, -1.0), (1, 1e300), (4, -1e300)):
+        yield no('constant-%d-%s' % (kind, value), made(b'', kind=kind, low=value, high=value), 9, VALUE + '; ' + SPARE, spare=b'\xFF')
+    masked = made(b'\x02', columns=10, depth=2, valid=3, mask=P7, low=300.0, high=300.0)
+    yield no('constant-masked', masked, 9, VALUE + '; ' + SPARE, spare=THREE, before=b'\xFF\xFF')
+    none = made(b'', columns=10, valid=3, low=300.0, high=300.0)
+    yield no('constant-reused', none, 9, VALUE, before=THREE, reuse=True)
+
+
+def refused():
+    return [*short(), *keys(), *fields(), *ceilings(), *rooms(), *masks(), *behind_masks(), *values()]
+
+
+# --- accepted blobs of an encoder, damaged ----------------------------------------------------------------------------------------
+
+
+def damages(name, blob):
+    h = blobs.header(blob)
+    mask, _ = blobs.mask_of(blob, h)
+    _, starts, end = blobs.body(blob, h, mask)
+    if len(starts) < 3 or end != h['size'] or len(blob) != end:
+        return
+    last = starts[-1]
+    yield no(name + '-check', changed(blob, last, bytes([blob[last] ^ 4])), 8, CHECK + ' (the last block); ' + SPARE, spare=mask)
+    yield no(name + '-size', changed(blob, 34, u32(end - 1)), 1, FIELD + ' (the last block); ' + SPARE, spare=mask)
+    yield no(name + '-slice', blob[:-1], 1, SHORT)
+    if h['mask']:
+        yield no(name + '-valid', changed(blob, 26, u32(h['valid'] - 1)), 6, 'valid pixels must number `valid`')
+    need = blobs.needs(h)
+    for slice_name, n in zip(('kept', 'spare', 'list', 'image'), (need[0], need[0], need[1], need[2])):
+        yield no('%s-%s' % (name, slice_name), blob, 5, ROOM, **{'lent_' + slice_name: n - 1})
+
+
+def damaged(vectors):
+    """of the blobs with a mask section every eighth, of the others every thirtieth"""
+    with_mask = [v for v in vectors if blobs.header(v[1])['mask']]
+    others = [v for v in vectors if not blobs.header(v[1])['mask']]
+    return [case for name, blob in with_mask[::8] + others[::30] for case in damages(name, blob)]
