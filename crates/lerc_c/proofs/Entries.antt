@@ -1,0 +1,263 @@
+-- The entries: one law for each way they end.
+-- Assumes nothing.
+use mathlib.Core.Path.{_≡_, _∙_, sym, ap, refl}
+use mathlib.Core.Bool.{Bool, true, false, _&&_}
+use mathlib.Core.List.{List, [], _∷_}
+use Prim.Native.Nat.{ℕ, _≤_, _<_}
+use native.Mathlib.Omega.{arith}
+use lib.ListN.{length, take, set}
+use lib.Dec.{leb}
+use lib.Seq.{paste}
+use borrow.Author.Tests.{le-leb, lt-leb}
+use Rattle.lerc_words.specs.declared.Refusal.{Refusal}
+use Rattle.lerc_words.specs.Res.{Res, ok, fail, _>>=_, require, after}
+use Rattle.lerc_words.specs.Lists.{over}
+use Rattle.lerc_words.proofs.Laws.{ok-is, bind-is}
+use Rattle.lerc_header.specs.declared.Header.{Header}
+use Rattle.lerc_header.specs.Header.{shapeOf, headerSays}
+use Rattle.lerc.specs.declared.ReadAnswer.{ReadAnswer}
+use Rattle.lerc.specs.declared.ReadAnswer.the-variants as answer
+use Rattle.lerc_header.specs.Shape.{blockCount}
+use Rattle.lerc_samples.specs.Samples.{stored}
+use Rattle.lerc_planes.specs.declared.Ranges.{Ranges}
+use Rattle.lerc_planes.specs.declared.MaskAnswer.the-variants as mask
+use Rattle.lerc_planes.specs.Validity.{InForce, reused, new, bytesOf, maskSays, spareWith, prepareSays, which, Prepared}
+use Rattle.lerc_planes.specs.Ranges.{readRangesSays}
+use Rattle.lerc_image.specs.declared.WalkAnswer.the-variants as walk
+use Rattle.lerc_image.specs.declared.FillAnswer.the-variants as fill
+use Rattle.lerc_image.specs.Geometry.{tileOf, tileValid}
+use Rattle.lerc_image.specs.Walk.{walkSays, Walk, walkList, Walked}
+use Rattle.lerc_image.specs.Fill.{fillSays, fillImage, Filled}
+use Rattle.lerc.specs.Meaning.{Meaning, bodySays, startsOf, endOf, meaningFrom}
+use Rattle.lerc.specs.Read.{Lent, room, Masked, masked, readSays, refusedAfter, Whole, WholeRead}
+use Rattle.lerc.proofs.Whole as whole
+use Rattle.lerc_c.specs.Records.{headerRoom, headerNumbers, headerFrom, rangesRoom, rangesNumbers, rangesFrom}
+use Rattle.lerc_c.specs.Entries.{headerEntry, HeaderDone, readRoom, readEntry, maskedEntry, lentAfter, readNumbers, ReadDone, prepareEntry, PrepareDone, rangesEntry, RangesDone, walkEntry, WalkDone, fillEntry, FillDone, storedEntry, StoredDone}
+use Rattle.lerc_c.proofs.Laws.{long, over-behind, first-put}
+
+-- an answer that counts what was accepted refuses where it is refused
+pub counts-no : {A B : Type 0} (m : Res A) (f : A → B) {why : Refusal} → fail why ≡ (m >>= λ a. ok (f a)) → m ≡ fail why
+counts-no (ok a) f e = absurd (let z : _≡_ {A = ℕ} 0 1 = cc in omega arith)
+counts-no (fail r) f e = cc
+
+pub counts-ok : {A B : Type 0} (m : Res A) (f : A → B) {b : B} → ok b ≡ (m >>= λ a. ok (f a)) → (a : A) × (m ≡ ok a) × (b ≡ f a)
+counts-ok (ok a) f e = (a, refl, cc)
+counts-ok (fail r) f e = absurd (let z : _≡_ {A = ℕ} 0 1 = cc in omega arith)
+
+-- ---- read header
+
+module _ (b header : List ℕ) where
+  pub header-short : length header < headerRoom → HeaderDone (headerEntry b header) 5 header header
+  unfolding headerEntry
+  header-short h = rw (lt-leb headerRoom (length header) h) (record { number = refl; header = refl })
+
+  pub header-no : {why : Refusal} {n : ℕ} → headerRoom ≤ length header → headerSays b ≡ fail why → n ≡ why .number → HeaderDone (headerEntry b header) n header header
+  unfolding headerEntry
+  header-no h e d = rw (le-leb headerRoom (length header) h, e) (record { number = d; header = refl })
+
+  pub header-read : {h : Header} {header' : List ℕ} → headerRoom ≤ length header → headerSays b ≡ ok h → header' ≡ over (headerNumbers h) header → HeaderDone (headerEntry b header) 0 header header'
+  unfolding headerEntry
+  header-read h e d = rw (le-leb headerRoom (length header) h, e) (record { number = refl; header = d })
+
+-- ---- whole read
+
+-- an accepted read has the blob's header
+read-header : (b : List ℕ) (reuse : Bool) (l : Lent) {h : Header} {m : Meaning} → headerSays b ≡ ok h → readSays b reuse l ≡ ok m → m .header ≡ h
+unfolding readSays masked meaningFrom
+read-header b reuse l {h} {m} e r =
+    let (k, p, q) = bind-is (masked b reuse l) _ r in
+    let (g, s, p) = bind-is (headerSays b) _ p in
+    let (_, _, p) = bind-is (require (room g l) 5) _ p in
+    let (f, _, p) = bind-is (maskSays (take (g .size) b) g reuse (l .kept)) _ p in
+    let (y, _, q) = bind-is (bodySays (take (k .header .size) b) (k .header) (bytesOf (k .mask))) _ q in
+    let t : g ≡ h = ok-is (sym s ∙ e) in
+    ap (λ (x : Meaning). x .header) (sym (ok-is q)) ∙ ap (λ (x : Masked). x .header) (sym (ok-is p)) ∙ t
+
+-- the header, and behind it the two counts
+read-said : (m : Meaning) (said : List ℕ) {h : Header} {n end : ℕ} {front said' : List ℕ} → m .header ≡ h → n ≡ length (startsOf (m .body)) → end ≡ endOf (m .body)
+    → front ≡ over (headerNumbers h) said → said' ≡ paste front headerRoom (n ∷ end ∷ []) 2 → said' ≡ over (readNumbers m) said
+read-said m said {h} k x y p q = rw (q, p, x, y, ← k) (over-behind (headerNumbers (m .header)) (length (startsOf (m .body)) ∷ endOf (m .body) ∷ []) said headerRoom refl)
+
+module _ (b : List ℕ) (reuse : Bool) (l : Lent) (said : List ℕ) where
+  pub read-short : length said < readRoom → ReadDone b reuse 5 l l said said
+  unfolding readEntry maskedEntry lentAfter refusedAfter
+  read-short h = record { number = rw (lt-leb readRoom (length said) h); lent = rw (lt-leb readRoom (length said) h); said = rw (lt-leb readRoom (length said) h) }
+
+  -- with room for what is said, the four slices are the reader's
+  read-lent : {r : ReadAnswer} {l' : Lent} → readRoom ≤ length said → WholeRead b reuse r l l' → l' ≡ lentAfter b reuse l said
+  unfolding readEntry maskedEntry lentAfter
+  read-lent h w = rw (le-leb readRoom (length said) h) (w .lent)
+
+  pub read-refused : {why : Refusal} {n : ℕ} {l' : Lent} → readRoom ≤ length said → WholeRead b reuse (answer.Refused why) l l' → n ≡ why .number → ReadDone b reuse n l l' said said
+  unfolding readEntry
+  read-refused h w d =
+      let e = counts-no (readSays b reuse l) _ (w .says) in
+      record { number = rw (le-leb readRoom (length said) h, e) d; lent = read-lent h w; said = rw (le-leb readRoom (length said) h, e) }
+
+  pub read-no : {why : Refusal} {n : ℕ} → readRoom ≤ length said → headerSays b ≡ fail why → n ≡ why .number → ReadDone b reuse n l l said said
+  read-no h e d = read-refused h (whole.read-refused b reuse l (whole.header-no b reuse l e)) d
+
+  pub read-whole : {h : Header} {n end : ℕ} {l' : Lent} {front said' : List ℕ} → readRoom ≤ length said → headerSays b ≡ ok h → WholeRead b reuse (answer.Whole n end) l l'
+      → front ≡ over (headerNumbers h) said → said' ≡ paste front headerRoom (n ∷ end ∷ []) 2 → ReadDone b reuse 0 l l' said said'
+  unfolding readEntry
+  read-whole {h} {n} {end} {l'} {front} {said'} long e w p q =
+      let (m, r, c) = counts-ok (readSays b reuse l) _ (w .says) in
+      let z = read-said m said (read-header b reuse l e r) (ap (λ (v : Whole). v .blocks) c) (ap (λ (v : Whole). v .end) c) p q in
+      record { number = rw (le-leb readRoom (length said) long, r); lent = read-lent long w; said = rw (le-leb readRoom (length said) long, r) z }
+
+-- ---- prepare a mask
+
+module _ (b header : List ℕ) (reuse : Bool) (old spare said : List ℕ) where
+  abbrev prepareHasRoom : Bool
+  prepareHasRoom = leb headerRoom (length header) && leb 2 (length said)
+
+  pub prepare-short : prepareHasRoom ≡ false → PrepareDone (prepareEntry b header reuse old spare said) 5 spare spare said said
+  unfolding prepareEntry
+  prepare-short t = rw (t) (record { number = refl; spare = refl; said = refl })
+
+  pub prepare-wide : {why : Refusal} {n : ℕ} → prepareHasRoom ≡ true → headerFrom header ≡ fail why → n ≡ why .number
+      → PrepareDone (prepareEntry b header reuse old spare said) n spare spare said said
+  unfolding prepareEntry
+  prepare-wide t e d = rw (t, e) (record { number = d; spare = refl; said = refl })
+
+  pub prepare-is : {h : Header} {n : ℕ} {spare' said' : List ℕ} → prepareHasRoom ≡ true → headerFrom header ≡ ok h
+      → PrepareDone (prepareSays b h reuse old (length spare)) n spare spare' said said' → PrepareDone (prepareEntry b header reuse old spare said) n spare spare' said said'
+  unfolding prepareEntry
+  prepare-is t e d = rw (t, e) d
+
+-- what the reader's answer tells
+module _ {spare spare' : List ℕ} (said : List ℕ) where
+  pub told-no : (m : Res InForce) {why : Refusal} → Prepared m (mask.Refused why) spare spare' → PrepareDone m (why .number) spare spare' said said
+  told-no m {why} p = go m (p .says) (p .spare)
+    where
+      go : (x : Res InForce) → fail why ≡ (x >>= which) → spare' ≡ after x spare (λ f. spareWith f spare) → PrepareDone x (why .number) spare spare' said said
+      go (ok (reused l)) e d = absurd (let z : _≡_ {A = ℕ} 0 1 = cc in omega arith)
+      go (ok (new l)) e d = absurd (let z : _≡_ {A = ℕ} 0 1 = cc in omega arith)
+      go (fail r) e d = record { number = cc; spare = d; said = refl }
+
+  pub told-kept : (m : Res InForce) {k n : ℕ} {said' : List ℕ} → Prepared m (mask.Kept k) spare spare' → (n ≡ 0) × (said' ≡ over (1 ∷ k ∷ []) said) → PrepareDone m n spare spare' said said'
+  told-kept m {k} {n} {said'} p (z, q) = go m (p .says) (p .spare)
+    where
+      go : (x : Res InForce) → ok (mask.Kept k) ≡ (x >>= which) → spare' ≡ after x spare (λ f. spareWith f spare) → PrepareDone x n spare spare' said said'
+      go (ok (reused l)) e d = let c : k ≡ length l = cc in record { number = z; spare = d; said = rw (c) at q }
+      go (ok (new l)) e d = absurd (let z : _≡_ {A = ℕ} 0 1 = cc in omega arith)
+      go (fail r) e d = absurd (let z : _≡_ {A = ℕ} 0 1 = cc in omega arith)
+
+  pub told-spare : (m : Res InForce) {k n : ℕ} {said' : List ℕ} → Prepared m (mask.Spare k) spare spare' → (n ≡ 0) × (said' ≡ over (2 ∷ k ∷ []) said) → PrepareDone m n spare spare' said said'
+  told-spare m {k} {n} {said'} p (z, q) = go m (p .says) (p .spare)
+    where
+      go : (x : Res InForce) → ok (mask.Spare k) ≡ (x >>= which) → spare' ≡ after x spare (λ f. spareWith f spare) → PrepareDone x n spare spare' said said'
+      go (ok (reused l)) e d = absurd (let z : _≡_ {A = ℕ} 0 1 = cc in omega arith)
+      go (ok (new l)) e d = let c : k ≡ length l = cc in record { number = z; spare = d; said = rw (c) at q }
+      go (fail r) e d = absurd (let z : _≡_ {A = ℕ} 0 1 = cc in omega arith)
+
+-- ---- read ranges
+
+module _ (b header ranges : List ℕ) where
+  abbrev rangesHaveRoom : Bool
+  rangesHaveRoom = leb headerRoom (length header) && leb rangesRoom (length ranges)
+
+  pub ranges-short : rangesHaveRoom ≡ false → RangesDone (rangesEntry b header ranges) 5 ranges ranges
+  unfolding rangesEntry
+  ranges-short t = rw (t) (record { number = refl; ranges = refl })
+
+  pub ranges-wide : {why : Refusal} {n : ℕ} → rangesHaveRoom ≡ true → headerFrom header ≡ fail why → n ≡ why .number → RangesDone (rangesEntry b header ranges) n ranges ranges
+  unfolding rangesEntry
+  ranges-wide t e d = rw (t, e) (record { number = d; ranges = refl })
+
+  pub ranges-no : {h : Header} {why : Refusal} {n : ℕ} → rangesHaveRoom ≡ true → headerFrom header ≡ ok h → readRangesSays b h ≡ fail why → n ≡ why .number
+      → RangesDone (rangesEntry b header ranges) n ranges ranges
+  unfolding rangesEntry
+  ranges-no t e f d = rw (t, e, f) (record { number = d; ranges = refl })
+
+  pub ranges-done : {h : Header} {r : Ranges} {ranges' : List ℕ} → rangesHaveRoom ≡ true → headerFrom header ≡ ok h → readRangesSays b h ≡ ok r → ranges' ≡ over (rangesNumbers r) ranges
+      → RangesDone (rangesEntry b header ranges) 0 ranges ranges'
+  unfolding rangesEntry
+  ranges-done t e f d = rw (t, e, f) (record { number = refl; ranges = d })
+
+-- ---- walk
+
+module _ (b header ranges m list said : List ℕ) where
+  abbrev walkHasRoom : Bool
+  walkHasRoom = leb headerRoom (length header) && leb rangesRoom (length ranges) && leb 2 (length said)
+
+  pub walk-short : walkHasRoom ≡ false → WalkDone (walkEntry b header ranges m list said) 5 list list said said
+  unfolding walkEntry
+  walk-short t = rw (t) (record { number = refl; list = refl; said = refl })
+
+  pub walk-wide : {why : Refusal} {n : ℕ} → walkHasRoom ≡ true → headerFrom header ≡ fail why → n ≡ why .number → WalkDone (walkEntry b header ranges m list said) n list list said said
+  unfolding walkEntry
+  walk-wide t e d = rw (t, e) (record { number = d; list = refl; said = refl })
+
+  pub walk-mark : {h : Header} {why : Refusal} {n : ℕ} → walkHasRoom ≡ true → headerFrom header ≡ ok h → rangesFrom ranges ≡ fail why → n ≡ why .number
+      → WalkDone (walkEntry b header ranges m list said) n list list said said
+  unfolding walkEntry
+  walk-mark t e f d = rw (t, e, f) (record { number = d; list = refl; said = refl })
+
+  pub walk-no : {h : Header} {r : Ranges} {why : Refusal} {list' : List ℕ} → walkHasRoom ≡ true → headerFrom header ≡ ok h → rangesFrom ranges ≡ ok r → Walked b h r m (walk.Refused why) list list'
+      → WalkDone (walkEntry b header ranges m list said) (why .number) list list' said said
+  unfolding walkEntry walkList
+  walk-no {h} {r} {why} {list'} t e f w =
+      let g = counts-no (walkSays b h r m (length list)) _ (w .says) in
+      rw (t, e, f, g) (record { number = refl; list = rw (g) at (w .list); said = refl })
+
+  pub walk-done : {h : Header} {r : Ranges} {blocks end n : ℕ} {list' said' : List ℕ} → walkHasRoom ≡ true → headerFrom header ≡ ok h → rangesFrom ranges ≡ ok r
+      → Walked b h r m (walk.Walked blocks end) list list' → (n ≡ 0) × (said' ≡ over (blocks ∷ end ∷ []) said) → WalkDone (walkEntry b header ranges m list said) n list list' said said'
+  unfolding walkEntry walkList
+  walk-done {h} {r} {blocks} {end} {n} {list'} {said'} t e f w (z, q) =
+      let (c, g, k) = counts-ok (walkSays b h r m (length list)) _ (w .says) in
+      let x : blocks ≡ blockCount (shapeOf h) = ap (λ (v : Walk). v .blocks) k in
+      let y : end ≡ c .end = ap (λ (v : Walk). v .end) k in
+      let s : said' ≡ over (blockCount (shapeOf h) ∷ c .end ∷ []) said = q ∙ ap (λ (v : Walk). over (v .blocks ∷ v .end ∷ []) said) k in
+      rw (t, e, f, g) (record { number = z; list = rw (g) at (w .list); said = s })
+
+-- ---- fill
+
+module _ (b header ranges m list : List ℕ) (i : ℕ) (image said : List ℕ) where
+  abbrev fillHasRoom : Bool
+  fillHasRoom = leb headerRoom (length header) && leb rangesRoom (length ranges) && leb 1 (length said)
+
+  pub fill-short : fillHasRoom ≡ false → FillDone (fillEntry b header ranges m list i image said) m i 5 image image said said
+  unfolding fillEntry
+  fill-short t = rw (t) (record { number = refl; image = refl; said = refl })
+
+  pub fill-wide : {why : Refusal} {n : ℕ} → fillHasRoom ≡ true → headerFrom header ≡ fail why → n ≡ why .number
+      → FillDone (fillEntry b header ranges m list i image said) m i n image image said said
+  unfolding fillEntry
+  fill-wide t e d = rw (t, e) (record { number = d; image = refl; said = refl })
+
+  pub fill-mark : {h : Header} {why : Refusal} {n : ℕ} → fillHasRoom ≡ true → headerFrom header ≡ ok h → rangesFrom ranges ≡ fail why → n ≡ why .number
+      → FillDone (fillEntry b header ranges m list i image said) m i n image image said said
+  unfolding fillEntry
+  fill-mark t e f d = rw (t, e, f) (record { number = d; image = refl; said = refl })
+
+  pub fill-no : {h : Header} {r : Ranges} {why : Refusal} {n : ℕ} {image' : List ℕ} → fillHasRoom ≡ true → headerFrom header ≡ ok h → rangesFrom ranges ≡ ok r
+      → Filled b h r m list i (fill.Refused why) image image' → n ≡ why .number → FillDone (fillEntry b header ranges m list i image said) m i n image image' said said
+  unfolding fillEntry fillImage
+  fill-no {h} {r} {why} {n} {image'} t e f w d =
+      let g = counts-no (fillSays b h r m list i (length image)) _ (w .says) in
+      rw (t, e, f, g) (record { number = d; image = rw (g) at (w .image); said = refl })
+
+  pub fill-done : {h : Header} {r : Ranges} {words : ℕ} {image' said' : List ℕ} → fillHasRoom ≡ true → headerFrom header ≡ ok h → rangesFrom ranges ≡ ok r
+      → Filled b h r m list i (fill.Filled words) image image' → said' ≡ set said 0 words → FillDone (fillEntry b header ranges m list i image said) m i 0 image image' said said'
+  unfolding fillEntry fillImage
+  fill-done {h} {r} {words} {image'} {said'} t e f w q =
+      let (k, g, c) = counts-ok (fillSays b h r m list i (length image)) _ (w .says) in
+      let l : 1 ≤ length said = long 1 header ranges said t .said-fits in
+      let s : said' ≡ over (tileValid (shapeOf h) m (tileOf (shapeOf h) i) ∷ []) said = q ∙ first-put said words l ∙ ap (λ (v : ℕ). over (v ∷ []) said) c in
+      rw (t, e, f, g) (record { number = refl; image = rw (g) at (w .image); said = s })
+
+-- ---- a value as a stored word
+
+module _ (kind v : ℕ) (said : List ℕ) where
+  pub stored-short : length said < 1 → StoredDone (storedEntry kind v said) 5 said said
+  unfolding storedEntry
+  stored-short h = rw (lt-leb 1 (length said) h) (record { number = refl; said = refl })
+
+  pub stored-no : {why : Refusal} {n : ℕ} → 1 ≤ length said → stored kind v ≡ fail why → n ≡ why .number → StoredDone (storedEntry kind v said) n said said
+  unfolding storedEntry
+  stored-no h e d = rw (le-leb 1 (length said) h, e) (record { number = d; said = refl })
+
+  pub stored-done : {w : ℕ} {said' : List ℕ} → 1 ≤ length said → stored kind v ≡ ok w → said' ≡ set said 0 w → StoredDone (storedEntry kind v said) 0 said said'
+  unfolding storedEntry
+  stored-done {w} h e q = rw (le-leb 1 (length said) h, e) (record { number = refl; said = q ∙ first-put said w h })

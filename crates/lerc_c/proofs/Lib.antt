@@ -1,0 +1,4 @@
+mod Laws
+mod Entries
+pub mod Back
+pub mod Numbers

@@ -1,0 +1,82 @@
+use Rattle.lerc_c.proofs.Laws.{both-long}
+use Rattle.lerc_c.proofs.Entries.{ranges-short, ranges-wide, ranges-no, ranges-done}
+use Rattle.lerc_planes.specs.Ranges.{rangesRefused}
+use Rattle.lerc.proofs.Whole.{ranges-read, ranges-refused}
+use Rattle.lerc_words.specs.declared.Refusal.{Refusal}
+use Rattle.lerc_header.specs.Header.{headerSaid, headerRefused}
+use borrow.Author.Tests.{not-true, not-false}
+use denote.Ref.{now}
+use mathlib.Core.Path.{_∙_, sym, ap}
+use borrow.Author.Needs.{needs}
+use Rattle.lerc_c.proofs.lerc2_read_ranges.Statement.{statement}
+use Rattle.lerc_c.proofs.lerc2_read_ranges.Tie as tie
+
+returns : tie.Need-returns
+returns c =
+    let a = c .before .before .before .before .args in ranges-short (now (a .blob)) (now (a .header)) (now (a .ranges)) (not-true _ (c .if1 .taken))
+
+header-from-requires : tie.Need-header-from-requires
+header-from-requires c κs = let a = c .before .before .before .before .args in both-long 11 130 (now (a .header)) (now (a .ranges)) (not-false _ (c .if1 .left)) .0
+
+enum-known-found : tie.Need-enum-known-found
+enum-known-found c = search needs
+
+enum-told : tie.Need-enum-told
+enum-told c = search needs
+
+refusal-requires : tie.Need-refusal-requires
+refusal-requires c κs = search needs
+
+returns-2 : tie.Need-returns-2
+returns-2 c =
+    let a = c .before .before .before .before .before .before .before .before .args in let told = c .before .enum-told .given .1 in
+    ranges-wide (now (a .blob)) (now (a .header)) (now (a .ranges)) (not-false _ (c .before .before .before .before .if1 .left)) (sym (c .before .before .before .header-from .ensures) ∙ ap headerSaid told) (ap (λ (w : Refusal). w .number) (c .refusal .ensures ∙ ap headerRefused told))
+
+read-ranges-requires : tie.Need-read-ranges-requires
+read-ranges-requires c κs = search needs
+
+enum-told-2 : tie.Need-enum-told-2
+enum-told-2 c = search needs
+
+enum-told-3 : tie.Need-enum-told-3
+enum-told-3 c = search needs
+
+refusal-requires-2 : tie.Need-refusal-requires-2
+refusal-requires-2 c κs = search needs
+
+returns-3 : tie.Need-returns-3
+returns-3 c =
+    let a = c .before .before .before .before .before .before .before .before .before .before .before .before .args in let told = c .before .enum-told3 .given .1 in
+    ranges-no (now (a .blob)) (now (a .header)) (now (a .ranges)) (not-false _ (c .before .before .before .before .before .before .before .before .if1 .left)) (sym (c .before .before .before .before .before .before .before .header-from .ensures) ∙ ap headerSaid (c .before .before .before .before .before .found .given .1))
+    (ranges-refused _ (c .before .before .before .read-ranges .ensures) told) (ap (λ (w : Refusal). w .number) (c .refusal2 .ensures ∙ ap rangesRefused told))
+
+put-ranges-requires : tie.Need-put-ranges-requires
+put-ranges-requires c κs = let a = c .before .before .before .before .before .before .before .before .before .before .before .before .before .args in both-long 11 130 (now (a .header)) (now (a .ranges)) (not-false _ (c .before .before .before .before .before .before .before .before .before .if1 .left)) .1
+
+same-length : tie.Need-same-length
+same-length c = search needs
+
+returns-4 : tie.Need-returns-4
+returns-4 c =
+    let a = c .before .before .before .before .before .before .before .before .before .before .before .before .before .before .before .before .args in
+    ranges-done (now (a .blob)) (now (a .header)) (now (a .ranges)) (not-false _ (c .before .before .before .before .before .before .before .before .before .before .before .before .if1 .left)) (sym (c .before .before .before .before .before .before .before .before .before .before .before .header-from .ensures) ∙ ap headerSaid (c .before .before .before .before .before .before .before .before .before .found .given .1))
+    (ranges-read _ (c .before .before .before .before .before .before .before .read-ranges .ensures) (c .before .before .before .before .before .enum-told2 .given .1)) (c .before .before .put-ranges .ensures)
+
+pub lerc2-read-ranges-spec : {M : Type 1} → statement M
+lerc2-read-ranges-spec =
+    tie.close
+    (tie.spec
+    returns
+    header-from-requires
+    enum-known-found
+    enum-told
+    refusal-requires
+    returns-2
+    read-ranges-requires
+    enum-told-2
+    enum-told-3
+    refusal-requires-2
+    returns-3
+    put-ranges-requires
+    same-length
+    returns-4)

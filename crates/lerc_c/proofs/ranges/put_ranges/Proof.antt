@@ -1,0 +1,49 @@
+use Rattle.lerc_c.proofs.Laws.{ranges-put}
+use lib.ListN.{length}
+use mathlib.Core.Path.{_≡_, refl}
+use mathlib.Core.Bool.{Bool, true, false, cond}
+use mir.Val.{boolByte}
+use denote.Ref.{now}
+use borrow.Author.Needs.{needs}
+use Rattle.lerc_c.proofs.ranges.put_ranges.Statement.{statement}
+use Rattle.lerc_c.proofs.ranges.put_ranges.Tie as tie
+
+cast-t8 : tie.Need-cast-t8
+cast-t8 c = search needs
+
+slice-aggregate-put : tie.Need-slice-aggregate-put
+slice-aggregate-put c = search needs
+
+put-requires : tie.Need-put-requires
+put-requires c κs = search needs
+
+put-requires-2 : tie.Need-put-requires-2
+put-requires-2 c κs = search needs
+
+put-requires-3 : tie.Need-put-requires-3
+put-requires-3 c κs = search needs
+
+same-length : tie.Need-same-length
+same-length c = search needs
+
+as-number : (t : Bool) → boolByte t ≡ cond t 1 0
+as-number true = refl
+as-number false = refl
+
+returns : tie.Need-returns
+returns c =
+    let a = c .before .before .before .before .before .before .before .before .before .before .before .before .before .before .before .before .before .before .before .before .args in
+    let k : length (a .t1 .min) ≡ 64 = search needs in
+    ranges-put (a .t1) (now (a .out)) k (as-number (a .t1 .constant)) (c .before .before .before .before .before .before .before .before .before .before .before .before .before .before .before .before .put .ensures) (c .before .before .before .before .before .before .before .before .before .put2 .ensures) (c .before .before .put3 .ensures)
+
+pub put-ranges-spec : {M : Type 1} → statement M
+put-ranges-spec =
+    tie.close
+    (tie.spec
+    cast-t8
+    slice-aggregate-put
+    put-requires
+    put-requires-2
+    put-requires-3
+    same-length
+    returns)

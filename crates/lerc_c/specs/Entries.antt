@@ -1,0 +1,161 @@
+-- The entries of the C interface. Each definition refuses, or gives what is then written to the lent slices.
+-- A record slice that is too short is refused first (5), then a number that its field cannot hold (3), then what the reader refuses.
+-- Assumes nothing.
+use Prim.Native.Nat.{ℕ}
+use mathlib.Core.Path.{_≡_}
+use mathlib.Core.Bool.{Bool, true, false, _&&_}
+use mathlib.Core.List.{List, [], _∷_, _++_}
+use lib.ListN.{length}
+use lib.Dec.{leb}
+use Rattle.lerc_words.specs.Res.{Res, ok, fail, _>>=_, require, after}
+use Rattle.lerc_words.specs.Lists.{over}
+use Rattle.lerc_samples.specs.Samples.{stored}
+use Rattle.lerc_header.specs.declared.Header.{Header}
+use Rattle.lerc_header.specs.Header.{shapeOf, headerSays}
+use Rattle.lerc_header.specs.Shape.{blockCount}
+use Rattle.lerc_planes.specs.declared.Ranges.{Ranges}
+use Rattle.lerc_planes.specs.Validity.{InForce, reused, new, prepareSays, spareWith}
+use Rattle.lerc_planes.specs.Ranges.{readRangesSays}
+use Rattle.lerc_block.specs.Block.{Block}
+use Rattle.lerc_image.specs.Geometry.{tileOf, tileValid}
+use Rattle.lerc_image.specs.Paint.{scattered}
+use Rattle.lerc_image.specs.Blocks.{Chain}
+use Rattle.lerc_image.specs.Walk.{walkSays}
+use Rattle.lerc_image.specs.Fill.{fillSays}
+use Rattle.lerc.specs.Meaning.{Meaning, endOf, startsOf}
+use Rattle.lerc.specs.Read.{Lent, Masked, masked, readSays, readAfter}
+use Rattle.lerc_c.specs.Records.{numberOf, headerRoom, headerNumbers, headerFrom, rangesRoom, rangesNumbers, rangesFrom}
+
+-- ---- read header: blob, header
+
+unfoldable pub headerEntry : List ℕ → List ℕ → Res Header
+headerEntry b header = do
+  _ ← require (leb headerRoom (length header)) 5
+  headerSays b
+
+-- what an answer m does to the record
+pub record HeaderDone (m : Res Header) (r : ℕ) (header₀ header₁ : List ℕ) : Type 0 where
+  pub number : r ≡ numberOf m
+  pub header : header₁ ≡ after m header₀ (λ h. over (headerNumbers h) header₀)
+
+-- ---- prepare a mask: blob, header, reuse, kept, spare, said
+
+unfoldable pub prepareEntry : List ℕ → List ℕ → Bool → List ℕ → List ℕ → List ℕ → Res InForce
+prepareEntry b header reuse old spare said = do
+  _ ← require (leb headerRoom (length header) && leb 2 (length said)) 5
+  h ← headerFrom header
+  prepareSays b h reuse old (length spare)
+
+-- 1 for the kept mask, 2 for the spare; how long
+abbrev pub maskNumbers : InForce → List ℕ
+maskNumbers (reused m) = 1 ∷ length m ∷ []
+maskNumbers (new m) = 2 ∷ length m ∷ []
+
+pub record PrepareDone (m : Res InForce) (r : ℕ) (spare₀ spare₁ said₀ said₁ : List ℕ) : Type 0 where
+  pub number : r ≡ numberOf m
+  pub spare : spare₁ ≡ after m spare₀ (λ f. spareWith f spare₀)
+  pub said : said₁ ≡ after m said₀ (λ f. over (maskNumbers f) said₀)
+
+-- ---- read ranges: blob, header, ranges
+
+unfoldable pub rangesEntry : List ℕ → List ℕ → List ℕ → Res Ranges
+rangesEntry b header ranges = do
+  _ ← require (leb headerRoom (length header) && leb rangesRoom (length ranges)) 5
+  h ← headerFrom header
+  readRangesSays b h
+
+pub record RangesDone (m : Res Ranges) (r : ℕ) (ranges₀ ranges₁ : List ℕ) : Type 0 where
+  pub number : r ≡ numberOf m
+  pub ranges : ranges₁ ≡ after m ranges₀ (λ k. over (rangesNumbers k) ranges₀)
+
+-- ---- walk: blob, header, ranges, mask, list, said
+
+-- the blocks of a header's body
+pub record Walking : Type 0 where
+  pub header : Header
+  pub chain : Chain
+
+unfoldable pub walkEntry : List ℕ → List ℕ → List ℕ → List ℕ → List ℕ → List ℕ → Res Walking
+walkEntry b header ranges m list said = do
+  _ ← require (leb headerRoom (length header) && leb rangesRoom (length ranges) && leb 2 (length said)) 5
+  h ← headerFrom header
+  r ← rangesFrom ranges
+  c ← walkSays b h r m (length list)
+  ok (record { header = h; chain = c })
+
+-- the count of blocks, where the last one ends
+abbrev pub walkNumbers : Walking → List ℕ
+walkNumbers w = blockCount (shapeOf (w .header)) ∷ w .chain .end ∷ []
+
+pub record WalkDone (m : Res Walking) (r : ℕ) (list₀ list₁ said₀ said₁ : List ℕ) : Type 0 where
+  pub number : r ≡ numberOf m
+  pub list : list₁ ≡ after m list₀ (λ w. over (w .chain .starts) list₀)
+  pub said : said₁ ≡ after m said₀ (λ w. over (walkNumbers w) said₀)
+
+-- ---- fill: blob, header, ranges, mask, list, number, image, said
+
+-- one block of a header's body
+pub record Filling : Type 0 where
+  pub header : Header
+  pub block : Block
+
+unfoldable pub fillEntry : List ℕ → List ℕ → List ℕ → List ℕ → List ℕ → ℕ → List ℕ → List ℕ → Res Filling
+fillEntry b header ranges m list n image said = do
+  _ ← require (leb headerRoom (length header) && leb rangesRoom (length ranges) && leb 1 (length said)) 5
+  h ← headerFrom header
+  r ← rangesFrom ranges
+  k ← fillSays b h r m list n (length image)
+  ok (record { header = h; block = k })
+
+-- how many words were written
+abbrev pub fillNumbers : List ℕ → ℕ → Filling → List ℕ
+fillNumbers m n f = tileValid (shapeOf (f .header)) m (tileOf (shapeOf (f .header)) n) ∷ []
+
+-- the words of the block at its valid cells
+abbrev pub fillPaints : List ℕ → ℕ → List ℕ → Filling → List ℕ
+fillPaints m n image f = scattered (shapeOf (f .header)) m n (f .block .words) image
+
+pub record FillDone (k : Res Filling) (m : List ℕ) (n r : ℕ) (image₀ image₁ said₀ said₁ : List ℕ) : Type 0 where
+  pub number : r ≡ numberOf k
+  pub image : image₁ ≡ after k image₀ (fillPaints m n image₀)
+  pub said : said₁ ≡ after k said₀ (λ f. over (fillNumbers m n f) said₀)
+
+-- ---- whole read: blob, reuse, the four slices, said
+
+abbrev pub readRoom : ℕ
+readRoom = 13
+
+unfoldable pub readEntry : List ℕ → Bool → Lent → List ℕ → Res Meaning
+readEntry b reuse l said = do
+  _ ← require (leb readRoom (length said)) 5
+  readSays b reuse l
+
+-- the header's numbers, the count of blocks, where the body ends
+abbrev pub readNumbers : Meaning → List ℕ
+readNumbers m = headerNumbers (m .header) ++ (length (startsOf (m .body)) ∷ endOf (m .body) ∷ [])
+
+-- as far as the mask, which is what a refusal may leave in the spare
+unfoldable pub maskedEntry : List ℕ → Bool → Lent → List ℕ → Res Masked
+maskedEntry b reuse l said = do
+  _ ← require (leb readRoom (length said)) 5
+  masked b reuse l
+
+-- the four slices afterwards
+unfoldable pub lentAfter : List ℕ → Bool → Lent → List ℕ → Lent
+lentAfter b reuse l said = readAfter (readEntry b reuse l said) (maskedEntry b reuse l said) l
+
+pub record ReadDone (b : List ℕ) (reuse : Bool) (r : ℕ) (old new : Lent) (said₀ said₁ : List ℕ) : Type 0 where
+  pub number : r ≡ numberOf (readEntry b reuse old said₀)
+  pub lent : new ≡ lentAfter b reuse old said₀
+  pub said : said₁ ≡ after (readEntry b reuse old said₀) said₀ (λ m. over (readNumbers m) said₀)
+
+-- ---- a value as a stored word: kind, value, said
+
+unfoldable pub storedEntry : ℕ → ℕ → List ℕ → Res ℕ
+storedEntry kind v said = do
+  _ ← require (leb 1 (length said)) 5
+  stored kind v
+
+pub record StoredDone (m : Res ℕ) (r : ℕ) (said₀ said₁ : List ℕ) : Type 0 where
+  pub number : r ≡ numberOf m
+  pub said : said₁ ≡ after m said₀ (λ w. over (w ∷ []) said₀)

@@ -1,0 +1,75 @@
+-- The records of the C interface: arrays of 64-bit numbers that stand for a header, for ranges or for what an entry says.
+-- Assumes nothing.
+use Prim.Native.Nat.{ℕ, _^_}
+use mathlib.Core.Bool.{Bool, true, false, cond, _&&_}
+use mathlib.Core.List.{List, [], _∷_, _++_}
+use lib.ListN.{length, getD, take, drop}
+use lib.Dec.{ltb, eqb}
+use Rattle.lerc_words.specs.Res.{Res, ok, fail, _>>=_, require}
+use Rattle.lerc_header.specs.declared.Header.{Header}
+use Rattle.lerc_header.specs.Limits.{depthLimit}
+use Rattle.lerc_planes.specs.declared.Ranges.{Ranges}
+
+-- what an entry returns: 0 where it accepts, else the number of the refusal
+abbrev pub numberOf : {A : Type 0} → Res A → ℕ
+numberOf (ok a) = 0
+numberOf (fail r) = r .number
+
+-- ---- a header: eleven numbers
+
+abbrev pub headerRoom : ℕ
+headerRoom = 11
+
+abbrev pub headerNumbers : Header → List ℕ
+headerNumbers h =
+    h .rows ∷ h .columns ∷ h .depth ∷ h .valid ∷ h .side ∷ h .size ∷ h .kind
+    ∷ h .error ∷ h .min ∷ h .max ∷ h .mask ∷ []
+
+-- a field of 32 bits holds it
+abbrev pub narrow : ℕ → Bool
+narrow n = ltb n (2 ^ 32)
+
+-- every number of a header fits its field; error, minimum and maximum have 64 bits
+unfoldable pub fieldsFit : List ℕ → Bool
+fieldsFit l =
+    narrow (getD l 0 0) && narrow (getD l 1 0) && narrow (getD l 2 0) && narrow (getD l 3 0)
+    && narrow (getD l 4 0) && narrow (getD l 5 0) && narrow (getD l 6 0) && narrow (getD l 10 0)
+
+abbrev pub headerAt : List ℕ → Header
+headerAt l =
+    record {
+      rows = getD l 0 0;
+      columns = getD l 1 0;
+      depth = getD l 2 0;
+      valid = getD l 3 0;
+      side = getD l 4 0;
+      size = getD l 5 0;
+      kind = getD l 6 0;
+      error = getD l 7 0;
+      min = getD l 8 0;
+      max = getD l 9 0;
+      mask = getD l 10 0;
+    }
+
+-- a number that its field cannot hold: 3
+unfoldable pub headerFrom : List ℕ → Res Header
+headerFrom l = do
+  _ ← require (fieldsFit l) 3
+  ok (headerAt l)
+
+-- ---- ranges: the body's place, the constant mark, minima, maxima
+
+abbrev pub rangesRoom : ℕ
+rangesRoom = 130
+
+abbrev pub rangesNumbers : Ranges → List ℕ
+rangesNumbers r = r .at ∷ cond (r .constant) 1 0 ∷ (r .min ++ r .max)
+
+abbrev pub rangesIn : List ℕ → Ranges
+rangesIn l = record { at = getD l 0 0; constant = eqb (getD l 1 0) 1; min = take depthLimit (drop 2 l); max = take depthLimit (drop 66 l) }
+
+-- a constant mark that is neither 0 nor 1: 3
+unfoldable pub rangesFrom : List ℕ → Res Ranges
+rangesFrom l = do
+  _ ← require (ltb (getD l 1 0) 2) 3
+  ok (rangesIn l)

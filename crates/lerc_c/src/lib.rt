@@ -1,0 +1,256 @@
+// The reader for C: slices are a pointer and a length, records are arrays of 64-bit numbers.
+// Each entry returns 0, or the number of the refusal; after a refusal the records are as they were.
+ghost use mathlib.Core.Path.{_≡_};
+ghost use Rattle.lerc_numeric.specs.Numeric.{sum, scaled};
+ghost use Rattle.lerc_numeric.specs.Kinds.{valueOf, narrowed};
+ghost use Rattle.lerc_c.specs.Entries as Entry;
+use lerc::ReadAnswer;
+use lerc_header::HeaderAnswer;
+use lerc_image::FillAnswer;
+use lerc_image::WalkAnswer;
+use lerc_planes::MaskAnswer;
+use lerc_planes::RangesAnswer;
+use lerc_samples::StoredAnswer;
+
+mod ranges;
+mod records;
+
+// how many numbers a whole read says
+const READ: usize = 13;
+
+// The header of a blob.
+#[no_mangle]
+pub extern "C" fn lerc2_read_header(blob: &[u8], header: &mut [u64]) -> u32
+    ensures { λ r. ⌜ Entry.HeaderDone (Entry.headerEntry (now (blob .entry)) (now (header .entry))) r (now (header .entry)) (now (header .exit)) ⌝ }
+{
+    if header.len() < records::HEADER {
+        return 5;
+    }
+    let found = lerc_header::read_header(blob);
+    let HeaderAnswer::Read(h) = found else {
+        let why = found.refusal();
+        return why.number;
+    };
+    records::put_header(h, &mut header[..]);
+    0
+}
+
+// A whole blob: `said` is the header, the count of blocks and the body's end.
+#[no_mangle]
+pub extern "C" fn lerc2_read(
+    blob: &[u8],
+    reuse: bool,
+    kept: &mut [u8],
+    spare: &mut [u8],
+    list: &mut [usize],
+    image: &mut [u64],
+    said: &mut [u64],
+) -> u32
+    ensures { λ r. ⌜ Entry.ReadDone (now (blob .entry)) reuse r (record { kept = now (kept .entry); spare = now (spare .entry); list = now (list .entry); image = now (image .entry) }) (record { kept = now (kept .exit); spare = now (spare .exit); list = now (list .exit); image = now (image .exit) }) (now (said .entry)) (now (said .exit)) ⌝ }
+{
+    if said.len() < READ {
+        return 5;
+    }
+    let found = lerc_header::read_header(blob);
+    let HeaderAnswer::Read(h) = found else {
+        let why = found.refusal();
+        return why.number;
+    };
+    let answer = lerc::read(
+        blob,
+        reuse,
+        &mut kept[..],
+        &mut spare[..],
+        &mut list[..],
+        &mut image[..],
+    );
+    let ReadAnswer::Whole { blocks, end } = answer else {
+        let why = answer.refusal();
+        return why.number;
+    };
+    records::put_header(h, &mut said[..]);
+    let counts = [blocks as u64, end as u64];
+    records::put(&counts, records::HEADER, &mut said[..]);
+    0
+}
+
+// The mask of a blob: `said` is 1 where the kept mask is in force and 2 where the spare is, and its length.
+#[no_mangle]
+pub extern "C" fn lerc2_prepare_mask(
+    blob: &[u8],
+    header: &[u64],
+    reuse: bool,
+    kept: &[u8],
+    spare: &mut [u8],
+    said: &mut [u64],
+) -> u32
+    ensures { λ r. ⌜ Entry.PrepareDone (Entry.prepareEntry (now (blob .entry)) (now (header .entry)) reuse (now (kept .entry)) (now (spare .entry)) (now (said .entry))) r (now (spare .entry)) (now (spare .exit)) (now (said .entry)) (now (said .exit)) ⌝ }
+{
+    let room = (records::HEADER <= header.len()) & (2 <= said.len());
+    if !room {
+        return 5;
+    }
+    let found = records::header_from(header);
+    let HeaderAnswer::Read(h) = found else {
+        let why = found.refusal();
+        return why.number;
+    };
+    let answer = lerc_planes::prepare_mask(blob, h, reuse, kept, &mut spare[..]);
+    match answer {
+        MaskAnswer::Kept(n) => records::say(1, n, &mut said[..]),
+        MaskAnswer::Spare(n) => records::say(2, n, &mut said[..]),
+        MaskAnswer::Refused(why) => why.number,
+    }
+}
+
+// The ranges of a blob.
+#[no_mangle]
+pub extern "C" fn lerc2_read_ranges(blob: &[u8], header: &[u64], ranges: &mut [u64]) -> u32
+    ensures { λ r. ⌜ Entry.RangesDone (Entry.rangesEntry (now (blob .entry)) (now (header .entry)) (now (ranges .entry))) r (now (ranges .entry)) (now (ranges .exit)) ⌝ }
+{
+    let room = (records::HEADER <= header.len()) & (ranges::RANGES <= ranges.len());
+    if !room {
+        return 5;
+    }
+    let found = records::header_from(header);
+    let HeaderAnswer::Read(h) = found else {
+        let why = found.refusal();
+        return why.number;
+    };
+    let got = lerc_planes::read_ranges(blob, h);
+    let answer = got.answer;
+    let RangesAnswer::Read = answer else {
+        let why = answer.refusal();
+        return why.number;
+    };
+    let r = got.ranges;
+    ranges::put_ranges(r, &mut ranges[..]);
+    0
+}
+
+// Every block checked, then the list of their starts: `said` is the count of blocks and the end of the last.
+#[no_mangle]
+pub extern "C" fn lerc2_walk(
+    blob: &[u8],
+    header: &[u64],
+    ranges: &[u64],
+    mask: &[u8],
+    list: &mut [usize],
+    said: &mut [u64],
+) -> u32
+    ensures { λ r. ⌜ Entry.WalkDone (Entry.walkEntry (now (blob .entry)) (now (header .entry)) (now (ranges .entry)) (now (mask .entry)) (now (list .entry)) (now (said .entry))) r (now (list .entry)) (now (list .exit)) (now (said .entry)) (now (said .exit)) ⌝ }
+{
+    let room = (records::HEADER <= header.len())
+        & (ranges::RANGES <= ranges.len())
+        & (2 <= said.len());
+    if !room {
+        return 5;
+    }
+    let found = records::header_from(header);
+    let HeaderAnswer::Read(h) = found else {
+        let why = found.refusal();
+        return why.number;
+    };
+    let got = ranges::ranges_from(ranges);
+    let given = got.answer;
+    let RangesAnswer::Read = given else {
+        let why = given.refusal();
+        return why.number;
+    };
+    let r = got.ranges;
+    let answer = lerc_image::walk(blob, h, r, mask, &mut list[..]);
+    match answer {
+        WalkAnswer::Walked { blocks, end } => records::say(blocks, end, &mut said[..]),
+        WalkAnswer::Refused(why) => why.number,
+    }
+}
+
+// One block by its number: `said` is the count of words written.
+#[no_mangle]
+pub extern "C" fn lerc2_fill(
+    blob: &[u8],
+    header: &[u64],
+    ranges: &[u64],
+    mask: &[u8],
+    list: &[usize],
+    number: usize,
+    image: &mut [u64],
+    said: &mut [u64],
+) -> u32
+    ensures { λ r. ⌜ Entry.FillDone (Entry.fillEntry (now (blob .entry)) (now (header .entry)) (now (ranges .entry)) (now (mask .entry)) (now (list .entry)) number (now (image .entry)) (now (said .entry))) (now (mask .entry)) number r (now (image .entry)) (now (image .exit)) (now (said .entry)) (now (said .exit)) ⌝ }
+{
+    let room = (records::HEADER <= header.len())
+        & (ranges::RANGES <= ranges.len())
+        & (1 <= said.len());
+    if !room {
+        return 5;
+    }
+    let found = records::header_from(header);
+    let HeaderAnswer::Read(h) = found else {
+        let why = found.refusal();
+        return why.number;
+    };
+    let got = ranges::ranges_from(ranges);
+    let given = got.answer;
+    let RangesAnswer::Read = given else {
+        let why = given.refusal();
+        return why.number;
+    };
+    let r = got.ranges;
+    let answer = lerc_image::fill(blob, h, r, mask, list, number, &mut image[..]);
+    let FillAnswer::Filled(words) = answer else {
+        let why = answer.refusal();
+        return why.number;
+    };
+    said[0] = words as u64;
+    0
+}
+
+// a + b, both binary64 words
+#[no_mangle]
+pub extern "C" fn lerc2_sum(a: u64, b: u64) -> u64
+    ensures { λ r. ⌜ r ≡ sum a b ⌝ }
+{
+    lerc_numeric::plus(a, b)
+}
+
+// 2qa, a binary64 word
+#[no_mangle]
+pub extern "C" fn lerc2_scaled(a: u64, q: u32) -> u64
+    ensures { λ r. ⌜ r ≡ scaled a q ⌝ }
+{
+    lerc_numeric::scale(a, q)
+}
+
+// a binary64 word as a binary32 word
+#[no_mangle]
+pub extern "C" fn lerc2_narrow(v: u64) -> u32
+    ensures { λ r. ⌜ r ≡ narrowed v ⌝ }
+{
+    lerc_numeric::narrow(v)
+}
+
+// a word of a kind as a binary64 word
+#[no_mangle]
+pub extern "C" fn lerc2_number(word: u64, kind: u32) -> u64
+    ensures { λ r. ⌜ r ≡ valueOf kind word ⌝ }
+{
+    lerc_numeric::number(word, kind)
+}
+
+// a binary64 word as a stored word of a kind, which is what `said` is
+#[no_mangle]
+pub extern "C" fn lerc2_stored(v: u64, kind: u32, said: &mut [u64]) -> u32
+    ensures { λ r. ⌜ Entry.StoredDone (Entry.storedEntry kind v (now (said .entry))) r (now (said .entry)) (now (said .exit)) ⌝ }
+{
+    if said.len() < 1 {
+        return 5;
+    }
+    let answer = lerc_samples::stored(v, kind);
+    let StoredAnswer::Word(word) = answer else {
+        let why = answer.refusal();
+        return why.number;
+    };
+    said[0] = word;
+    0
+}

@@ -1,0 +1,44 @@
+/* One blob from standard input, block by block: header, mask, ranges, walk, then each block from the last to the first.
+ * Writes what each step said; the first refusal is one line with the step and its number. */
+#include "../include/lerc2.h"
+
+#include <inttypes.h>
+#include <stdio.h>
+#include <stdlib.h>
+
+/* room for small tiles; what does not fit is refused 5 */
+enum { BYTES = 65536, MASK = 512, CELLS = 4096 };
+
+static uint8_t blob[BYTES], kept[MASK], spare[MASK];
+static uint64_t header[LERC2_HEADER], ranges[LERC2_RANGES], image[CELLS], said[2];
+static size_t list[CELLS];
+
+static void step(const char *name, uint32_t refused) {
+    if (refused != 0) {
+        printf("%s refused %" PRIu32 "\n", name, refused);
+        exit(1);
+    }
+}
+
+int main(void) {
+    size_t size = fread(blob, 1, BYTES, stdin);
+    step("header", lerc2_read_header(blob, size, header, LERC2_HEADER));
+    step("mask", lerc2_prepare_mask(blob, size, header, LERC2_HEADER, false, kept, MASK, spare, MASK, said, 2));
+    const uint8_t *mask = said[0] == LERC2_KEPT ? kept : spare;
+    size_t length = said[1];
+    printf("mask %zu\n", length);
+    step("ranges", lerc2_read_ranges(blob, size, header, LERC2_HEADER, ranges, LERC2_RANGES));
+    printf("body at %" PRIu64 "\n", ranges[LERC2_RANGES_AT]);
+    step("walk", lerc2_walk(blob, size, header, LERC2_HEADER, ranges, LERC2_RANGES, mask, length, list, CELLS, said, 2));
+    size_t count = said[0];
+    printf("blocks %zu end %" PRIu64 "\n", count, said[1]);
+    for (size_t n = count; 0 < n; n--) {
+        step("fill", lerc2_fill(blob, size, header, LERC2_HEADER, ranges, LERC2_RANGES, mask, length, list, CELLS, n - 1,
+                                image, CELLS, said, 2));
+        printf("block %zu at %zu words %" PRIu64 "\n", n - 1, list[n - 1], said[0]);
+    }
+    for (size_t c = 0; c < header[LERC2_ROWS] * header[LERC2_COLUMNS] * header[LERC2_DEPTH]; c++) {
+        printf("cell %zu %" PRIu64 "\n", c, image[c]);
+    }
+    return 0;
+}

@@ -1,0 +1,170 @@
+/* Lerc2 version 4 blobs, read by functions that are proved (crates/lerc_c).
+ *
+ * Link target/staticlib/liblerc_c.a, which `rt staticlib lerc_c` writes; x86-64 only. It needs memcpy and memset and
+ * nothing else: no allocation, no input or output, no state between calls.
+ *
+ * Answers. Every function that can refuse returns 0 where it accepts, else the number of the refusal:
+ *    1  a field, number or packed run passes the declared size, or the blob is shorter than it or than 70 bytes
+ *    2  key or version differs
+ *    3  a header field breaks its rule, or a number of a record does not fit its field
+ *    4  a ceiling is passed
+ *    5  a slice is too short: kept mask, spare mask, mask, image, list, or a record
+ *    6  mask section wrong, or a mask would be reused that must not be or has another count of valid pixels
+ *    7  a range number not finite, or a maximum less than its minimum
+ *    8  block, sweep or mode byte wrong
+ *    9  a value does not fit its integer kind
+ *   10  walk on a body not in blocks; mode byte 1 or 2
+ *   11  block number at or above the count
+ * Reading goes front to back, and the first failing read decides the number.
+ *
+ * Slices. Each is a pointer and a count of elements (not bytes). The pointer must not be null, also where the count is
+ * 0; it must be aligned for its type and point to that many initialised elements. What is written (no `const`) must not
+ * overlap any other slice of the same call. That is all that is asked: any contents and any counts are answered.
+ * Longer than needed is fine, and what is past the need stays as it was.
+ *
+ * Records. A header, ranges and what a function says are arrays of uint64_t. A record slice that is too short is
+ * refused first (5), then a number that its field cannot hold (3: a header field of 2^32 or more, a constant mark that
+ * is neither 0 nor 1), then what the function's own comment lists, in that order. After any refusal every record is as
+ * it was. On acceptance a record's first entries are written and the rest stay.
+ *
+ * Sizes that follow from a header: pixels = rows * columns; a mask has (pixels + 7) / 8 bytes; there are
+ * ceil(rows / side) * ceil(columns / side) * depth blocks; cells = pixels * depth. Room is judged from the header
+ * alone, for every slice that is lent, whatever the body.
+ *
+ * Pixel p is bit 7 - p % 8 of byte p / 8 of a mask. The word of pixel p at depth d stands at p * depth + d of an
+ * image: the sample's own bits, zero-extended. Cells of pixels that are not valid are never written.
+ */
+#ifndef LERC2_H
+#define LERC2_H
+
+#include <stdbool.h>
+#include <stddef.h>
+#include <stdint.h>
+
+#ifdef __cplusplus
+extern "C" {
+#endif
+
+/* places in a header's record; all but error, min and max are below 2^32. Error, min and max are the bits of a double */
+enum {
+    LERC2_ROWS,
+    LERC2_COLUMNS,
+    LERC2_DEPTH,
+    LERC2_VALID,
+    LERC2_SIDE,
+    LERC2_SIZE,
+    LERC2_KIND,
+    LERC2_ERROR,
+    LERC2_MIN,
+    LERC2_MAX,
+    LERC2_MASK,
+    LERC2_HEADER /* how many numbers */
+};
+
+/* places in a record of ranges: where the body begins, the constant mark (0 or 1), then the bits of 64 minima and of
+ * 64 maxima, one for each depth */
+enum {
+    LERC2_RANGES_AT,
+    LERC2_RANGES_CONSTANT,
+    LERC2_RANGES_MIN,
+    LERC2_RANGES_MAX = 66,
+    LERC2_RANGES = 130 /* how many numbers */
+};
+
+/* what lerc2_read says: the header, then these */
+enum {
+    LERC2_READ_BLOCKS = LERC2_HEADER,
+    LERC2_READ_END,
+    LERC2_READ /* how many numbers */
+};
+
+/* what lerc2_prepare_mask says first */
+enum { LERC2_KEPT = 1, LERC2_SPARE = 2 };
+
+/* The header of a blob.
+ * Refuses 5 (header under 11), 1 (blob under 70 bytes), 2, 3, 4, 1 (blob shorter than its declared size).
+ * Accepted: header[0 .. 10] is the header.
+ * Refused: header is as it was. */
+uint32_t lerc2_read_header(const uint8_t *blob, size_t blob_count, uint64_t *header, size_t header_count);
+
+/* A whole blob. `kept` is the mask of the blob before, and is used for a blob without one where reuse is true.
+ * Refuses 5 (said under 13), then the header's 1, 2, 3, 4, 1; 5 (kept, spare, list or image too short); 6 (mask);
+ * 1, 7 (ranges); 9 (constant body); 1, 8, 10 (sweep and mode byte); 1 (raw body); 1, 8, 9 (block by block).
+ * Accepted: said[0 .. 10] is the header, said[11] the count of blocks (0 for a body without blocks), said[12] where the
+ *   body ends. The valid cells of the image hold their words. The first mask bytes of kept are the mask in force, and
+ *   so are those of spare unless the kept mask was reused. list[0 .. blocks - 1] is where each block begins.
+ * Refused: said, kept, list and image are as they were. So is spare, but for one case: where the mask section was
+ *   accepted and no mask was reused, its first mask bytes are the new mask. */
+uint32_t lerc2_read(const uint8_t *blob, size_t blob_count, bool reuse, uint8_t *kept, size_t kept_count, uint8_t *spare,
+                    size_t spare_count, size_t *list, size_t list_count, uint64_t *image, size_t image_count,
+                    uint64_t *said, size_t said_count);
+
+/* ---- A blob block by block. Header and ranges are given by value: they are held to the rules again, and not compared
+ * with the blob. */
+
+/* The mask of a blob.
+ * Refuses 5 (header under 11, said under 2), 3 (a field of 2^32 or more), 3, 4, 1 (the header), 5 (kept or spare under
+ * the mask's length, reuse or not), 6.
+ * Accepted: said[0] is LERC2_KEPT or LERC2_SPARE, whichever slice holds the mask, said[1] its length. The first
+ *   said[1] bytes of spare are the new mask where said[0] is LERC2_SPARE, else spare is as it was.
+ * Refused: spare and said are as they were. */
+uint32_t lerc2_prepare_mask(const uint8_t *blob, size_t blob_count, const uint64_t *header, size_t header_count,
+                            bool reuse, const uint8_t *kept, size_t kept_count, uint8_t *spare, size_t spare_count,
+                            uint64_t *said, size_t said_count);
+
+/* The ranges of a blob; `valid` is not looked at.
+ * Refuses 5 (header under 11, ranges under 130), 3 (a field of 2^32 or more), 3, 4, 1 (the header), 1 (the ranges do
+ * not fit), 7.
+ * Accepted: ranges[0 .. 129] is the record.
+ * Refused: ranges is as it was. */
+uint32_t lerc2_read_ranges(const uint8_t *blob, size_t blob_count, const uint64_t *header, size_t header_count,
+                           uint64_t *ranges, size_t ranges_count);
+
+/* Checks every block, values included, then writes where each begins.
+ * Refuses 5 (header under 11, ranges under 130, said under 2), 3 (a field of 2^32 or more, a constant mark above 1),
+ * 3, 4, 1 (the header), 5 (mask or list too short), 7 (the pairs below the depth), 10 (no valid pixel, or the constant
+ * mark), 1, 8, 10 (sweep and mode byte), then block by block 1, 8, 9.
+ * Accepted: said[0] is the count of blocks, said[1] where the last one ends, list[0 .. said[0] - 1] the starts.
+ * Refused: list and said are as they were. */
+uint32_t lerc2_walk(const uint8_t *blob, size_t blob_count, const uint64_t *header, size_t header_count,
+                    const uint64_t *ranges, size_t ranges_count, const uint8_t *mask, size_t mask_count, size_t *list,
+                    size_t list_count, uint64_t *said, size_t said_count);
+
+/* One block, at its listed start. Any order and any repeats give the same image.
+ * Refuses 5 (header under 11, ranges under 130, said under 1), 3 (a field of 2^32 or more, a constant mark above 1),
+ * 3, 4, 1 (the header), 11 (number), 5 (mask, list or image too short), 7 (the pairs below the depth), then the block's
+ * 1, 8, 9. The constant mark, `valid`, sweep and mode byte are not looked at.
+ * Accepted: said[0] is the count of words written, which is the count of valid pixels of the block's tile; the valid
+ *   cells of the block hold their words, and every other cell is as it was.
+ * Refused: image and said are as they were. */
+uint32_t lerc2_fill(const uint8_t *blob, size_t blob_count, const uint64_t *header, size_t header_count,
+                    const uint64_t *ranges, size_t ranges_count, const uint8_t *mask, size_t mask_count,
+                    const size_t *list, size_t list_count, size_t number, uint64_t *image, size_t image_count,
+                    uint64_t *said, size_t said_count);
+
+/* ---- The arithmetic. A double is its bits. Rounding is to nearest, ties to even; what is 2^1024 - 2^970 and above
+ * becomes infinity; an operand that is not finite is counted as if its exponent were one above the largest. */
+
+/* a + b */
+uint64_t lerc2_sum(uint64_t a, uint64_t b);
+
+/* 2 * q * a */
+uint64_t lerc2_scaled(uint64_t a, uint32_t q);
+
+/* a double as the bits of a float */
+uint32_t lerc2_narrow(uint64_t v);
+
+/* a word of a kind as a double. Kinds: 0 i8, 1 u8, 2 i16, 3 u16, 4 i32, 5 u32, 6 float, 7 double. Of a wider word the
+ * low bits count */
+uint64_t lerc2_number(uint64_t word, uint32_t kind);
+
+/* A double as a stored word of a kind: integers are cut toward zero.
+ * Refuses 5 (said under 1), 9 (the integers of the kind do not hold it).
+ * Accepted: said[0] is the word. Refused: said is as it was. */
+uint32_t lerc2_stored(uint64_t v, uint32_t kind, uint64_t *said, size_t said_count);
+
+#ifdef __cplusplus
+}
+#endif
+
+#endif
