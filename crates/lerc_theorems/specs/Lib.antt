@@ -1,2 +1,13 @@
 pub mod Cases
 pub mod Witness
+pub mod Promises
+pub mod Refusals
+pub mod Writes
+pub mod BlockTable
+pub mod MaskTable
+pub mod Table
+pub mod Numbers
+pub mod DemandOne
+pub mod DemandTwo
+pub mod DemandThree
+pub mod Claims

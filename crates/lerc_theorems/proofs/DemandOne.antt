@@ -1,0 +1,20 @@
+-- Demand 1, proved.
+-- Assumes nothing.
+use Rattle.lerc_theorems.specs.DemandOne.{DemandOne}
+use Rattle.lerc_theorems.proofs.Determined.{no-room, no-room-in-c}
+use Rattle.lerc_theorems.proofs.Refusals.{refusals-keep, refusals-empty, whole-keeps}
+use Rattle.lerc_theorems.proofs.Numbers.{numbers-exactly, numbers-only}
+use Rattle.lerc_theorems.proofs.Writes.{writes-only, whole-writes}
+
+pub demand-one : DemandOne
+demand-one = record {
+  no-room = no-room;
+  no-room-in-c = no-room-in-c;
+  numbers-exactly = numbers-exactly;
+  numbers-only = numbers-only;
+  refusal-keeps = refusals-keep;
+  whole-keeps = λ k a x why p. whole-keeps _ _ _ _ why p;
+  refusal-empty = refusals-empty;
+  writes-only = writes-only;
+  whole-writes = λ k a x n end p. whole-writes _ _ _ _ n end p;
+}

@@ -1,0 +1,69 @@
+-- Chains of demands: "the first failing read decides the number".
+-- Assumes nothing.
+use mathlib.Core.Path.{_≡_, _∙_, sym, ap, refl, subst}
+use mathlib.Core.Logic.{_⊎_, inl, inr}
+use mathlib.Core.Bool.{Bool, true, false, cond, _&&_}
+use Prim.Native.Nat.{ℕ}
+use native.Mathlib.Omega.{arith}
+use Rattle.lerc_words.specs.declared.Refusal.{Refusal}
+use Rattle.lerc_words.specs.Res.{Res, ok, fail, _>>=_, refuse, require}
+
+pub fail-is : {A : Type 0} {n j : ℕ} → _≡_ {A = Res A} (fail (refuse n)) (fail (refuse j)) → n ≡ j
+fail-is {n = n} {j = j} e = let z : refuse n ≡ refuse j = cc in ap (λ (x : Refusal). x .number) z
+
+pub not-refused : {A : Type 0} {P : Type 0} {a : A} {r : Refusal} → ok a ≡ fail r → P
+not-refused e = absurd (let z : _≡_ {A = ℕ} 0 1 = cc in omega arith)
+
+-- a chain is refused with j: so is its first demand, which then has this number, or that demand holds and the rest is refused with j
+module _ (P : ℕ → Type 0) {j : ℕ} where
+  pub demand : {B : Type 0} (t : Bool) (n : ℕ) (k : Bool → Res B) → (require t n >>= k) ≡ fail (refuse j) → (t ≡ false → P n) → (t ≡ true → k true ≡ fail (refuse j) → P j) → P j
+  demand true n k e f g = g refl e
+  demand false n k e f g = subst P (fail-is e) (f refl)
+
+  -- the same of a link that is itself an answer
+  pub reading : {A B : Type 0} (m : Res A) (k : A → Res B) → (m >>= k) ≡ fail (refuse j) → (m ≡ fail (refuse j) → P j) → ((a : A) → m ≡ ok a → k a ≡ fail (refuse j) → P j) → P j
+  reading (ok a) k e f g = g a refl e
+  reading (fail r) k e f g = let z : r ≡ refuse j = cc in f (ap fail z)
+
+  -- and of one that is refused with one number only
+  pub reading-one : {A B : Type 0} (n : ℕ) (m : Res A) (k : A → Res B) → ((r : Refusal) → m ≡ fail r → r ≡ refuse n) → (m >>= k) ≡ fail (refuse j) → (m ≡ fail (refuse n) → P n)
+      → ((a : A) → m ≡ ok a → k a ≡ fail (refuse j) → P j) → P j
+  reading-one n (ok a) k u e f g = g a refl e
+  reading-one n (fail r) k u e f g = let z : r ≡ refuse j = cc in let y : refuse n ≡ refuse j = sym (u r refl) ∙ z in subst P (ap (λ (x : Refusal). x .number) y) (f (ap fail (u r refl)))
+
+  pub choosing : {B : Type 0} (t : Bool) (x y : Res B) → cond t x y ≡ fail (refuse j) → (t ≡ true → x ≡ fail (refuse j) → P j) → (t ≡ false → y ≡ fail (refuse j) → P j) → P j
+  choosing true x y e f g = f refl e
+  choosing false x y e f g = g refl e
+
+-- one of two tests fails
+pub and-not : (a b : Bool) → (a && b) ≡ false → (a ≡ false) ⊎ (b ≡ false)
+and-not true b e = inr e
+and-not false b e = inl refl
+
+pub and-first : (a b : Bool) → a ≡ false → (a && b) ≡ false
+and-first false b e = refl
+and-first true b e = absurd (let z : _≡_ {A = ℕ} 0 1 = cc in omega arith)
+
+pub and-second : (a b : Bool) → b ≡ false → (a && b) ≡ false
+and-second true b e = e
+and-second false b e = refl
+
+-- ---- an answer that is refused with one number only
+
+abbrev pub One : {A : Type 0} → ℕ → Res A → Type 0
+One n m = (r : Refusal) → m ≡ fail r → r ≡ refuse n
+
+pub one-ok : {A : Type 0} (n : ℕ) (a : A) → One n (ok a)
+one-ok n a r e = not-refused e
+
+pub one-require : (n : ℕ) (t : Bool) → One n (require t n)
+one-require n true r e = not-refused e
+one-require n false r e = cc
+
+pub one-bind : {A B : Type 0} (n : ℕ) (m : Res A) (k : A → Res B) → One n m → ((a : A) → One n (k a)) → One n (m >>= k)
+one-bind n (ok a) k u v r e = v a r e
+one-bind n (fail q) k u v r e = let z : q ≡ r = cc in u r (ap fail z)
+
+pub one-cond : {A : Type 0} (n : ℕ) (t : Bool) {x y : Res A} → One n x → One n y → One n (cond t x y)
+one-cond n true u v = u
+one-cond n false u v = v

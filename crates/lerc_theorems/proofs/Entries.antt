@@ -1,0 +1,315 @@
+-- When sweep bytes, blocks, a walk, a fill and a whole read are refused: the table holds exactly.
+-- Assumes nothing.
+use mathlib.Core.Path.{_≡_, ap, refl}
+use mathlib.Core.Logic.{_↔_, _≢_, inl, inr, ⊎-elim}
+use mathlib.Core.Bool.{Bool, true, false, cond, not, _&&_}
+use mathlib.Core.List.{List, [], _∷_}
+use Prim.Native.Nat.{ℕ, zero, suc, _+_, _*_, _<_}
+use native.Mathlib.Omega.{arith}
+use native.Mathlib.Nat.{add-zero, add-suc, suc-add}
+use lib.ListN.{length, getD, take}
+use lib.Dec.{leb, ltb, eqb}
+use borrow.Author.Tests.{ltb-true, ltb-false, lt-ltb, le-ltb, leb-true, leb-false, le-leb, lt-leb, eqb-false, ne-eqb, not-true, not-false}
+use Rattle.lerc_words.specs.Res.{ok, fail, refuse, wordAt}
+use Rattle.lerc_words.proofs.Laws.{bind-is, and-is, ok-is, wordAt-fails, wordAt-no}
+use Rattle.lerc_numeric.specs.Kinds.{typeSize}
+use Rattle.lerc_header.specs.declared.Header.{Header}
+use Rattle.lerc_header.specs.Header.{shapeOf, extentOf, held, headerSays}
+use Rattle.lerc_header.specs.Shape.{cells, maskLength, blockCount}
+use Rattle.lerc_header.proofs.Kept.{held-is}
+use Rattle.lerc_planes.specs.declared.Ranges.{Ranges}
+use Rattle.lerc_planes.specs.Validity.{bytesOf, maskSays}
+use Rattle.lerc_planes.specs.Ranges.{pairsRight, rangesSays, constantWords}
+use Rattle.lerc_block.specs.Block.{Block, rawWords}
+use Rattle.lerc_image.specs.Geometry.{tileOf, tileValid}
+use Rattle.lerc_image.specs.Sweep.{Way, rawFrom, blocksFrom, hasModeByte, modeAt, moded, swept}
+use Rattle.lerc_image.specs.Blocks.{Chain, blockAt, chain, allBlocks}
+use Rattle.lerc_image.specs.Walk.{walked, bodyWalked, walkSays}
+use Rattle.lerc_image.specs.Fill.{fillSays}
+use Rattle.lerc_image.specs.Tiles.{tilesSays}
+use Rattle.lerc.specs.Meaning.{rawBody, blockBody, bodyFrom, sweptBody, constantBody, bodySays, meaningFrom}
+use Rattle.lerc.specs.Read.{Lent, room, Masked, masked, readSays}
+use Rattle.lerc_theorems.specs.Table.{ModeRefused, mode-cut, mode-wrong, mode-coded, SweepRefused, sweep-cut, sweep-wrong, mode-refused, BlockAtRefused, ChainRefused, block-refused, WalkBodyRefused, walk-sweep, walk-raw, walk-blocks, WalkRoom, WalkRefused, walk-held, walk-room, walk-pairs, walk-other, walk-body, FillRoom, NoFillRoom, FillRefused, fill-held, fill-number, fill-room, fill-pairs, fill-block, TilesRefused, tiles-held, tiles-room, tiles-blocks, BodyRefused, body-ranges, body-constant, body-sweep, body-raw, body-blocks, WholeRefused, whole-header, whole-room, whole-mask, whole-body}
+use Rattle.lerc_theorems.proofs.Wrong.{pairs-not, not-pairs}
+use Rattle.lerc_theorems.proofs.Wrong as wrong
+use Rattle.lerc_theorems.proofs.Demands.{fail-is, demand, reading, reading-one, choosing, not-refused, and-not, and-first, and-second}
+use Rattle.lerc_theorems.proofs.Blocks.{word-one, constants-exactly, block-exactly}
+use Rattle.lerc_theorems.proofs.Headers.{right-held, held-right, held-exactly, header-exactly, mask-exactly, ranges-exactly}
+
+-- ---- sweep and mode byte
+
+module _ (s : List ℕ) where
+  mode-at : {n : ℕ} (at : ℕ) → modeAt s at ≡ fail (refuse n) → ModeRefused s at n
+  unfolding modeAt
+  mode-at at e =
+      let P = ModeRefused s at in
+      reading-one P 1 (wordAt 1 s at) _ (word-one 1 s at) e (λ d. mode-cut (wordAt-fails 1 s at d)) (λ v d e.
+      demand P (ltb v 3) 8 _ e (λ t. mode-wrong v d (ltb-false _ _ t)) (λ t e.
+      let l = ltb-true v 3 t in
+      demand P (eqb v 0) 10 _ e (λ u. let z : v ≢ 0 = eqb-false v 0 u in mode-coded v d (omega (arith, z)) (omega arith)) (λ u e. not-refused e)))
+
+  at-mode : {n at : ℕ} → ModeRefused s at n → modeAt s at ≡ fail (refuse n)
+  unfolding modeAt
+  at-mode (mode-cut l) = rw (wordAt-no 1 s _ l)
+  at-mode (mode-wrong v d l) = rw (d, le-ltb v 3 l)
+  at-mode (mode-coded v d l u) = let a : v < 3 = omega arith in let z : v ≢ 0 = λ q. absurd (omega arith) in rw (d, lt-ltb v 3 a, ne-eqb v 0 z)
+
+  module _ (kind error at : ℕ) where
+    sweep-refused : {n : ℕ} → swept s kind error at ≡ fail (refuse n) → SweepRefused s kind error at n
+    unfolding swept moded
+    sweep-refused e =
+        let P = SweepRefused s kind error at in
+        reading-one P 1 (wordAt 1 s at) _ (word-one 1 s at) e (λ d. sweep-cut (wordAt-fails 1 s at d)) (λ v d e.
+        demand P (ltb v 2) 8 _ e (λ t. sweep-wrong v d (ltb-false _ _ t)) (λ t e.
+        let l = ltb-true v 2 t in
+        choosing P (eqb v 1) _ _ e (λ u e. not-refused e) (λ u e.
+        let o : v ≢ 1 = eqb-false v 1 u in
+        let z : v ≡ 0 = omega (arith, o) in
+        choosing P (hasModeByte kind error) _ _ e (λ m e. mode-refused (rw (z) at d) m (mode-at (at + 1) e)) (λ m e. not-refused e))))
+
+    refused-sweep : {n : ℕ} → SweepRefused s kind error at n → swept s kind error at ≡ fail (refuse n)
+    unfolding swept moded
+    refused-sweep (sweep-cut l) = rw (wordAt-no 1 s at l)
+    refused-sweep (sweep-wrong v d l) = rw (d, le-ltb v 2 l)
+    refused-sweep (mode-refused d m r) = rw (d, m, at-mode r)
+
+    pub sweep-exactly : (n : ℕ) → (swept s kind error at ≡ fail (refuse n)) ↔ SweepRefused s kind error at n
+    sweep-exactly n = (sweep-refused, refused-sweep)
+
+-- ---- blocks
+
+module _ (s : List ℕ) (h : Header) (maxima m : List ℕ) where
+  pub block-at-exactly : (n at j : ℕ) → (blockAt s h maxima m n at ≡ fail (refuse j)) ↔ BlockAtRefused s h maxima m n at j
+  unfolding blockAt
+  block-at-exactly n at j =
+      let t = tileOf (shapeOf h) n in
+      block-exactly s (h .kind) (h .error) (getD maxima (t .d) 0) at (t .x) (tileValid (shapeOf h) m t) j
+
+  chain-refused : {j : ℕ} (f n at : ℕ) → chain s h maxima m f n at ≡ fail (refuse j) → ChainRefused s h maxima m f n at j
+  unfolding chain
+  chain-refused zero n at e = not-refused e
+  chain-refused {j} (suc f) n at e =
+      let P = ChainRefused s h maxima m (suc f) n at in
+      reading P (blockAt s h maxima m n at) _ e (λ d. block-refused {j = j} 0 (record { starts = []; words = []; end = at }) (omega arith) refl (rw (add-zero) (block-at-exactly n at j .0 d))) (λ b d e.
+      reading P (chain s h maxima m f (suc n) (b .next)) _ e (λ q. later b d (chain-refused f (suc n) (b .next) q)) (λ c q e. not-refused e))
+    where
+      later : (b : Block) → blockAt s h maxima m n at ≡ ok b → ChainRefused s h maxima m f (suc n) (b .next) j → ChainRefused s h maxima m (suc f) n at j
+      later b d (block-refused k c l p q) =
+          block-refused {j = j} (suc k) (record { starts = at ∷ c .starts; words = b .words ∷ c .words; end = c .end }) (omega arith) (rw (d, p)) (rw (add-suc) (rw (suc-add) at q))
+
+  refused-at : {j : ℕ} (f n at k : ℕ) (c : Chain) → k < f → chain s h maxima m k n at ≡ ok c → blockAt s h maxima m (n + k) (c .end) ≡ fail (refuse j) → chain s h maxima m f n at ≡ fail (refuse j)
+  unfolding chain
+  refused-at zero n at k c l p q = absurd (omega arith)
+  refused-at (suc f) n at zero c l p q =
+      let z : at ≡ c .end = ap (λ (x : Chain). x .end) (ok-is p) in
+      rw (rw (add-zero, ← z) at q)
+  refused-at {j} (suc f) n at (suc k) c l p q =
+      let (b, d, p) = bind-is (blockAt s h maxima m n at) _ p in
+      let (x, g, p) = bind-is (chain s h maxima m k (suc n) (b .next)) _ p in
+      let z : x .end ≡ c .end = ap (λ (y : Chain). y .end) (ok-is p) in
+      rw (d, refused-at {j = j} f (suc n) (b .next) k x (omega arith) g (rw (suc-add) (rw (add-suc, ← z) at q)))
+
+  pub chain-exactly : (f n at j : ℕ) → (chain s h maxima m f n at ≡ fail (refuse j)) ↔ ChainRefused s h maxima m f n at j
+  chain-exactly f n at j = (chain-refused f n at, back)
+    where
+      back : ChainRefused s h maxima m f n at j → chain s h maxima m f n at ≡ fail (refuse j)
+      back (block-refused k c l p q) = refused-at f n at k c l p (block-at-exactly (n + k) (c .end) j .1 q)
+
+-- ---- walk
+
+module _ (s : List ℕ) (h : Header) (r : Ranges) (m : List ℕ) where
+  walk-body-refused : {n : ℕ} → bodyWalked s h (r .max) m (r .at) ≡ fail (refuse n) → WalkBodyRefused s h r m n
+  unfolding bodyWalked walked
+  walk-body-refused {n} e = reading (WalkBodyRefused s h r m) (swept s (h .kind) (h .error) (r .at)) _ e (λ d. walk-sweep (sweep-exactly s (h .kind) (h .error) (r .at) n .0 d)) (λ w d e. on w d e)
+    where
+      on : (w : Way) → swept s (h .kind) (h .error) (r .at) ≡ ok w → walked s h (r .max) m w ≡ fail (refuse n) → WalkBodyRefused s h r m n
+      on (rawFrom at) d e = rw (← fail-is e) (walk-raw at d)
+      on (blocksFrom at) d e = walk-blocks at d (chain-exactly s h (r .max) m (blockCount (shapeOf h)) 0 at n .0 e)
+
+  refused-walk-body : {n : ℕ} → WalkBodyRefused s h r m n → bodyWalked s h (r .max) m (r .at) ≡ fail (refuse n)
+  unfolding bodyWalked walked
+  refused-walk-body {n} (walk-sweep d) = rw (sweep-exactly s (h .kind) (h .error) (r .at) n .1 d)
+  refused-walk-body (walk-raw at d) = rw (d)
+  refused-walk-body {n} (walk-blocks at d c) = rw (d, chain-exactly s h (r .max) m (blockCount (shapeOf h)) 0 at n .1 c)
+
+module _ (b : List ℕ) (h : Header) (r : Ranges) (m : List ℕ) (entries : ℕ) where
+  walk-refused : {n : ℕ} → walkSays b h r m entries ≡ fail (refuse n) → WalkRefused b h r m entries n
+  unfolding walkSays
+  walk-refused {n} e =
+      let P = WalkRefused b h r m entries in
+      reading P (held h (length b)) _ e (λ d. walk-held (held-exactly h (length b) n .0 d)) (λ x d e.
+      let i : x ≡ extentOf h = held-is h (length b) d in
+      let g = held-right h (length b) d in
+      let e' = rw (i) at e in
+      demand P (leb (maskLength (shapeOf h)) (length m) && leb (blockCount (shapeOf h)) entries) 5 _ e'
+      (λ t. walk-room g (⊎-elim (λ u. inl (leb-false _ _ u)) (λ u. inr (leb-false _ _ u)) (and-not _ _ t)))
+      (λ t e. let (u, v) = and-is _ _ t in let k : WalkRoom h m entries = record { mask = leb-true _ _ u; list = leb-true _ _ v } in
+      demand P (pairsRight (h .depth) r) 7 _ e (λ p. walk-pairs g k (pairs-not (h .depth) r p)) (λ p e.
+      demand P (ltb 0 (h .valid) && not (r .constant)) 10 _ e
+      (λ t. walk-other g k p (⊎-elim (λ u. inl (let w = ltb-false 0 (h .valid) u in omega arith)) (λ u. inr (not-false _ u)) (and-not _ _ t)))
+      (λ t e. let (u, v) = and-is _ _ t in
+      walk-body g k p (λ z. absurd (let w = ltb-true 0 (h .valid) u in omega arith)) (not-true _ v) (walk-body-refused (take (h .size) b) h r m e)))))
+
+  refused-walk : {n : ℕ} → WalkRefused b h r m entries n → walkSays b h r m entries ≡ fail (refuse n)
+  unfolding walkSays
+  refused-walk {n} (walk-held d) = rw (held-exactly h (length b) n .1 d)
+  refused-walk (walk-room g s) =
+      rw (right-held h (length b) g, ⊎-elim (λ u. and-first _ (leb (blockCount (shapeOf h)) entries) (lt-leb _ _ u)) (λ u. and-second (leb (maskLength (shapeOf h)) (length m)) _ (lt-leb _ _ u)) s)
+  refused-walk (walk-pairs g k p) = rw (right-held h (length b) g, le-leb _ _ (k .mask), le-leb _ _ (k .list), not-pairs (h .depth) r p)
+  refused-walk (walk-other g k p o) =
+      rw (
+        right-held h (length b) g,
+        le-leb _ _ (k .mask),
+        le-leb _ _ (k .list),
+        p,
+        ⊎-elim (λ z. and-first (ltb 0 (h .valid)) (not (r .constant)) (le-ltb 0 (h .valid) (let w : h .valid ≡ 0 = z in omega arith))) (λ z. and-second (ltb 0 (h .valid)) (not (r .constant)) (rw (z))) o,
+      )
+  refused-walk {n} (walk-body g k p v c w) =
+      let z : 0 < h .valid = omega (arith, v) in
+      rw (right-held h (length b) g, le-leb _ _ (k .mask), le-leb _ _ (k .list), p, lt-ltb 0 (h .valid) z, c, refused-walk-body (take (h .size) b) h r m w)
+
+  pub walk-exactly : (n : ℕ) → (walkSays b h r m entries ≡ fail (refuse n)) ↔ WalkRefused b h r m entries n
+  walk-exactly n = (walk-refused, refused-walk)
+
+-- ---- fill, and all blocks at once
+
+module _ (h : Header) (m : List ℕ) (entries words : ℕ) where
+  abbrev fillRoom : Bool
+  fillRoom = leb (maskLength (shapeOf h)) (length m) && leb (blockCount (shapeOf h)) entries && leb (cells (shapeOf h)) words
+
+  room-is : fillRoom ≡ true → FillRoom h m entries words
+  room-is t =
+      let (a, c) = and-is (leb (maskLength (shapeOf h)) (length m) && leb (blockCount (shapeOf h)) entries) _ t in
+      let (a, b) = and-is (leb (maskLength (shapeOf h)) (length m)) _ a in
+      record { mask = leb-true _ _ a; list = leb-true _ _ b; image = leb-true _ _ c }
+
+  is-room : FillRoom h m entries words → fillRoom ≡ true
+  is-room k = rw (le-leb _ _ (k .mask), le-leb _ _ (k .list), le-leb _ _ (k .image))
+
+  room-not : fillRoom ≡ false → NoFillRoom h m entries words
+  room-not t =
+      ⊎-elim (λ u. ⊎-elim (λ v. inl (leb-false _ _ v)) (λ v. inr (inl (leb-false _ _ v))) (and-not (leb (maskLength (shapeOf h)) (length m)) _ u)) (λ u. inr (inr (leb-false _ _ u)))
+      (and-not (leb (maskLength (shapeOf h)) (length m) && leb (blockCount (shapeOf h)) entries) _ t)
+
+  not-room : NoFillRoom h m entries words → fillRoom ≡ false
+  not-room (inl u) = and-first _ (leb (cells (shapeOf h)) words) (and-first _ (leb (blockCount (shapeOf h)) entries) (lt-leb _ _ u))
+  not-room (inr (inl u)) = and-first _ (leb (cells (shapeOf h)) words) (and-second (leb (maskLength (shapeOf h)) (length m)) _ (lt-leb _ _ u))
+  not-room (inr (inr u)) = and-second (leb (maskLength (shapeOf h)) (length m) && leb (blockCount (shapeOf h)) entries) _ (lt-leb _ _ u)
+
+module _ (b : List ℕ) (h : Header) (r : Ranges) (m list : List ℕ) (n words : ℕ) where
+  fill-refused : {j : ℕ} → fillSays b h r m list n words ≡ fail (refuse j) → FillRefused b h r m list n words j
+  unfolding fillSays
+  fill-refused {j} e =
+      let P = FillRefused b h r m list n words in
+      reading P (held h (length b)) _ e (λ d. fill-held (held-exactly h (length b) j .0 d)) (λ x d e.
+      let i : x ≡ extentOf h = held-is h (length b) d in
+      let g = held-right h (length b) d in
+      let e' = rw (i) at e in
+      demand P (ltb n (blockCount (shapeOf h))) 11 _ e' (λ t. fill-number g (ltb-false _ _ t)) (λ t e.
+      let l = ltb-true n (blockCount (shapeOf h)) t in
+      demand P (fillRoom h m (length list) words) 5 _ e (λ u. fill-room g l (room-not h m (length list) words u)) (λ u e.
+      let k = room-is h m (length list) words u in
+      demand P (pairsRight (h .depth) r) 7 _ e (λ p. fill-pairs g l k (pairs-not (h .depth) r p)) (λ p e. fill-block g l k p (block-at-exactly (take (h .size) b) h (r .max) m n (getD list n 0) j .0 e)))))
+
+  refused-fill : {j : ℕ} → FillRefused b h r m list n words j → fillSays b h r m list n words ≡ fail (refuse j)
+  unfolding fillSays
+  refused-fill {j} (fill-held d) = rw (held-exactly h (length b) j .1 d)
+  refused-fill (fill-number g l) = rw (right-held h (length b) g, le-ltb _ _ l)
+  refused-fill (fill-room g l u) = rw (right-held h (length b) g, lt-ltb _ _ l, not-room h m (length list) words u)
+  refused-fill (fill-pairs g l k p) = rw (right-held h (length b) g, lt-ltb _ _ l, is-room h m (length list) words k, not-pairs (h .depth) r p)
+  refused-fill {j} (fill-block g l k p e) =
+      rw (right-held h (length b) g, lt-ltb _ _ l, is-room h m (length list) words k, p) (block-at-exactly (take (h .size) b) h (r .max) m n (getD list n 0) j .1 e)
+
+  pub fill-exactly : (j : ℕ) → (fillSays b h r m list n words ≡ fail (refuse j)) ↔ FillRefused b h r m list n words j
+  fill-exactly j = (fill-refused, refused-fill)
+
+module _ (b : List ℕ) (h : Header) (m maxima : List ℕ) (at entries words : ℕ) where
+  tiles-refused : {j : ℕ} → tilesSays b h m maxima at entries words ≡ fail (refuse j) → TilesRefused b h m maxima at entries words j
+  unfolding tilesSays
+  tiles-refused {j} e =
+      let P = TilesRefused b h m maxima at entries words in
+      reading P (held h (length b)) _ e (λ d. tiles-held (held-exactly h (length b) j .0 d)) (λ x d e.
+      let i : x ≡ extentOf h = held-is h (length b) d in
+      let g = held-right h (length b) d in
+      let e' = rw (i) at e in
+      demand P (fillRoom h m entries words) 5 _ e' (λ u. tiles-room g (room-not h m entries words u)) (λ u e.
+      tiles-blocks g (room-is h m entries words u) (chain-exactly (take (h .size) b) h maxima m (blockCount (shapeOf h)) 0 at j .0 e)))
+
+  refused-tiles : {j : ℕ} → TilesRefused b h m maxima at entries words j → tilesSays b h m maxima at entries words ≡ fail (refuse j)
+  unfolding tilesSays
+  refused-tiles {j} (tiles-held d) = rw (held-exactly h (length b) j .1 d)
+  refused-tiles (tiles-room g u) = rw (right-held h (length b) g, not-room h m entries words u)
+  refused-tiles {j} (tiles-blocks g k c) = rw (right-held h (length b) g, is-room h m entries words k) (chain-exactly (take (h .size) b) h maxima m (blockCount (shapeOf h)) 0 at j .1 c)
+
+  pub tiles-exactly : (j : ℕ) → (tilesSays b h m maxima at entries words ≡ fail (refuse j)) ↔ TilesRefused b h m maxima at entries words j
+  tiles-exactly j = (tiles-refused, refused-tiles)
+
+-- ---- whole read
+
+module _ (s : List ℕ) (h : Header) (m : List ℕ) where
+  -- behind the ranges
+  rest-refused : {n : ℕ} (r : Ranges) → h .valid ≢ 0 → rangesSays s h ≡ ok r → cond (r .constant) (constantBody h r) (sweptBody s h r m) ≡ fail (refuse n) → BodyRefused s h m n
+  unfolding constantBody sweptBody rawBody rawWords blockBody
+  rest-refused {n} r v d e =
+      let P = BodyRefused s h m in
+      choosing P (r .constant) _ _ e
+      (λ c e. reading P (constantWords (h .depth) (h .kind) (r .min)) _ e (λ w. body-constant r v d c (constants-exactly (h .depth) (h .kind) (r .min) n .0 w)) (λ ws w e. not-refused e))
+      (λ c e. reading P (swept s (h .kind) (h .error) (r .at)) _ e (λ w. body-sweep r v d c (sweep-exactly s (h .kind) (h .error) (r .at) n .0 w)) (λ w q e. on c w q e))
+    where
+      on : r .constant ≡ false → (w : Way) → swept s (h .kind) (h .error) (r .at) ≡ ok w → bodyFrom s h r m w ≡ fail (refuse n) → BodyRefused s h m n
+      on c (rawFrom at) q e =
+          let P = BodyRefused s h m in
+          let t = leb (at + h .valid * h .depth * typeSize (h .kind)) (length s) in
+          reading P (rawWords s at (h .kind) (h .valid * h .depth)) _ e (λ w. demand P t 1 _ w (λ u. body-raw r at v d c q (leb-false _ _ u)) (λ u e. not-refused e)) (λ k w e. not-refused e)
+      on c (blocksFrom at) q e =
+          reading (BodyRefused s h m) (allBlocks s h (r .max) m at) _ e (λ w. body-blocks r at v d c q (chain-exactly s h (r .max) m (blockCount (shapeOf h)) 0 at n .0 w)) (λ k w e. not-refused e)
+
+  body-refused : {n : ℕ} → bodySays s h m ≡ fail (refuse n) → BodyRefused s h m n
+  unfolding bodySays
+  body-refused {n} e =
+      let P = BodyRefused s h m in
+      choosing P (eqb (h .valid) 0) _ _ e (λ t e. not-refused e) (λ t e.
+      let v = eqb-false (h .valid) 0 t in
+      reading P (rangesSays s h) _ e (λ d. body-ranges v (ranges-exactly s h n .0 d)) (λ r d e. rest-refused r v d e))
+
+  refused-body : {n : ℕ} → BodyRefused s h m n → bodySays s h m ≡ fail (refuse n)
+  unfolding bodySays constantBody sweptBody rawBody rawWords blockBody
+  refused-body {n} (body-ranges v d) = rw (ne-eqb _ _ v, ranges-exactly s h n .1 d)
+  refused-body {n} (body-constant r v d c w) = rw (ne-eqb _ _ v, d, c, constants-exactly (h .depth) (h .kind) (r .min) n .1 w)
+  refused-body {n} (body-sweep r v d c w) = rw (ne-eqb _ _ v, d, c, sweep-exactly s (h .kind) (h .error) (r .at) n .1 w)
+  refused-body (body-raw r at v d c w l) = rw (ne-eqb _ _ v, d, c, w, lt-leb _ _ l)
+  refused-body {n} (body-blocks r at v d c w k) = rw (ne-eqb _ _ v, d, c, w, chain-exactly s h (r .max) m (blockCount (shapeOf h)) 0 at n .1 k)
+
+  pub body-exactly : (n : ℕ) → (bodySays s h m ≡ fail (refuse n)) ↔ BodyRefused s h m n
+  body-exactly n = (body-refused, refused-body)
+
+module _ (b : List ℕ) (reuse : Bool) (l : Lent) where
+  masked-refused : {n : ℕ} → masked b reuse l ≡ fail (refuse n) → WholeRefused b reuse l n
+  unfolding masked
+  masked-refused {n} e =
+      let P = WholeRefused b reuse l in
+      reading P (headerSays b) _ e (λ d. whole-header (header-exactly b n .0 d)) (λ h d e.
+      demand P (room h l) 5 _ e (λ t. whole-room h d (wrong.room-not h l t)) (λ t e.
+      reading P (maskSays (take (h .size) b) h reuse (l .kept)) _ e
+      (λ q. let (z, w) = mask-exactly (take (h .size) b) h reuse (l .kept) n .0 q in rw (z) (whole-mask h d t w)) (λ m q e. not-refused e)))
+
+  whole-refused : {n : ℕ} → readSays b reuse l ≡ fail (refuse n) → WholeRefused b reuse l n
+  unfolding readSays meaningFrom
+  whole-refused {n} e =
+      let P = WholeRefused b reuse l in
+      reading P (masked b reuse l) _ e masked-refused (λ k d e.
+      reading P (bodySays (take (k .header .size) b) (k .header) (bytesOf (k .mask))) _ e (λ q. whole-body k d (body-exactly (take (k .header .size) b) (k .header) (bytesOf (k .mask)) n .0 q)) (λ y q e. not-refused e))
+
+  refused-behind : {n : ℕ} (k : Masked) → masked b reuse l ≡ ok k → BodyRefused (take (k .header .size) b) (k .header) (bytesOf (k .mask)) n → readSays b reuse l ≡ fail (refuse n)
+  unfolding readSays meaningFrom
+  refused-behind {n} k d w = rw (d, body-exactly (take (k .header .size) b) (k .header) (bytesOf (k .mask)) n .1 w)
+
+  refused-whole : {n : ℕ} → WholeRefused b reuse l n → readSays b reuse l ≡ fail (refuse n)
+  unfolding readSays masked meaningFrom
+  refused-whole {n} (whole-header d) = rw (header-exactly b n .1 d)
+  refused-whole (whole-room h d t) = rw (d, wrong.not-room h l t)
+  refused-whole (whole-mask h d t w) = rw (d, t, mask-exactly (take (h .size) b) h reuse (l .kept) 6 .1 (refl, w))
+  refused-whole (whole-body k d w) = refused-behind k d w
+
+  pub whole-exactly : (n : ℕ) → (readSays b reuse l ≡ fail (refuse n)) ↔ WholeRefused b reuse l n
+  whole-exactly n = (whole-refused, refused-whole)

@@ -1,0 +1,289 @@
+-- What is read lies in front of the end: two slices that agree below it have the same body.
+-- Assumes nothing.
+use mathlib.Core.Path.{_≡_, _∙_, sym, ap, refl}
+use mathlib.Core.Bool.{Bool, true, false, cond}
+use mathlib.Core.List.{List, [], _∷_}
+use Prim.Native.Nat.{ℕ, zero, suc, _+_, _-_, _*_, _/_, _%_, _≤_, _<_}
+use native.Mathlib.Nat.{mul-le-mul-right, suc-mul, zero-add, suc-add}
+use native.Mathlib.Omega.{arith}
+use lib.ListN.{length, getD, take, drop, replicate}
+use lib.Seq.{getD-take, take-take, take-nil}
+use lib.Dec.{leb, ltb, eqb}
+use borrow.Author.Tests.{le-leb, ltb-true, eqb-false}
+use Rattle.lerc_words.specs.Res.{ok, _>>=_, require, each, little, wordAt}
+use Rattle.lerc_words.specs.Lists.{tabulate}
+use Rattle.lerc_words.proofs.Laws.{Stays, bind-is, require-is, ok-is, little-same, wordAt-is, wordAt-ok}
+use Rattle.lerc_words.proofs.Tables.{tabulate-same}
+use Rattle.lerc_numeric.specs.Numeric.{finite, same}
+use Rattle.lerc_numeric.specs.Kinds.{typeSize, valueOf}
+use Rattle.lerc_samples.specs.Samples.{sampleAt, stored, offsetKind}
+use Rattle.lerc_bits.specs.Bits.{Counts, counts}
+use Rattle.lerc_bits.proofs.Values.{counts-ends}
+use Rattle.lerc_bits.proofs.Local.{counts-stays}
+use Rattle.lerc_block.specs.Block.{Block, rawWords, levelBlock, stepValue, steppedBlock, offsetBlock, formed, blockSays}
+use Rattle.lerc_block.proofs.Accepted.{block-ends}
+use Rattle.lerc_header.specs.declared.Header.{Header}
+use Rattle.lerc_header.specs.Limits.{depthLimit}
+use Rattle.lerc_header.specs.Shape.{pixels, blockCount}
+use Rattle.lerc_header.specs.Header.{shapeOf, headerBytes, rangesAt}
+use Rattle.lerc_planes.specs.declared.Ranges.{Ranges}
+use Rattle.lerc_planes.specs.Validity.{uniform, kept, unrolled, maskSays}
+use Rattle.lerc_planes.specs.Ranges.{uniformRanges, numberAt, byDepth, maximaAt, rangesEnd, codedRanges, pairsRight, rangesSays, constantWords}
+use Rattle.lerc_image.specs.Sweep.{Way, rawFrom, blocksFrom, hasModeByte, modeAt, moded, swept}
+use Rattle.lerc_image.specs.Blocks.{Chain, blockAt, chain, allBlocks}
+use Rattle.lerc_image.proofs.Chain.{chain-none, chain-front, chain-parts}
+use Rattle.lerc.specs.Meaning.{Body, empty, rawBody, blockBody, bodyFrom, sweptBody, constantBody, bodySays, endOf}
+use Rattle.lerc_theorems.proofs.Bodies.{placeOf, swept-in, block-in, chain-in}
+
+-- they agree in the first k bytes, and the second has them
+pub record Agree (s t : List ℕ) (k : ℕ) : Type 0 where
+  pub front : take k s ≡ take k t
+  pub room : k ≤ length t
+
+module _ {s t : List ℕ} {k : ℕ} (a : Agree s t k) where
+  byte : (i : ℕ) → i < k → getD s i 0 ≡ getD t i 0
+  byte i l = sym (getD-take k s i 0 l) ∙ ap (λ (x : List ℕ). getD x i 0) (a .front) ∙ getD-take k t i 0 l
+
+  pub little-agrees : (n at : ℕ) → at + n ≤ k → little n s at ≡ little n t at
+  little-agrees n at l = little-same n s t at at (λ i r. let z : at + i < k = omega arith in byte (at + i) z)
+
+  pub word-agrees : (n at v : ℕ) → wordAt n s at ≡ ok v → at + n ≤ k → wordAt n t at ≡ ok v
+  word-agrees n at v e l =
+      let r : at + n ≤ length t = omega (arith, a .room) in
+      wordAt-ok n t at r ∙ ap ok (sym (little-agrees n at l) ∙ sym (wordAt-is n s at v e .value))
+
+  sample-agrees : (kind at v : ℕ) → sampleAt kind s at ≡ ok v → at + typeSize kind ≤ k → sampleAt kind t at ≡ ok v
+  unfolding sampleAt
+  sample-agrees kind at v e l =
+      let (w, p, e) = bind-is (wordAt (typeSize kind) s at) _ e in
+      rw (word-agrees (typeSize kind) at w p l) e
+
+  -- ---- the four forms of a block
+
+  pub raw-agrees : (at kind n : ℕ) (b : Block) → rawWords s at kind n ≡ ok b → b .next ≤ k → rawWords t at kind n ≡ ok b
+  unfolding rawWords
+  raw-agrees at kind n b e l =
+      let (_, q, e) = bind-is (require (leb (at + n * typeSize kind) (length s)) 1) _ e in
+      let z : at + n * typeSize kind ≡ b .next = ap (λ (x : Block). x .next) (ok-is e) in
+      let r : at + n * typeSize kind ≤ length t = omega (arith, a .room, z) in
+      let words : tabulate n (λ i. little (typeSize kind) t (at + i * typeSize kind)) ≡ tabulate n (λ i. little (typeSize kind) s (at + i * typeSize kind)) =
+      tabulate-same n _ _ (λ i j.
+      let m : suc i * typeSize kind ≤ n * typeSize kind = mul-le-mul-right (typeSize kind) j in
+      let y : at + i * typeSize kind + typeSize kind ≤ k = omega (arith, m, suc-mul i (typeSize kind), z) in
+      sym (little-agrees (typeSize kind) (at + i * typeSize kind) y)) in
+      rw (le-leb _ _ r) (ap (λ (x : List ℕ). ok (record { words = x; next = at + n * typeSize kind })) words ∙ e)
+
+  raw-next : (at kind n : ℕ) (b : Block) → rawWords s at kind n ≡ ok b → at ≤ b .next
+  unfolding rawWords
+  raw-next at kind n b e =
+      let (_, q, e) = bind-is (require (leb (at + n * typeSize kind) (length s)) 1) _ e in
+      let z : at + n * typeSize kind ≡ b .next = ap (λ (x : Block). x .next) (ok-is e) in
+      omega (arith, z)
+
+  counts-agrees : (at : ℕ) (c : Counts) → counts s at ≡ ok c → c .next ≤ k → counts t at ≡ ok c
+  counts-agrees at c e l =
+      let d = counts-ends s at e in
+      let n : ℕ = c .next - at in
+      let z : at + n ≡ c .next = omega (arith, d .0) in
+      let m : Stays s at t at n = record { same = λ i r. (let y : at + i < k = omega arith in byte (at + i) y); room = omega (arith, a .room, z) } in
+      rw (z) at (counts-stays m e (sym z))
+
+  module _ (kind error top n : ℕ) (b : Block) (l : b .next ≤ k) where
+    stepped-agrees : (at offset : ℕ) → steppedBlock s at kind error top offset n ≡ ok b → (at ≤ b .next) × (steppedBlock t at kind error top offset n ≡ ok b)
+    unfolding steppedBlock
+    stepped-agrees at offset e =
+        let (c, p, e) = bind-is (counts s at) _ e in
+        let (_, q, e) = bind-is (require (eqb (length (c .values)) n) 8) _ e in
+        let (ws, r, e) = bind-is (each (λ q. stored kind (stepValue error top offset q)) (c .values)) _ e in
+        let z : c .next ≡ b .next = ap (λ (x : Block). x .next) (ok-is e) in
+        let d = counts-ends s at p in
+        (omega (arith, d .0, z), rw (counts-agrees at c p (omega (arith, z)), require-is (eqb (length (c .values)) n) 8 q, r) e)
+
+    level-next : (at offset : ℕ) → levelBlock at kind offset n ≡ ok b → at ≤ b .next
+    unfolding levelBlock
+    level-next at offset e =
+        let (ws, p, e) = bind-is (each (stored kind) (replicate n offset)) _ e in
+        let z : at ≡ b .next = ap (λ (x : Block). x .next) (ok-is e) in
+        omega (arith, z)
+
+    offset-agrees : (at flag : ℕ) → offsetBlock s at kind error top flag n ≡ ok b → offsetBlock t at kind error top flag n ≡ ok b
+    unfolding offsetBlock
+    offset-agrees at flag e =
+        let (c, p, e) = bind-is (offsetKind kind (flag / 64)) _ e in
+        let (offset, q, e) = bind-is (sampleAt c s at) _ e in
+        let (_, r, e) = bind-is (require (finite offset) 8) _ e in
+        let (z, e) = go (at + typeSize c) offset (eqb (flag % 4) 3) e in
+        rw (p, sample-agrees c at offset q (omega (arith, z)), require-is (finite offset) 8 r) e
+      where
+        go : (to offset : ℕ) (x : Bool) → cond x (levelBlock to kind offset n) (steppedBlock s to kind error top offset n) ≡ ok b
+            → (to ≤ b .next) × (cond x (levelBlock to kind offset n) (steppedBlock t to kind error top offset n) ≡ ok b)
+        go to offset true e = (level-next to offset e, e)
+        go to offset false e = stepped-agrees to offset e
+
+    formed-agrees : (at flag : ℕ) → formed s at kind error top flag n ≡ ok b → formed t at kind error top flag n ≡ ok b
+    unfolding formed
+    formed-agrees at flag = go (eqb (flag % 4) 0) (eqb (flag % 4) 2)
+      where
+        go : (x y : Bool)
+            → cond x (rawWords s at kind n) (cond y (ok (record { words = replicate n 0; next = at })) (offsetBlock s at kind error top flag n)) ≡ ok b
+            → cond x (rawWords t at kind n) (cond y (ok (record { words = replicate n 0; next = at })) (offsetBlock t at kind error top flag n)) ≡ ok b
+        go true y e = raw-agrees at kind n b e l
+        go false true e = e
+        go false false e = offset-agrees at flag e
+
+    pub block-agrees : (at x : ℕ) → blockSays s at kind error top x n ≡ ok b → blockSays t at kind error top x n ≡ ok b
+    unfolding blockSays
+    block-agrees at x e =
+        let d = block-ends s at kind error top x n e in
+        let (flag, p, e) = bind-is (wordAt 1 s at) _ e in
+        let (_, q, e) = bind-is (require (eqb (flag / 4 % 16) (x / 8 % 16)) 8) _ e in
+        rw (word-agrees 1 at flag p (omega (arith, d .0)), require-is (eqb (flag / 4 % 16) (x / 8 % 16)) 8 q) (formed-agrees (at + 1) flag e)
+
+  -- ---- the blocks of a body
+
+  module _ (h : Header) (maxima m : List ℕ) where
+    at-agrees : (n at : ℕ) (b : Block) → b .next ≤ k → blockAt s h maxima m n at ≡ ok b → blockAt t h maxima m n at ≡ ok b
+    unfolding blockAt
+    at-agrees n at b l e = block-agrees (h .kind) (h .error) _ _ b l at _ e
+
+    pub chain-agrees : (f n at : ℕ) (c : Chain) → c .end ≤ k → chain s h maxima m f n at ≡ ok c → chain t h maxima m f n at ≡ ok c
+    chain-agrees zero n at c l e = chain-none t h maxima m n at ∙ sym (chain-none s h maxima m n at) ∙ e
+    chain-agrees (suc f) n at c l e =
+        let p = chain-parts s h maxima m f n at c e in
+        let i = block-in s h maxima m n at (p .block) (p .first-is) in
+        let j = chain-in s h maxima m f (suc n) (p .block .next) (p .others) (i .1) (p .others-are) in
+        let z : c .end ≡ p .others .end = ap (λ (x : Chain). x .end) (p .whole) in
+        rw (
+          chain-front t h maxima m f n at,
+          at-agrees n at (p .block) (omega (arith, j .0, z)) (p .first-is),
+          chain-agrees f (suc n) (p .block .next) (p .others) (omega (arith, z)) (p .others-are),
+        ) (ap ok (sym (p .whole)))
+
+  -- ---- the bytes in front of a body
+
+  mode-agrees : (at : ℕ) (w : Way) → placeOf w ≤ k → modeAt s at ≡ ok w → modeAt t at ≡ ok w
+  unfolding modeAt
+  mode-agrees at w l e =
+      let (mode, p, e) = bind-is (wordAt 1 s at) _ e in
+      let (_, q, e) = bind-is (require (ltb mode 3) 8) _ e in
+      let (_, r, e) = bind-is (require (eqb mode 0) 10) _ e in
+      let z : at + 1 ≡ placeOf w = ap placeOf (ok-is e) in
+      rw (word-agrees 1 at mode p (omega (arith, z)), require-is (ltb mode 3) 8 q, require-is (eqb mode 0) 10 r) e
+
+  pub sweep-agrees : (kind error at : ℕ) (w : Way) → placeOf w ≤ k → swept s kind error at ≡ ok w → swept t kind error at ≡ ok w
+  unfolding swept moded
+  sweep-agrees kind error at w l e =
+      let d = swept-in s kind error at w e in
+      let (sweep, p, e) = bind-is (wordAt 1 s at) _ e in
+      let (_, q, e) = bind-is (require (ltb sweep 2) 8) _ e in
+      rw (word-agrees 1 at sweep p (omega (arith, d .0)), require-is (ltb sweep 2) 8 q) (go (eqb sweep 1) (hasModeByte kind error) e)
+    where
+      go : (x y : Bool) → cond x (ok (rawFrom (at + 1))) (cond y (modeAt s (at + 1)) (ok (blocksFrom (at + 1)))) ≡ ok w
+          → cond x (ok (rawFrom (at + 1))) (cond y (modeAt t (at + 1)) (ok (blocksFrom (at + 1)))) ≡ ok w
+      go true y e = e
+      go false true e = mode-agrees (at + 1) w l e
+      go false false e = e
+
+  -- ---- ranges
+
+  module _ (h : Header) where
+    depth-agrees : (at d : ℕ) → at + h .depth * typeSize (h .kind) ≤ k → byDepth (h .depth) (numberAt (h .kind) s at) d ≡ byDepth (h .depth) (numberAt (h .kind) t at) d
+    unfolding byDepth numberAt
+    depth-agrees at d l = tabulate-same depthLimit _ _ (λ i _. go i (ltb i (h .depth)) refl)
+      where
+        go : (i : ℕ) (x : Bool) → ltb i (h .depth) ≡ x
+            → cond x (valueOf (h .kind) (little (typeSize (h .kind)) s (at + i * typeSize (h .kind)))) d ≡ cond x (valueOf (h .kind) (little (typeSize (h .kind)) t (at + i * typeSize (h .kind)))) d
+        go i false e = refl
+        go i true e =
+            let z = typeSize (h .kind) in
+            let m : suc i * z ≤ h .depth * z = mul-le-mul-right z (ltb-true i (h .depth) e) in
+            let y : at + i * z + z ≤ k = omega (arith, m, suc-mul i z) in
+            ap (valueOf (h .kind)) (little-agrees z (at + i * z) y)
+
+    coded-agrees : rangesEnd h ≤ k → codedRanges s h ≡ codedRanges t h
+    unfolding codedRanges
+    coded-agrees l = rw (depth-agrees (rangesAt h) (h .min) (omega arith), depth-agrees (maximaAt h) (h .max) (omega arith))
+
+    pub ranges-agrees : (r : Ranges) → r .at ≤ k → rangesSays s h ≡ ok r → rangesSays t h ≡ ok r
+    unfolding rangesSays codedRanges
+    ranges-agrees r l = go (same (h .min) (h .max))
+      where
+        go : (x : Bool)
+            → cond x (ok (uniformRanges h)) (require (leb (rangesEnd h) (length s)) 1 >>= λ _. require (pairsRight (h .depth) (codedRanges s h)) 7 >>= λ _. ok (codedRanges s h)) ≡ ok r
+            → cond x (ok (uniformRanges h)) (require (leb (rangesEnd h) (length t)) 1 >>= λ _. require (pairsRight (h .depth) (codedRanges t h)) 7 >>= λ _. ok (codedRanges t h)) ≡ ok r
+        go true e = e
+        go false e =
+            let (_, p, e) = bind-is (require (leb (rangesEnd h) (length s)) 1) _ e in
+            let (_, q, e) = bind-is (require (pairsRight (h .depth) (codedRanges s h)) 7) _ e in
+            let z : rangesEnd h ≡ r .at = ap (λ (x : Ranges). x .at) (ok-is e) in
+            let y : rangesEnd h ≤ length t = omega (arith, a .room, z) in
+            rw (le-leb _ _ y, ← coded-agrees (omega (arith, z)), require-is (pairsRight (h .depth) (codedRanges s h)) 7 q) e
+
+    -- ---- the body
+
+    module _ (m : List ℕ) (y : Body) (l : endOf y ≤ k) where
+      constant-agrees : (r : Ranges) → constantBody h r ≡ ok y → r .at ≤ k
+      unfolding constantBody
+      constant-agrees r e =
+          let (ws, p, e) = bind-is (constantWords (h .depth) (h .kind) (r .min)) _ e in
+          let z : r .at ≡ endOf y = ap endOf (ok-is e) in
+          omega (arith, z)
+
+      from-agrees : (r : Ranges) (w : Way) → placeOf w ≤ length s → bodyFrom s h r m w ≡ ok y → (placeOf w ≤ k) × (bodyFrom t h r m w ≡ ok y)
+      unfolding rawBody blockBody
+      from-agrees r (rawFrom at) o e =
+          let (b, p, e) = bind-is (rawWords s at (h .kind) (h .valid * h .depth)) _ e in
+          let z : b .next ≡ endOf y = ap endOf (ok-is e) in
+          (omega (arith, raw-next at (h .kind) (h .valid * h .depth) b p, z), rw (raw-agrees at (h .kind) (h .valid * h .depth) b p (omega (arith, z))) e)
+      from-agrees r (blocksFrom at) o e =
+          let (c, p, e) = bind-is (allBlocks s h (r .max) m at) _ e in
+          let z : c .end ≡ endOf y = ap endOf (ok-is e) in
+          let i = chain-in s h (r .max) m (blockCount (shapeOf h)) 0 at c o p in
+          (omega (arith, i .0, z), rw (chain-agrees h (r .max) m (blockCount (shapeOf h)) 0 at c (omega (arith, z)) p) e)
+
+      swept-agrees : (r : Ranges) → sweptBody s h r m ≡ ok y → (r .at ≤ k) × (sweptBody t h r m ≡ ok y)
+      unfolding sweptBody
+      swept-agrees r e =
+          let (w, p, e) = bind-is (swept s (h .kind) (h .error) (r .at)) _ e in
+          let d = swept-in s (h .kind) (h .error) (r .at) w p in
+          let (z, e) = from-agrees r w (d .1) e in
+          (omega (arith, z, d .0), rw (sweep-agrees (h .kind) (h .error) (r .at) w z p) e)
+
+      behind : (r : Ranges) (x : Bool) → cond x (constantBody h r) (sweptBody s h r m) ≡ ok y → (r .at ≤ k) × (cond x (constantBody h r) (sweptBody t h r m) ≡ ok y)
+      behind r true e = (constant-agrees r e, e)
+      behind r false e = swept-agrees r e
+
+      pub body-agrees : bodySays s h m ≡ ok y → bodySays t h m ≡ ok y
+      unfolding bodySays
+      body-agrees = go (eqb (h .valid) 0)
+        where
+          go : (x : Bool) → cond x (ok empty) (rangesSays s h >>= λ r. cond (r .constant) (constantBody h r) (sweptBody s h r m)) ≡ ok y
+              → cond x (ok empty) (rangesSays t h >>= λ r. cond (r .constant) (constantBody h r) (sweptBody t h r m)) ≡ ok y
+          go true e = e
+          go false e =
+              let (r, p, e) = bind-is (rangesSays s h) _ e in
+              let (z, e) = behind r (r .constant) e in
+              rw (ranges-agrees r z p) e
+
+-- ---- the mask section
+
+take-drop : (n m : ℕ) (l : List ℕ) → take m (drop n l) ≡ drop n (take (n + m) l)
+take-drop zero m l = rw (zero-add)
+take-drop (suc n) m [] = rw (take-nil m, take-nil (suc n + m))
+take-drop (suc n) m (x ∷ xs) = rw (suc-add n m) (take-drop n m xs)
+
+module _ {s t : List ℕ} {k : ℕ} (a : Agree s t k) where
+  section-agrees : (n m : ℕ) → n + m ≤ k → take m (drop n s) ≡ take m (drop n t)
+  section-agrees n m l =
+      take-drop n m s ∙ ap (drop n) (sym (take-take (n + m) k s l) ∙ ap (take (n + m)) (a .front) ∙ take-take (n + m) k t l) ∙ sym (take-drop n m t)
+
+  -- where there is no valid pixel it is not looked at
+  pub mask-agrees : (h : Header) (reuse : Bool) (old : List ℕ) → ((h .valid ≡ 0 → ⊥) → rangesAt h ≤ k) → maskSays s h reuse old ≡ maskSays t h reuse old
+  unfolding maskSays unrolled
+  mask-agrees h reuse old f = go (eqb (h .valid) 0) refl
+    where
+      go : (x : Bool) → eqb (h .valid) 0 ≡ x
+          → cond x (uniform h 0) (cond (eqb (h .valid) (pixels (shapeOf h))) (uniform h 255) (cond (eqb (h .mask) 0) (kept h reuse old) (unrolled s h)))
+          ≡ cond x (uniform h 0) (cond (eqb (h .valid) (pixels (shapeOf h))) (uniform h 255) (cond (eqb (h .mask) 0) (kept h reuse old) (unrolled t h)))
+      go true e = refl
+      go false e = rw (section-agrees headerBytes (h .mask) (f (eqb-false (h .valid) 0 e)))

@@ -1,0 +1,190 @@
+-- When a header, a mask or ranges are refused: the table holds exactly.
+-- Assumes nothing.
+use mathlib.Core.Path.{_≡_, _∙_, refl}
+use mathlib.Core.Logic.{_↔_, _≢_, _⊎_, inl, inr, ⊎-elim}
+use mathlib.Core.Bool.{Bool, true, false, cond, _&&_}
+use mathlib.Core.List.{List}
+use Prim.Native.Nat.{ℕ}
+use native.Mathlib.Omega.{arith}
+use lib.ListN.{length, take, drop}
+use lib.Dec.{leb, eqb}
+use borrow.Author.Tests.{leb-true, leb-false, le-leb, lt-leb, eqb-true, eqb-false, eq-eqb, ne-eqb}
+use Rattle.lerc_words.specs.Res.{ok, fail, refuse, require}
+use Rattle.lerc_words.proofs.Laws.{bind-is, require-is, and-is}
+use Rattle.lerc_numeric.specs.Numeric.{same}
+use Rattle.lerc_header.specs.declared.Header.{Header}
+use Rattle.lerc_header.specs.declared.Extent.{Extent}
+use Rattle.lerc_header.specs.Header.{headerBytes, shapeOf, extentOf, fieldsRight, withinCeilings, keyRight, headerOf, held, headerSays}
+use Rattle.lerc_header.specs.Shape.{pixels, maskLength}
+use Rattle.lerc_header.proofs.Kept.{held-is}
+use Rattle.lerc_mask.specs.Mask.{validBelow, coded}
+use Rattle.lerc_mask.proofs.Runs.{coded-six}
+use Rattle.lerc_planes.specs.Validity.{uniform, kept, unrolled, maskSays, prepareSays}
+use Rattle.lerc_planes.specs.Ranges.{rangesEnd, codedRanges, pairsRight, rangesSays, readRangesSays}
+use Rattle.lerc_theorems.specs.Table.{HeldRight, HeldRefused, field-wrong, ceiling-passed, blob-cut, HeaderRefused, header-cut, key-wrong, not-held, Even, MaskWrong, even-coded, not-allowed, miscounted, runs-wrong, PrepareRefused, mask-held, mask-room, mask-wrong, RangesRefused, ranges-cut, pairs-wrong, ReadRangesRefused, ranges-held, ranges-wrong}
+use Rattle.lerc_theorems.proofs.Masks.{coded-wrong, wrong-coded}
+use Rattle.lerc_theorems.proofs.Wrong.{pairs-not, not-pairs, fields-not, not-fields, ceilings-not, not-ceilings}
+use Rattle.lerc_theorems.proofs.Demands.{demand, reading, reading-one, choosing, not-refused, and-not, and-first, and-second}
+
+module _ (h : Header) (len : ℕ) where
+  -- a header is held exactly where it is right
+  pub right-held : HeldRight h len → held h len ≡ ok (extentOf h)
+  unfolding held
+  right-held r = rw (r .fields, r .ceilings, le-leb _ _ (r .whole))
+
+  pub held-right : {e : Extent} → held h len ≡ ok e → HeldRight h len
+  unfolding held
+  held-right e =
+      let (_, p, e) = bind-is (require (fieldsRight h) 3) _ e in
+      let (_, q, e) = bind-is (require (withinCeilings h) 4) _ e in
+      let (_, r, e) = bind-is (require (leb (h .size) len) 1) _ e in
+      record { fields = require-is _ 3 p; ceilings = require-is _ 4 q; whole = leb-true _ _ (require-is _ 1 r) }
+
+  held-refused : {n : ℕ} → held h len ≡ fail (refuse n) → HeldRefused h len n
+  unfolding held
+  held-refused e =
+      let P = HeldRefused h len in
+      demand P (fieldsRight h) 3 _ e (λ t. field-wrong (fields-not h t)) (λ f e.
+      demand P (withinCeilings h) 4 _ e (λ t. ceiling-passed f (ceilings-not h t)) (λ c e.
+      demand P (leb (h .size) len) 1 _ e (λ t. blob-cut f c (leb-false _ _ t)) (λ t e. not-refused e)))
+
+  refused-held : {n : ℕ} → HeldRefused h len n → held h len ≡ fail (refuse n)
+  unfolding held
+  refused-held (field-wrong f) = rw (not-fields h f)
+  refused-held (ceiling-passed f c) = rw (f, not-ceilings h c)
+  refused-held (blob-cut f c l) = rw (f, c, lt-leb _ _ l)
+
+  pub held-exactly : (n : ℕ) → (held h len ≡ fail (refuse n)) ↔ HeldRefused h len n
+  held-exactly n = (held-refused, refused-held)
+
+module _ (b : List ℕ) where
+  header-refused : {n : ℕ} → headerSays b ≡ fail (refuse n) → HeaderRefused b n
+  unfolding headerSays
+  header-refused e =
+      let P = HeaderRefused b in
+      demand P (leb headerBytes (length b)) 1 _ e (λ t. header-cut (leb-false _ _ t)) (λ l e.
+      demand P (keyRight b) 2 _ e (key-wrong (leb-true _ _ l)) (λ k e.
+      reading P (held (headerOf b) (length b)) _ e (λ d. not-held (leb-true _ _ l) k (held-refused (headerOf b) (length b) d)) (λ x d e. not-refused e)))
+
+  refused-header : {n : ℕ} → HeaderRefused b n → headerSays b ≡ fail (refuse n)
+  unfolding headerSays
+  refused-header (header-cut l) = rw (lt-leb _ _ l)
+  refused-header (key-wrong l k) = rw (le-leb _ _ l, k)
+  refused-header (not-held l k r) = rw (le-leb _ _ l, k, refused-held (headerOf b) (length b) r)
+
+  pub header-exactly : (n : ℕ) → (headerSays b ≡ fail (refuse n)) ↔ HeaderRefused b n
+  header-exactly n = (header-refused, refused-header)
+
+-- ---- the mask
+
+-- one of two tests holds, and both lead to the same
+pick : {A : Type 0} (a b : Bool) {x y r : A} (z : A) → x ≡ r → y ≡ r → (a ≡ true) ⊎ (b ≡ true) → cond a x (cond b y z) ≡ r
+pick true b z p q v = p
+pick false true z p q v = q
+pick false false z p q v = absurd (⊎-elim (λ e. let n : _≡_ {A = ℕ} 0 1 = cc in omega arith) (λ e. let n : _≡_ {A = ℕ} 0 1 = cc in omega arith) v)
+
+module _ (s : List ℕ) (h : Header) (reuse : Bool) (old : List ℕ) where
+  -- "Any breach is 6."
+  abbrev Wrong : ℕ → Type 0
+  Wrong n = (n ≡ 6) × MaskWrong s h reuse old
+
+  uniform-refused : {n : ℕ} (byte : ℕ) → Even h → uniform h byte ≡ fail (refuse n) → Wrong n
+  unfolding uniform
+  uniform-refused byte v e = demand Wrong (eqb (h .mask) 0) 6 _ e (λ t. (refl, even-coded v (eqb-false _ _ t))) (λ t e. not-refused e)
+
+  kept-refused : {n : ℕ} → (Even h → ⊥) → h .mask ≡ 0 → kept h reuse old ≡ fail (refuse n) → Wrong n
+  unfolding kept
+  kept-refused u z e =
+      demand Wrong reuse 6 _ e (λ t. (refl, not-allowed u z t)) (λ a e.
+      demand Wrong (eqb (validBelow (pixels (shapeOf h)) (take (maskLength (shapeOf h)) old)) (h .valid)) 6 _ e (λ t. (refl, miscounted u z a (eqb-false _ _ t))) (λ t e. not-refused e))
+
+  unrolled-refused : {n : ℕ} → (Even h → ⊥) → h .mask ≢ 0 → unrolled s h ≡ fail (refuse n) → Wrong n
+  unfolding unrolled
+  unrolled-refused u z e =
+      let c = coded (take (h .mask) (drop headerBytes s)) (pixels (shapeOf h)) (h .valid) in
+      reading-one Wrong 6 c _ (coded-six _ (pixels (shapeOf h)) (h .valid)) e (λ d. (refl, runs-wrong u z (coded-wrong _ (pixels (shapeOf h)) (h .valid) d))) (λ m d e. not-refused e)
+
+  mask-refused : {n : ℕ} → maskSays s h reuse old ≡ fail (refuse n) → Wrong n
+  unfolding maskSays
+  mask-refused e =
+      choosing Wrong (eqb (h .valid) 0) _ _ e (λ t e. uniform-refused 0 (inl (eqb-true _ _ t)) e) (λ t e.
+      choosing Wrong (eqb (h .valid) (pixels (shapeOf h))) _ _ e (λ u e. uniform-refused 255 (inr (eqb-true _ _ u)) e) (λ u e.
+      let v : Even h → ⊥ = ⊎-elim (eqb-false _ _ t) (eqb-false _ _ u) in
+      choosing Wrong (eqb (h .mask) 0) _ _ e (λ z e. kept-refused v (eqb-true _ _ z) e) (λ z e. unrolled-refused v (eqb-false _ _ z) e)))
+
+  not-even : (Even h → ⊥) → maskSays s h reuse old ≡ cond (eqb (h .mask) 0) (kept h reuse old) (unrolled s h)
+  unfolding maskSays
+  not-even u = rw (ne-eqb (h .valid) 0 (λ e. u (inl e)), ne-eqb (h .valid) (pixels (shapeOf h)) (λ e. u (inr e)))
+
+  refused-even : (byte : ℕ) → h .mask ≢ 0 → uniform h byte ≡ fail (refuse 6)
+  unfolding uniform
+  refused-even byte z = rw (ne-eqb _ _ z)
+
+  refused-mask : MaskWrong s h reuse old → maskSays s h reuse old ≡ fail (refuse 6)
+  unfolding maskSays kept unrolled
+  refused-mask (even-coded v z) =
+      pick (eqb (h .valid) 0) (eqb (h .valid) (pixels (shapeOf h))) _ (refused-even 0 z) (refused-even 255 z) (⊎-elim (λ e. inl (eq-eqb _ _ e)) (λ e. inr (eq-eqb _ _ e)) v)
+  refused-mask (not-allowed u z a) = not-even u ∙ rw (eq-eqb _ _ z, a)
+  refused-mask (miscounted u z a c) = not-even u ∙ rw (eq-eqb _ _ z, a, ne-eqb _ _ c)
+  refused-mask (runs-wrong u z c) = not-even u ∙ rw (ne-eqb _ _ z, wrong-coded (take (h .mask) (drop headerBytes s)) (pixels (shapeOf h)) (h .valid) c)
+
+  pub mask-exactly : (n : ℕ) → (maskSays s h reuse old ≡ fail (refuse n)) ↔ ((n ≡ 6) × MaskWrong s h reuse old)
+  mask-exactly n = (mask-refused, λ p. rw (p .0) (refused-mask (p .1)))
+
+module _ (b : List ℕ) (h : Header) (reuse : Bool) (old : List ℕ) (room : ℕ) where
+  prepare-refused : {n : ℕ} → prepareSays b h reuse old room ≡ fail (refuse n) → PrepareRefused b h reuse old room n
+  unfolding prepareSays
+  prepare-refused {n} e =
+      let P = PrepareRefused b h reuse old room in
+      reading P (held h (length b)) _ e (λ d. mask-held (held-exactly h (length b) n .0 d)) (λ x d e.
+      let i : x ≡ extentOf h = held-is h (length b) d in
+      let r = held-right h (length b) d in
+      let e' = rw (i) at e in
+      demand P (leb (maskLength (shapeOf h)) (length old) && leb (maskLength (shapeOf h)) room) 5 _ e'
+      (λ t. mask-room r (⊎-elim (λ u. inl (leb-false _ _ u)) (λ u. inr (leb-false _ _ u)) (and-not _ _ t)))
+      (λ t e. let (u, v) = and-is _ _ t in let (z, w) = mask-exactly (take (h .size) b) h reuse old n .0 e in
+      rw (z) (mask-wrong r (leb-true _ _ u) (leb-true _ _ v) w)))
+
+  refused-prepare : {n : ℕ} → PrepareRefused b h reuse old room n → prepareSays b h reuse old room ≡ fail (refuse n)
+  unfolding prepareSays
+  refused-prepare {n} (mask-held d) = rw (held-exactly h (length b) n .1 d)
+  refused-prepare (mask-room r s) =
+      rw (right-held h (length b) r, ⊎-elim (λ u. and-first _ (leb (maskLength (shapeOf h)) room) (lt-leb _ _ u)) (λ u. and-second (leb (maskLength (shapeOf h)) (length old)) _ (lt-leb _ _ u)) s)
+  refused-prepare (mask-wrong r u v w) = rw (right-held h (length b) r, le-leb _ _ u, le-leb _ _ v, mask-exactly (take (h .size) b) h reuse old 6 .1 (refl, w))
+
+  pub prepare-exactly : (n : ℕ) → (prepareSays b h reuse old room ≡ fail (refuse n)) ↔ PrepareRefused b h reuse old room n
+  prepare-exactly n = (prepare-refused, refused-prepare)
+
+-- ---- ranges
+
+module _ (s : List ℕ) (h : Header) where
+  ranges-refused : {n : ℕ} → rangesSays s h ≡ fail (refuse n) → RangesRefused s h n
+  unfolding rangesSays
+  ranges-refused e =
+      let P = RangesRefused s h in
+      choosing P (same (h .min) (h .max)) _ _ e (λ t e. not-refused e) (λ t e.
+      demand P (leb (rangesEnd h) (length s)) 1 _ e (λ u. ranges-cut t (leb-false _ _ u)) (λ u e.
+      demand P (pairsRight (h .depth) (codedRanges s h)) 7 _ e (λ v. pairs-wrong t (leb-true _ _ u) (pairs-not (h .depth) (codedRanges s h) v)) (λ v e. not-refused e)))
+
+  refused-ranges : {n : ℕ} → RangesRefused s h n → rangesSays s h ≡ fail (refuse n)
+  unfolding rangesSays
+  refused-ranges (ranges-cut t l) = rw (t, lt-leb _ _ l)
+  refused-ranges (pairs-wrong t l p) = rw (t, le-leb _ _ l, not-pairs (h .depth) (codedRanges s h) p)
+
+  pub ranges-exactly : (n : ℕ) → (rangesSays s h ≡ fail (refuse n)) ↔ RangesRefused s h n
+  ranges-exactly n = (ranges-refused, refused-ranges)
+
+module _ (b : List ℕ) (h : Header) where
+  read-ranges-refused : {n : ℕ} → readRangesSays b h ≡ fail (refuse n) → ReadRangesRefused b h n
+  unfolding readRangesSays
+  read-ranges-refused {n} e =
+      reading (ReadRangesRefused b h) (held h (length b)) _ e (λ d. ranges-held (held-exactly h (length b) n .0 d)) (λ x d e.
+      ranges-wrong (held-right h (length b) d) (ranges-exactly (take (h .size) b) h n .0 e))
+
+  refused-read-ranges : {n : ℕ} → ReadRangesRefused b h n → readRangesSays b h ≡ fail (refuse n)
+  unfolding readRangesSays
+  refused-read-ranges {n} (ranges-held d) = rw (held-exactly h (length b) n .1 d)
+  refused-read-ranges {n} (ranges-wrong r d) = rw (right-held h (length b) r, ranges-exactly (take (h .size) b) h n .1 d)
+
+  pub read-ranges-exactly : (n : ℕ) → (readRangesSays b h ≡ fail (refuse n)) ↔ ReadRangesRefused b h n
+  read-ranges-exactly n = (read-ranges-refused, refused-read-ranges)

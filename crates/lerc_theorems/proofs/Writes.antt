@@ -1,0 +1,210 @@
+-- What an outcome writes, and nothing else.
+-- Assumes nothing.
+use mathlib.Core.Path.{_≡_, _∙_, sym, ap, refl}
+use mathlib.Core.Bool.{Bool, false, _&&_}
+use mathlib.Core.List.{List, [], _++_}
+use Prim.Native.Nat.{ℕ, _+_, _-_, _≤_, _<_}
+use native.Mathlib.Omega.{arith}
+use native.Mathlib.Decide.{decLt}
+use lib.ListN.{length, getD, take, drop, length-append, length-drop, List·getD-eq-default}
+use lib.Dec.{leb, eqb}
+use lib.Seq.{getD-append-add, getD-drop}
+use borrow.Author.Tests.{leb-true}
+use Rattle.lerc_words.specs.Res.{Res, ok, fail, require, after}
+use Rattle.lerc_words.specs.Lists.{over}
+use Rattle.lerc_words.proofs.Laws.{bind-is, require-is, and-is, ok-is, cond-elim}
+use Rattle.lerc_header.specs.declared.Header.{Header}
+use Rattle.lerc_header.specs.Header.{shapeOf, extentOf, held}
+use Rattle.lerc_header.specs.Shape.{cells, maskLength, blockCount}
+use Rattle.lerc_header.proofs.Kept.{held-is}
+use Rattle.lerc_mask.specs.Mask.{maskBytes, decoded}
+use Rattle.lerc_mask.proofs.Runs.{coded-length}
+use Rattle.lerc_planes.specs.declared.Ranges.{Ranges}
+use Rattle.lerc_planes.specs.declared.MaskAnswer.{MaskAnswer}
+use Rattle.lerc_planes.specs.Validity.{InForce, reused, new, bytesOf, prepareSays, spareWith, Prepared}
+use Rattle.lerc_planes.proofs.ValidityLaws.{prepare-found, mask-length, mask-told}
+use Rattle.lerc_image.specs.Paint.{painted, inBlock, wordOf}
+use Rattle.lerc_image.proofs.Painting.{length-painted, painted-cell}
+use Rattle.lerc_planes.specs.Ranges.{rangesSays}
+use Rattle.lerc_image.specs.declared.WalkAnswer.{WalkAnswer}
+use Rattle.lerc_image.specs.declared.FillAnswer.{FillAnswer}
+use Rattle.lerc_image.specs.Geometry.{isValidCell}
+use Rattle.lerc_image.specs.Sweep.{Way, rawFrom, blocksFrom, swept}
+use Rattle.lerc_image.specs.Blocks.{Chain, chain}
+use Rattle.lerc_image.specs.Walk.{walkSays, walkList, Walked}
+use Rattle.lerc_image.specs.Fill.{fillSays, fillImage, Filled}
+use Rattle.lerc_image.specs.Tiles.{tilesSays, Tiled}
+use Rattle.lerc_image.proofs.Chain.{chain-lengths}
+use Rattle.lerc.specs.declared.ReadAnswer.the-variants as read
+use Rattle.lerc.specs.Meaning.{Meaning, Body, startsOf, bodyFrom, blockBody, sweptBody, bodySays, meaningFrom}
+use Rattle.lerc.specs.Read.{Lent, room, Masked, masked, readSays, published, readAfter, Whole, readCount, WholeRead}
+use Rattle.lerc.proofs.Whole.{constant-starts, raw-starts}
+use Rattle.lerc_theorems.specs.Writes.{AlikeFrom, AlikeBut, WritesOnly, WholeWrites}
+use Rattle.lerc_theorems.proofs.Refusals.{masked-is}
+use Rattle.lerc_theorems.proofs.Meanings.{rooms}
+use Rattle.lerc_theorems.proofs.Fills.{walk-is}
+
+-- ---- lists
+
+alike-same : (n : ℕ) {old x : List ℕ} → x ≡ old → AlikeFrom n old x
+alike-same n e = rw (e) (record { long = refl; rest = λ i l. refl })
+
+-- new entries in front
+alike-over : (front old : List ℕ) → length front ≤ length old → AlikeFrom (length front) old (over front old)
+alike-over front old h =
+    record {
+      long = rw (length-append, length-drop) (omega arith);
+      rest = λ i l.
+          let e : length front + (i - length front) ≡ i = omega arith in
+          let p : getD (front ++ drop (length front) old) (length front + (i - length front)) 0 ≡ getD (drop (length front) old) (i - length front) 0 = getD-append-add front (drop (length front) old) (i - length front) 0 in
+          let q : getD (drop (length front) old) (i - length front) 0 ≡ getD old (length front + (i - length front)) 0 = getD-drop (length front) old (i - length front) 0 in
+          rw (e) at (p ∙ q);
+    }
+
+but-same : (cells : ℕ → Bool) {old x : List ℕ} → x ≡ old → AlikeBut cells old x
+but-same cells e = rw (e) (record { long = refl; rest = λ c l. refl })
+
+but-painted : (image : List ℕ) (which : ℕ → Bool) (word : ℕ → ℕ) → AlikeBut which image (painted image which word)
+but-painted image which word = record { long = length-painted image word which; rest = λ c e. go c e (decLt c (length image)) }
+  where
+    go : (c : ℕ) → which c ≡ false → Dec (c < length image) → getD (painted image which word) c 0 ≡ getD image c 0
+    go c e (yes l) = painted-cell image word which c l ∙ rw (e)
+    go c e (no g) =
+        let l : length image ≤ c = omega arith in
+        let k : length (painted image which word) ≤ c = rw (length-painted image word which) l in
+        List·getD-eq-default (painted image which word) 0 k ∙ sym (List·getD-eq-default image 0 l)
+
+-- new entries of a known number, or as before where the answer is a refusal
+alike-after : {A : Type 0} (n : ℕ) (m : Res A) (front : A → List ℕ) {old x : List ℕ} → ((a : A) → m ≡ ok a → (length (front a) ≡ n) × (n ≤ length old)) → x ≡ after m old (λ a. over (front a) old) → AlikeFrom n old x
+alike-after n (fail r) front f d = alike-same n d
+alike-after n (ok a) front {old} f d =
+    let (l, k) = f a refl in
+    rw (d, ← l) (alike-over (front a) old (rw (l) k))
+
+but-after : {A : Type 0} (m : Res A) (which : ℕ → Bool) (word : A → ℕ → ℕ) {old x : List ℕ} → x ≡ after m old (λ a. painted old which (word a)) → AlikeBut which old x
+but-after (fail r) which word d = but-same which d
+but-after (ok a) which word {old} d = rw (d) (but-painted old which (word a))
+
+-- ---- the mask
+
+decoded-is : (s : List ℕ) (count valid room : ℕ) (m : List ℕ) → decoded s count valid room ≡ ok m → (length m ≡ maskBytes count) × (maskBytes count ≤ room)
+unfolding decoded
+decoded-is s count valid room m e =
+    let (_, p, e) = bind-is (require (leb (maskBytes count) room) 5) _ e in
+    (coded-length s count valid m e, leb-true _ _ (require-is _ 5 p))
+
+-- a mask of the right length, new or reused
+spare-alike : (n : ℕ) (f : InForce) (spare : List ℕ) → length (bytesOf f) ≡ n → n ≤ length spare → AlikeFrom n spare (spareWith f spare)
+spare-alike n (reused m) spare l k = alike-same n refl
+spare-alike n (new m) spare l k = rw (← l) (alike-over m spare (rw (l) k))
+
+prepare-writes : (b : List ℕ) (h : Header) (reuse : Bool) (kept : List ℕ) {r : MaskAnswer} {old x : List ℕ} → Prepared (prepareSays b h reuse kept (length old)) r old x → AlikeFrom (maskLength (shapeOf h)) old x
+prepare-writes b h reuse kept {r} {old} {x} p = go (prepareSays b h reuse kept (length old)) refl (p .spare)
+  where
+    go : (m : Res InForce) → prepareSays b h reuse kept (length old) ≡ m → x ≡ after m old (λ f. spareWith f old) → AlikeFrom (maskLength (shapeOf h)) old x
+    go (fail q) e d = alike-same (maskLength (shapeOf h)) d
+    go (ok f) e d = rw (d) (spare-alike (maskLength (shapeOf h)) f old (mask-length b h reuse kept (length old) f e) (prepare-found b h reuse kept (length old) f e .there))
+
+-- ---- the list and the image
+
+module _ (b : List ℕ) (h : Header) where
+  walk-starts : (g : Ranges) (m : List ℕ) (room : ℕ) (c : Chain) → walkSays b h g m room ≡ ok c → (length (c .starts) ≡ blockCount (shapeOf h)) × (blockCount (shapeOf h) ≤ room)
+  walk-starts g m room c e =
+      let w = walk-is b h g m room c e in
+      (chain-lengths (take (h .size) b) h (g .max) m (blockCount (shapeOf h)) 0 (w .from) c (w .blocks) .0, w .list)
+
+  walk-writes : (g : Ranges) (m : List ℕ) {r : WalkAnswer} {old x : List ℕ} → Walked b h g m r old x → AlikeFrom (blockCount (shapeOf h)) old x
+  unfolding walkList
+  walk-writes g m {old = old} p = alike-after (blockCount (shapeOf h)) (walkSays b h g m (length old)) (λ c. c .starts) (walk-starts g m (length old)) (p .list)
+
+  fill-writes : (g : Ranges) (m list : List ℕ) (n : ℕ) {r : FillAnswer} {old x : List ℕ} → Filled b h g m list n r old x → AlikeBut (inBlock (shapeOf h) m n) old x
+  unfolding fillImage
+  fill-writes g m list n {old = old} p = but-after (fillSays b h g m list n (length old)) (inBlock (shapeOf h) m n) (λ k. wordOf (shapeOf h) m (λ i. k .words)) (p .image)
+
+  tiles-starts : (m maxima : List ℕ) (at entries words : ℕ) (c : Chain) → tilesSays b h m maxima at entries words ≡ ok c → (length (c .starts) ≡ blockCount (shapeOf h)) × (blockCount (shapeOf h) ≤ entries)
+  unfolding tilesSays
+  tiles-starts m maxima at entries words c e =
+      let (x, d, e) = bind-is (held h (length b)) _ e in
+      let i : x ≡ extentOf h = held-is h (length b) d in
+      let (_, p, e) = bind-is (require (leb (x .mask) (length m) && leb (x .blocks) entries && leb (x .cells) words) 5) _ e in
+      let (p, _) = and-is (leb (x .mask) (length m) && leb (x .blocks) entries) _ (require-is _ 5 p) in
+      let (_, l) = and-is (leb (x .mask) (length m)) (leb (x .blocks) entries) p in
+      (chain-lengths (take (h .size) b) h maxima m (blockCount (shapeOf h)) 0 at c e .0, rw (i) at (leb-true (x .blocks) entries l))
+
+  tiles-write : (m maxima : List ℕ) (at : ℕ) {r : WalkAnswer} {list l image x : List ℕ} → Tiled (tilesSays b h m maxima at (length list) (length image)) h m r list l image x
+      → AlikeFrom (blockCount (shapeOf h)) list l × AlikeBut (isValidCell (shapeOf h) m) image x
+  tiles-write m maxima at {list = list} {image = image} p =
+      let t = tilesSays b h m maxima at (length list) (length image) in (
+        alike-after (blockCount (shapeOf h)) t (λ c. c .starts) (tiles-starts m maxima at (length list) (length image)) (p .list),
+        but-after t (isValidCell (shapeOf h) m) (λ c. wordOf (shapeOf h) m (λ n. getD (c .words) n [])) (p .image),
+      )
+
+pub writes-only : WritesOnly
+writes-only = record {
+  decode-mask = λ k a r x p. alike-after (maskBytes (a .1 .0)) _ (λ m. m) (decoded-is (a .0 .now) (a .1 .0) (a .1 .1 .0) (length (a .1 .1 .1 .0 .now))) (p .left);
+  prepare-mask = λ k a r x p. prepare-writes _ _ _ _ p;
+  walk = λ k a r x p. walk-writes _ _ _ _ p;
+  fill = λ k a r x p. fill-writes _ _ _ _ _ _ p;
+  tiles-list = λ k a r x p. tiles-write _ _ _ _ _ p .0;
+  tiles-image = λ k a r x p. tiles-write _ _ _ _ _ p .1;
+}
+
+-- ---- whole read
+
+module _ (s : List ℕ) (h : Header) (m : List ℕ) where
+  -- no starts, or one for each block
+  abbrev Few : Res Body → Type 0
+  Few x = (y : Body) → x ≡ ok y → length (startsOf y) ≤ blockCount (shapeOf h)
+
+  none : (y : Body) → startsOf y ≡ [] → length (startsOf y) ≤ blockCount (shapeOf h)
+  none y e = rw (e) (omega arith)
+
+  swept-starts : (r : Ranges) → Few (sweptBody s h r m)
+  unfolding sweptBody blockBody
+  swept-starts r y e =
+      let (w, _, e) = bind-is (swept s (h .kind) (h .error) (r .at)) _ e in
+      on w e
+    where
+      on : (w : Way) → bodyFrom s h r m w ≡ ok y → length (startsOf y) ≤ blockCount (shapeOf h)
+      on (rawFrom at) e = none y (raw-starts s h at y e)
+      on (blocksFrom at) e =
+          let (c, d, e) = bind-is (chain s h (r .max) m (blockCount (shapeOf h)) 0 at) _ e in
+          let l = chain-lengths s h (r .max) m (blockCount (shapeOf h)) 0 at c d .0 in
+          rw (← ok-is e) (omega arith)
+
+  body-starts : Few (bodySays s h m)
+  unfolding bodySays
+  body-starts =
+      cond-elim Few (eqb (h .valid) 0) (λ _ y e. none y (sym (ap startsOf (ok-is e)))) (λ _ y e.
+      let (r, _, e) = bind-is (rangesSays s h) _ e in
+      cond-elim Few (r .constant) (λ _ y e. none y (constant-starts h r y e)) (λ _. swept-starts r) y e)
+
+module _ (b : List ℕ) (reuse : Bool) (l : Lent) (x : Lent) where
+  written : (n : ℕ) (k : Masked) (y : Body) → masked b reuse l ≡ ok k → bodySays (take (k .header .size) b) (k .header) (bytesOf (k .mask)) ≡ ok y
+      → readSays b reuse l ≡ ok (record { header = k .header; mask = k .mask; body = y }) → n ≡ length (startsOf y)
+      → x ≡ published (record { header = k .header; mask = k .mask; body = y }) l → WholeWrites b reuse n l x
+  unfolding published
+  written n k y d p e c q =
+      let h = k .header in
+      let g = masked-is b reuse l k d in
+      let r = rooms h l (g .room) in
+      let z : length (bytesOf (k .mask)) ≡ maskLength (shapeOf h) = rw (g .mask) at (mask-told (take (h .size) b) h (l .kept) reuse (r .kept)) .size in
+      let f : length (startsOf y) ≤ blockCount (shapeOf h) = body-starts (take (h .size) b) h (bytesOf (k .mask)) y p in
+      rw (q, c) (record {
+        meaning = record { header = k .header; mask = k .mask; body = y };
+        is = e;
+        kept = rw (← z) (alike-over (bytesOf (k .mask)) (l .kept) (rw (z) (r .kept)));
+        spare = spare-alike (maskLength (shapeOf h)) (k .mask) (l .spare) z (r .spare);
+        list = alike-over (startsOf y) (l .list) (omega (arith, f, r .list));
+        image = but-painted (l .image) (isValidCell (shapeOf h) (bytesOf (k .mask))) _;
+      })
+
+  pub whole-writes : (n end : ℕ) → WholeRead b reuse (read.Whole n end) l x → WholeWrites b reuse n l x
+  unfolding readSays meaningFrom
+  whole-writes n end w =
+      let (m, e, c) = bind-is (readSays b reuse l) readCount (sym (w .says)) in
+      let (k, d, f) = bind-is (masked b reuse l) _ e in
+      let (y, p, f) = bind-is (bodySays (take (k .header .size) b) (k .header) (bytesOf (k .mask))) _ f in
+      let z : record { header = k .header; mask = k .mask; body = y } ≡ m = ok-is f in
+      let q : x ≡ published m l = w .lent ∙ ap (λ (v : Res Meaning). readAfter v (masked b reuse l) l) e in
+      written n k y d p (e ∙ ap ok (sym z)) (sym (ap (λ (v : Whole). v .blocks) (ok-is c)) ∙ ap (λ (v : Meaning). length (startsOf (v .body))) (sym z)) (q ∙ ap (λ (v : Meaning). published v l) (sym z))

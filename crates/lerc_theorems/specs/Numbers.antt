@@ -1,0 +1,121 @@
+-- Which number a refusal carries: each public function that refuses, by its promise.
+-- `Post` is what the checker makes of the text of a function's `ensures`; the inputs are a tuple in the order of its parameters.
+-- Assumes nothing.
+use mathlib.Core.Path.{_≡_}
+use mathlib.Core.Logic.{_↔_}
+use mathlib.Core.Bool.{true}
+use mathlib.Core.List.{List, [], _∷_}
+use Prim.Native.Nat.{ℕ}
+use lib.ListN.{length}
+use Rattle.lerc_words.specs.declared.Refusal.{Refusal}
+use Rattle.lerc_words.specs.Res.{refuse}
+use Rattle.lerc_image.specs.Paint.{among}
+use Rattle.lerc_words.proofs.word.Reads as word
+use Rattle.lerc_words.specs.declared.WordAnswer.the-variants as word-answer
+use Rattle.lerc_numeric.proofs.to_integer.Reads as to-integer
+use Rattle.lerc_numeric.specs.declared.IntegerAnswer.the-variants as integer-answer
+use Rattle.lerc_samples.proofs.offset_kind.Reads as offset-kind
+use Rattle.lerc_samples.specs.declared.OffsetAnswer.the-variants as offset-answer
+use Rattle.lerc_samples.proofs.read.Reads as read-sample
+use Rattle.lerc_samples.specs.declared.SampleAnswer.the-variants as sample-answer
+use Rattle.lerc_samples.proofs.stored.Reads as stored
+use Rattle.lerc_samples.specs.declared.StoredAnswer.the-variants as stored-answer
+use Rattle.lerc_bits.proofs.inspect.Reads as inspect
+use Rattle.lerc_bits.specs.declared.PlanAnswer.the-variants as plan-answer
+use Rattle.lerc_bits.proofs.decode.Reads as decode-counts
+use Rattle.lerc_bits.proofs.check.Reads as check-counts
+use Rattle.lerc_bits.specs.declared.CountsAnswer.the-variants as counts-answer
+use Rattle.lerc_header.proofs.Header.held.Reads as held
+use Rattle.lerc_header.specs.declared.HeldAnswer.the-variants as held-answer
+use Rattle.lerc_header.proofs.read_header.Reads as read-header
+use Rattle.lerc_header.specs.declared.HeaderAnswer.the-variants as header-answer
+use Rattle.lerc_mask.proofs.decode.Reads as decode-mask
+use Rattle.lerc_mask.specs.declared.RunsAnswer.the-variants as runs-answer
+use Rattle.lerc_planes.proofs.prepare_mask.Reads as prepare-mask
+use Rattle.lerc_planes.specs.declared.MaskAnswer.the-variants as mask-answer
+use Rattle.lerc_planes.proofs.pairs.Reads as pairs
+use Rattle.lerc_planes.specs.declared.PairsAnswer.the-variants as pairs-answer
+use Rattle.lerc_planes.proofs.read_ranges.Reads as read-ranges
+use Rattle.lerc_planes.specs.declared.RangesAnswer.the-variants as ranges-answer
+use Rattle.lerc_planes.proofs.convert.Reads as convert
+use Rattle.lerc_planes.specs.declared.ConstantsAnswer.the-variants as constants-answer
+use Rattle.lerc_block.proofs.block_end.Reads as block-end
+use Rattle.lerc_block.specs.declared.BlockAnswer.the-variants as block-answer
+use Rattle.lerc_block.proofs.read_block.Reads as read-block
+use Rattle.lerc_block.proofs.check_block.Reads as check-block
+use Rattle.lerc_image.proofs.read_sweep.Reads as read-sweep
+use Rattle.lerc_image.specs.declared.sweep.WayAnswer.the-variants as way-answer
+use Rattle.lerc_image.proofs.walk.Reads as walk
+use Rattle.lerc_image.specs.declared.WalkAnswer.the-variants as walk-answer
+use Rattle.lerc_image.proofs.fill.Reads as fill
+use Rattle.lerc_image.specs.declared.FillAnswer.the-variants as fill-answer
+use Rattle.lerc_image.proofs.decode_tiles.Reads as decode-tiles
+use Rattle.lerc.specs.declared.ReadAnswer.the-variants as read-answer
+use Rattle.lerc.proofs.read.Reads as read
+use Rattle.lerc_theorems.specs.Promises.{lent}
+use Rattle.lerc_theorems.specs.BlockTable.{WordRefused, IntegerRefused, KindRefused, SampleRefused, StoredRefused, PlanRefused, CountsRefused, ConstantsRefused, EndRefused, ReadBlockRefused}
+use Rattle.lerc_theorems.specs.Table.{HeldRefused, HeaderRefused, RunsRefused, PrepareRefused, PairsRefused, ReadRangesRefused, SweepRefused, WalkRefused, FillRefused, TilesRefused, WholeRefused}
+
+-- an answer that is a refusal with this number
+abbrev pub By : {R : Type 0} → (Refusal → R) → R → ℕ → Type 0
+By Refused r n = r ≡ Refused (refuse n)
+
+-- a promise by which n is given exactly where the table says so
+abbrev pub Exactly : {K A R O : Type 0} → (K → A → R → O → Type 0) → (R → ℕ → Type 0) → (A → ℕ → Type 0) → Type 0
+Exactly {K} {A} {R} {O} Post refuses When = (k : K) (a : A) (r : R) (x : O) → Post k a r x → (n : ℕ) → refuses r n ↔ When a n
+
+-- a promise by which no other numbers are given
+abbrev pub Only : {K A R O : Type 0} → (K → A → R → O → Type 0) → (R → ℕ → Type 0) → List ℕ → Type 0
+Only {K} {A} {R} {O} Post refuses numbers = (k : K) (a : A) (r : R) (x : O) → Post k a r x → (n : ℕ) → refuses r n → among numbers n ≡ true
+
+-- "given when": each number of each function, exactly
+pub record NumbersExactly : Type 0 where
+  pub word : Exactly word.Post (By word-answer.Refused) (λ a. WordRefused (a .0 .now) (a .1 .0) (a .1 .1 .0))
+  pub to-integer : Exactly to-integer.Post (By integer-answer.Refused) (λ a. IntegerRefused (a .1 .0) (a .0))
+  pub offset-kind : Exactly offset-kind.Post (By offset-answer.Refused) (λ a. KindRefused (a .0) (a .1 .0))
+  pub read-sample : Exactly read-sample.Post (By sample-answer.Refused) (λ a. SampleRefused (a .1 .1 .0) (a .0 .now) (a .1 .0))
+  pub stored : Exactly stored.Post (By stored-answer.Refused) (λ a. StoredRefused (a .1 .0) (a .0))
+  pub inspect : Exactly inspect.Post (By plan-answer.Refused) (λ a. PlanRefused (a .0 .now) (a .1 .0))
+  pub decode-counts : Exactly decode-counts.Post (By counts-answer.Refused) (λ a. CountsRefused (a .0 .now) (a .1 .0))
+  pub check-counts : Exactly check-counts.Post (By counts-answer.Refused) (λ a. CountsRefused (a .0 .now) (a .1 .0))
+  pub held : Exactly held.Post (By held-answer.Refused) (λ a. HeldRefused (a .0) (a .1 .0))
+  pub read-header : Exactly read-header.Post (By header-answer.Refused) (λ a. HeaderRefused (a .0 .now))
+  pub decode-mask : Exactly decode-mask.Post (By runs-answer.Refused) (λ a. RunsRefused (a .0 .now) (a .1 .0) (a .1 .1 .0) (length (a .1 .1 .1 .0 .now)))
+  pub prepare-mask : Exactly prepare-mask.Post (By mask-answer.Refused) (λ a. PrepareRefused (a .0 .now) (a .1 .0) (a .1 .1 .0) (a .1 .1 .1 .0 .now) (length (a .1 .1 .1 .1 .0 .now)))
+  pub pairs : Exactly pairs.Post (By pairs-answer.Refused) (λ a. PairsRefused (a .0) (a .1 .0))
+  pub read-ranges : Exactly read-ranges.Post (λ r. By ranges-answer.Refused (r .answer)) (λ a. ReadRangesRefused (a .0 .now) (a .1 .0))
+  pub convert : Exactly convert.Post (λ r. By constants-answer.Refused (r .answer)) (λ a. ConstantsRefused (a .1 .0) (a .1 .1 .0) (a .0))
+  pub block-end : Exactly block-end.Post (By block-answer.Refused) (λ a. EndRefused (a .0 .now) (a .1 .0) (a .1 .1 .0) (a .1 .1 .1 .0))
+  pub read-block : Exactly read-block.Post (By block-answer.Refused) (λ a. ReadBlockRefused (a .0 .now) (a .1 .0) (a .1 .1 .0) (a .1 .1 .1 .0) (a .1 .1 .1 .1 .0) (a .1 .1 .1 .1 .1 .0) (a .1 .1 .1 .1 .1 .1 .0))
+  pub check-block : Exactly check-block.Post (By block-answer.Refused) (λ a. ReadBlockRefused (a .0 .now) (a .1 .0) (a .1 .1 .0) (a .1 .1 .1 .0) (a .1 .1 .1 .1 .0) (a .1 .1 .1 .1 .1 .0) (a .1 .1 .1 .1 .1 .1 .0))
+  pub read-sweep : Exactly read-sweep.Post (By way-answer.Refused) (λ a. SweepRefused (a .0 .now) (a .1 .1 .0) (a .1 .1 .1 .0) (a .1 .0))
+  pub walk : Exactly walk.Post (By walk-answer.Refused) (λ a. WalkRefused (a .0 .now) (a .1 .0) (a .1 .1 .0) (a .1 .1 .1 .0 .now) (length (a .1 .1 .1 .1 .0 .now)))
+  pub fill : Exactly fill.Post (By fill-answer.Refused) (λ a. FillRefused (a .0 .now) (a .1 .0) (a .1 .1 .0) (a .1 .1 .1 .0 .now) (a .1 .1 .1 .1 .0 .now) (a .1 .1 .1 .1 .1 .0) (length (a .1 .1 .1 .1 .1 .1 .0 .now)))
+  pub decode-tiles : Exactly decode-tiles.Post (By walk-answer.Refused) (λ a. TilesRefused (a .0 .now) (a .1 .0) (a .1 .1 .0 .now) (a .1 .1 .1 .0 .now) (a .1 .1 .1 .1 .0) (length (a .1 .1 .1 .1 .1 .0 .now)) (length (a .1 .1 .1 .1 .1 .1 .0 .now)))
+  pub read : Exactly read.Post (By read-answer.Refused) (λ a. WholeRefused (a .0 .now) (a .1 .0) (lent a))
+
+-- the numbers that each function can give at all
+pub record NumbersOnly : Type 0 where
+  pub word : Only word.Post (By word-answer.Refused) (1 ∷ [])
+  pub to-integer : Only to-integer.Post (By integer-answer.Refused) (9 ∷ [])
+  pub offset-kind : Only offset-kind.Post (By offset-answer.Refused) (8 ∷ [])
+  pub read-sample : Only read-sample.Post (By sample-answer.Refused) (1 ∷ [])
+  pub stored : Only stored.Post (By stored-answer.Refused) (9 ∷ [])
+  pub inspect : Only inspect.Post (By plan-answer.Refused) (1 ∷ 8 ∷ [])
+  pub decode-counts : Only decode-counts.Post (By counts-answer.Refused) (1 ∷ 8 ∷ [])
+  pub check-counts : Only check-counts.Post (By counts-answer.Refused) (1 ∷ 8 ∷ [])
+  pub held : Only held.Post (By held-answer.Refused) (1 ∷ 3 ∷ 4 ∷ [])
+  pub read-header : Only read-header.Post (By header-answer.Refused) (1 ∷ 2 ∷ 3 ∷ 4 ∷ [])
+  pub decode-mask : Only decode-mask.Post (By runs-answer.Refused) (5 ∷ 6 ∷ [])
+  pub prepare-mask : Only prepare-mask.Post (By mask-answer.Refused) (1 ∷ 3 ∷ 4 ∷ 5 ∷ 6 ∷ [])
+  pub pairs : Only pairs.Post (By pairs-answer.Refused) (7 ∷ [])
+  pub read-ranges : Only read-ranges.Post (λ r. By ranges-answer.Refused (r .answer)) (1 ∷ 3 ∷ 4 ∷ 7 ∷ [])
+  pub convert : Only convert.Post (λ r. By constants-answer.Refused (r .answer)) (9 ∷ [])
+  pub block-end : Only block-end.Post (By block-answer.Refused) (1 ∷ 8 ∷ [])
+  pub read-block : Only read-block.Post (By block-answer.Refused) (1 ∷ 8 ∷ 9 ∷ [])
+  pub check-block : Only check-block.Post (By block-answer.Refused) (1 ∷ 8 ∷ 9 ∷ [])
+  pub read-sweep : Only read-sweep.Post (By way-answer.Refused) (1 ∷ 8 ∷ 10 ∷ [])
+  pub walk : Only walk.Post (By walk-answer.Refused) (1 ∷ 3 ∷ 4 ∷ 5 ∷ 7 ∷ 8 ∷ 9 ∷ 10 ∷ [])
+  pub fill : Only fill.Post (By fill-answer.Refused) (1 ∷ 3 ∷ 4 ∷ 5 ∷ 7 ∷ 8 ∷ 9 ∷ 11 ∷ [])
+  pub decode-tiles : Only decode-tiles.Post (By walk-answer.Refused) (1 ∷ 3 ∷ 4 ∷ 5 ∷ 8 ∷ 9 ∷ [])
+  pub read : Only read.Post (By read-answer.Refused) (1 ∷ 2 ∷ 3 ∷ 4 ∷ 5 ∷ 6 ∷ 7 ∷ 8 ∷ 9 ∷ 10 ∷ [])

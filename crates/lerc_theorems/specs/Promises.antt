@@ -1,0 +1,194 @@
+-- "For every input a public function's promise leaves no room: answer, number, and every lent byte afterwards."
+-- Each row is about the promise itself: `Pre` and `Post` are what the checker makes of the text of a function's `requires` and `ensures`.
+-- Assumes nothing.
+use mathlib.Core.Path.{_≡_}
+use mathlib.Core.Bool.{Bool}
+use mathlib.Core.List.{List}
+use Prim.Native.Nat.{ℕ}
+use denote.Ref.{RefT}
+use Rattle.lerc_words.proofs.WordAnswer.refusal.Reads as word-refusal
+use Rattle.lerc_words.proofs.peek.Reads as peek
+use Rattle.lerc_words.proofs.bytes.Reads as bytes
+use Rattle.lerc_words.proofs.word.Reads as word
+use Rattle.lerc_numeric.proofs.IntegerAnswer.refusal.Reads as integer-refusal
+use Rattle.lerc_numeric.proofs.plus.Reads as plus
+use Rattle.lerc_numeric.proofs.scale.Reads as scale
+use Rattle.lerc_numeric.proofs.is_finite.Reads as is-finite
+use Rattle.lerc_numeric.proofs.less.Reads as less
+use Rattle.lerc_numeric.proofs.same.Reads as same
+use Rattle.lerc_numeric.proofs.minimum.Reads as minimum
+use Rattle.lerc_numeric.proofs.size.Reads as size
+use Rattle.lerc_numeric.proofs.number.Reads as number
+use Rattle.lerc_numeric.proofs.narrow.Reads as narrow
+use Rattle.lerc_numeric.proofs.to_integer.Reads as to-integer
+use Rattle.lerc_samples.proofs.OffsetAnswer.refusal.Reads as offset-refusal
+use Rattle.lerc_samples.proofs.SampleAnswer.refusal.Reads as sample-refusal
+use Rattle.lerc_samples.proofs.StoredAnswer.refusal.Reads as stored-refusal
+use Rattle.lerc_samples.proofs.offset_kind.Reads as offset-kind
+use Rattle.lerc_samples.proofs.read.Reads as read-sample
+use Rattle.lerc_samples.proofs.stored.Reads as stored
+use Rattle.lerc_bits.proofs.PlanAnswer.refusal.Reads as plan-refusal
+use Rattle.lerc_bits.proofs.CountsAnswer.refusal.Reads as counts-refusal
+use Rattle.lerc_bits.proofs.inspect.Reads as inspect
+use Rattle.lerc_bits.proofs.decode.Reads as decode-counts
+use Rattle.lerc_bits.proofs.check.Reads as check-counts
+use Rattle.lerc_header.proofs.HeaderAnswer.refusal.Reads as header-refusal
+use Rattle.lerc_header.proofs.HeldAnswer.refusal.Reads as held-refusal
+use Rattle.lerc_header.proofs.pair_right.Reads as pair-right
+use Rattle.lerc_header.proofs.Header.held.Reads as held
+use Rattle.lerc_header.proofs.read_header.Reads as read-header
+use Rattle.lerc_mask.proofs.RunsAnswer.refusal.Reads as runs-refusal
+use Rattle.lerc_mask.proofs.is_valid.Reads as is-valid
+use Rattle.lerc_mask.proofs.count.Reads as count-valid
+use Rattle.lerc_mask.proofs.decode.Reads as decode-mask
+use Rattle.lerc_planes.proofs.MaskAnswer.refusal.Reads as mask-refusal
+use Rattle.lerc_planes.proofs.RangesAnswer.refusal.Reads as ranges-refusal
+use Rattle.lerc_planes.proofs.PairsAnswer.refusal.Reads as pairs-refusal
+use Rattle.lerc_planes.proofs.ConstantsAnswer.refusal.Reads as constants-refusal
+use Rattle.lerc_planes.proofs.prepare_mask.Reads as prepare-mask
+use Rattle.lerc_planes.proofs.mask_in_force.Reads as mask-in-force
+use Rattle.lerc_planes.proofs.pairs.Reads as pairs
+use Rattle.lerc_planes.proofs.read_ranges.Reads as read-ranges
+use Rattle.lerc_planes.proofs.convert.Reads as convert
+use Rattle.lerc_block.proofs.BlockAnswer.refusal.Reads as block-refusal
+use Rattle.lerc_block.proofs.block_end.Reads as block-end
+use Rattle.lerc_block.proofs.read_block.Reads as read-block
+use Rattle.lerc_block.proofs.check_block.Reads as check-block
+use Rattle.lerc_image.proofs.WalkAnswer.refusal.Reads as walk-refusal
+use Rattle.lerc_image.proofs.FillAnswer.refusal.Reads as fill-refusal
+use Rattle.lerc_image.proofs.sweep.WayAnswer.refusal.Reads as way-refusal
+use Rattle.lerc_image.proofs.read_sweep.Reads as read-sweep
+use Rattle.lerc_image.proofs.walk.Reads as walk
+use Rattle.lerc_image.proofs.fill.Reads as fill
+use Rattle.lerc_image.proofs.decode_tiles.Reads as decode-tiles
+use Rattle.lerc_fills.proofs.fill_each.Reads as fill-each
+use Rattle.lerc.specs.Read.{Lent}
+use Rattle.lerc.proofs.ReadAnswer.refusal.Reads as read-refusal
+use Rattle.lerc.proofs.read.Reads as read
+use Rattle.lerc_c.proofs.lerc2_read_header.Reads as c-read-header
+use Rattle.lerc_c.proofs.lerc2_prepare_mask.Reads as c-prepare-mask
+use Rattle.lerc_c.proofs.lerc2_read_ranges.Reads as c-read-ranges
+use Rattle.lerc_c.proofs.lerc2_walk.Reads as c-walk
+use Rattle.lerc_c.proofs.lerc2_fill.Reads as c-fill
+use Rattle.lerc_c.proofs.lerc2_read.Reads as c-read
+use Rattle.lerc_c.proofs.lerc2_sum.Reads as c-sum
+use Rattle.lerc_c.proofs.lerc2_scaled.Reads as c-scaled
+use Rattle.lerc_c.proofs.lerc2_narrow.Reads as c-narrow
+use Rattle.lerc_c.proofs.lerc2_number.Reads as c-number
+use Rattle.lerc_c.proofs.lerc2_stored.Reads as c-stored
+
+-- A function's promise: `Pre lives inputs` is what it asks, `Post lives inputs answer outputs` what it gives; the outputs are the inputs at exit.
+-- `told` is the answer as a caller sees it, `left` is what the slices hold that were lent to be written.
+pub record Fixed {K A R O B S : Type 0} (Pre : K → A → Type 0) (Post : K → A → R → O → Type 0) (told : R → B) (left : O → S) : Type 0 where
+  -- "For every input": it asks nothing
+  pub asks-nothing : (k : K) (a : A) → Pre k a
+  -- "any two outcomes it allows coincide"
+  pub same : (k : K) (a : A) (r q : R) (x y : O) → Post k a r x → Post k a q y → (told r ≡ told q) × (left x ≡ left y)
+
+-- a function that is lent nothing to write
+abbrev pub Answers : {K A R O : Type 0} → (K → A → Type 0) → (K → A → R → O → Type 0) → Type 0
+Answers Pre Post = Fixed {S = Unit {0}} Pre Post (λ r. r) (λ o. tt)
+
+-- a function that writes to slices
+abbrev pub Writes : {K A R O S : Type 0} → (K → A → Type 0) → (K → A → R → O → Type 0) → (O → S) → Type 0
+Writes Pre Post left = Fixed Pre Post (λ r. r) left
+
+-- the slices that a whole read is lent, among its inputs or its outputs
+abbrev pub Read : Type 0
+Read = RefT (List ℕ) × (Bool × (RefT (List ℕ) × (RefT (List ℕ) × (RefT (List ℕ) × (RefT (List ℕ) × Unit {0})))))
+
+abbrev pub lent : Read → Lent
+lent a = record { kept = a .1 .1 .0 .now; spare = a .1 .1 .1 .0 .now; list = a .1 .1 .1 .1 .0 .now; image = a .1 .1 .1 .1 .1 .0 .now }
+
+-- all public functions, from the ground up
+pub record NoRoom : Type 0 where
+  -- lerc_words
+  pub word-refusal : Answers word-refusal.Pre word-refusal.Post
+  pub peek : Answers peek.Pre peek.Post
+  pub bytes : Answers bytes.Pre bytes.Post
+  pub word : Answers word.Pre word.Post
+  -- lerc_numeric
+  pub integer-refusal : Answers integer-refusal.Pre integer-refusal.Post
+  pub plus : Answers plus.Pre plus.Post
+  pub scale : Answers scale.Pre scale.Post
+  pub is-finite : Answers is-finite.Pre is-finite.Post
+  pub less : Answers less.Pre less.Post
+  pub same : Answers same.Pre same.Post
+  pub minimum : Answers minimum.Pre minimum.Post
+  pub size : Answers size.Pre size.Post
+  pub number : Answers number.Pre number.Post
+  pub narrow : Answers narrow.Pre narrow.Post
+  pub to-integer : Answers to-integer.Pre to-integer.Post
+  -- lerc_samples
+  pub offset-refusal : Answers offset-refusal.Pre offset-refusal.Post
+  pub sample-refusal : Answers sample-refusal.Pre sample-refusal.Post
+  pub stored-refusal : Answers stored-refusal.Pre stored-refusal.Post
+  pub offset-kind : Answers offset-kind.Pre offset-kind.Post
+  pub read-sample : Answers read-sample.Pre read-sample.Post
+  pub stored : Answers stored.Pre stored.Post
+  -- lerc_bits
+  pub plan-refusal : Answers plan-refusal.Pre plan-refusal.Post
+  pub counts-refusal : Answers counts-refusal.Pre counts-refusal.Post
+  pub inspect : Answers inspect.Pre inspect.Post
+  pub decode-counts : Writes decode-counts.Pre decode-counts.Post (λ o. o .1 .1 .0 .now)
+  pub check-counts : Answers check-counts.Pre check-counts.Post
+  -- lerc_header
+  pub header-refusal : Answers header-refusal.Pre header-refusal.Post
+  pub held-refusal : Answers held-refusal.Pre held-refusal.Post
+  pub pair-right : Answers pair-right.Pre pair-right.Post
+  pub held : Answers held.Pre held.Post
+  pub read-header : Answers read-header.Pre read-header.Post
+  -- lerc_mask
+  pub runs-refusal : Answers runs-refusal.Pre runs-refusal.Post
+  pub is-valid : Answers is-valid.Pre is-valid.Post
+  pub count-valid : Answers count-valid.Pre count-valid.Post
+  pub decode-mask : Writes decode-mask.Pre decode-mask.Post (λ o. o .1 .1 .1 .0 .now)
+  -- lerc_planes
+  pub mask-refusal : Answers mask-refusal.Pre mask-refusal.Post
+  pub ranges-refusal : Answers ranges-refusal.Pre ranges-refusal.Post
+  pub pairs-refusal : Answers pairs-refusal.Pre pairs-refusal.Post
+  pub constants-refusal : Answers constants-refusal.Pre constants-refusal.Post
+  pub prepare-mask : Writes prepare-mask.Pre prepare-mask.Post (λ o. o .1 .1 .1 .1 .0 .now)
+  pub mask-in-force : Fixed {S = Unit {0}} mask-in-force.Pre mask-in-force.Post (λ r. r .now) (λ o. tt)
+  pub pairs : Answers pairs.Pre pairs.Post
+  pub read-ranges : Answers read-ranges.Pre read-ranges.Post
+  pub convert : Answers convert.Pre convert.Post
+  -- lerc_block
+  pub block-refusal : Answers block-refusal.Pre block-refusal.Post
+  pub block-end : Answers block-end.Pre block-end.Post
+  pub read-block : Writes read-block.Pre read-block.Post (λ o. o .1 .1 .1 .1 .1 .1 .1 .0 .now)
+  pub check-block : Answers check-block.Pre check-block.Post
+  -- lerc_image
+  pub walk-refusal : Answers walk-refusal.Pre walk-refusal.Post
+  pub fill-refusal : Answers fill-refusal.Pre fill-refusal.Post
+  pub way-refusal : Answers way-refusal.Pre way-refusal.Post
+  pub read-sweep : Answers read-sweep.Pre read-sweep.Post
+  pub walk : Writes walk.Pre walk.Post (λ o. o .1 .1 .1 .1 .0 .now)
+  pub fill : Writes fill.Pre fill.Post (λ o. o .1 .1 .1 .1 .1 .1 .0 .now)
+  pub decode-tiles : Writes {S = List ℕ × List ℕ} decode-tiles.Pre decode-tiles.Post (λ o. (o .1 .1 .1 .1 .1 .0 .now, o .1 .1 .1 .1 .1 .1 .0 .now))
+  -- lerc_fills
+  pub fill-each : Writes fill-each.Pre fill-each.Post (λ o. o .1 .1 .1 .1 .1 .1 .0 .now)
+  -- lerc
+  pub read-refusal : Answers read-refusal.Pre read-refusal.Post
+  pub read : Writes read.Pre read.Post lent
+
+-- the slices that the C interface's whole read is lent, the record of what it says among them
+abbrev pub CRead : Type 0
+CRead = RefT (List ℕ) × (Bool × (RefT (List ℕ) × (RefT (List ℕ) × (RefT (List ℕ) × (RefT (List ℕ) × (RefT (List ℕ) × Unit {0}))))))
+
+abbrev pub c-lent : CRead → Lent × List ℕ
+c-lent a = (record { kept = a .1 .1 .0 .now; spare = a .1 .1 .1 .0 .now; list = a .1 .1 .1 .1 .0 .now; image = a .1 .1 .1 .1 .1 .0 .now }, a .1 .1 .1 .1 .1 .1 .0 .now)
+
+-- the entries of the C interface
+pub record NoRoomInC : Type 0 where
+  pub read-header : Writes c-read-header.Pre c-read-header.Post (λ o. o .1 .0 .now)
+  pub prepare-mask : Writes {S = List ℕ × List ℕ} c-prepare-mask.Pre c-prepare-mask.Post (λ o. (o .1 .1 .1 .1 .0 .now, o .1 .1 .1 .1 .1 .0 .now))
+  pub read-ranges : Writes c-read-ranges.Pre c-read-ranges.Post (λ o. o .1 .1 .0 .now)
+  pub walk : Writes {S = List ℕ × List ℕ} c-walk.Pre c-walk.Post (λ o. (o .1 .1 .1 .1 .0 .now, o .1 .1 .1 .1 .1 .0 .now))
+  pub fill : Writes {S = List ℕ × List ℕ} c-fill.Pre c-fill.Post (λ o. (o .1 .1 .1 .1 .1 .1 .0 .now, o .1 .1 .1 .1 .1 .1 .1 .0 .now))
+  pub read : Writes c-read.Pre c-read.Post c-lent
+  pub sum : Answers c-sum.Pre c-sum.Post
+  pub scaled : Answers c-scaled.Pre c-scaled.Post
+  pub narrow : Answers c-narrow.Pre c-narrow.Post
+  pub number : Answers c-number.Pre c-number.Post
+  pub stored : Writes c-stored.Pre c-stored.Post (λ o. o .1 .1 .0 .now)
