@@ -1,0 +1,358 @@
+-- lerc_block.rs: its clauses from ours. "THE BLOCK" says that upstream's mode and cells are our block, but for the number of a
+-- refusal.
+-- Assumes nothing.
+use mathlib.Core.Path.{_≡_, refl, sym, ap, _∙_}
+use mathlib.Core.Bool.{Bool, true, false, cond, _||_}
+use mathlib.Core.List.{List}
+use mathlib.Core.Logic.{_⊎_, inl, inr}
+use mathlib.Core.Option.{Option, none, some}
+use Prim.Native.Nat.{ℕ, zero, suc, _+_, _-_, _*_, _/_, _%_, _≤_, _<_}
+use native.Mathlib.Omega.{arith}
+use native.Mathlib.Nat.{suc-mul, zero-mul, add-zero, mul-le-mul-right}
+use native.Mathlib.Numerals.{add-one}
+use native.Mathlib.Decide.{decLt, decLe}
+use borrow.Author.Tests.{le-leb, lt-leb, eq-eqb, ne-eqb, eqb-true, eqb-false}
+use lib.Dec.{eqb}
+use lib.ListN.{length, getD, replicate, length-replicate, getD-replicate}
+use Rattle.lerc_words.specs.declared.Refusal.{Refusal}
+use Rattle.lerc_words.specs.Res.{Res, ok, fail, _>>=_, require, little, each}
+use Rattle.lerc_words.specs.Lists.{tabulate}
+use Rattle.lerc_words.proofs.Laws.{Bytes, wordAt-no}
+use Rattle.lerc_words.proofs.Tables.{getD-tabulate}
+use Rattle.lerc_numeric.specs.Numeric.{finite, lesser}
+use Rattle.lerc_numeric.specs.Kinds.{typeSize}
+use Rattle.lerc_samples.specs.Samples.{sampleAt, stored, offsetKind}
+use Rattle.lerc_header.specs.declared.Header.{Header}
+use Rattle.lerc_header.specs.Header.{shapeOf}
+use Rattle.lerc_header.specs.Shape.{Shaped, cells, blockCount}
+use Rattle.lerc_bits.specs.Bits.{Counts, counts}
+use Rattle.lerc_block.specs.Block.{Block, rawWords, levelBlock, stepValue, steppedBlock, offsetBlock, formed, blockSays}
+use Rattle.lerc_image.specs.declared.Tile.{Tile}
+use Rattle.lerc_image.specs.Geometry.{tileOf, tileValid}
+use Rattle.lerc_image.specs.Paint.{scattered}
+use Rattle.lerc_contracts.specs.Outside.{said, onSome, lengthMax}
+use Rattle.lerc_contracts.specs.Block.{Mode, mode, modeOffset, value, ResultModel, finished, finish, countsOf, block}
+use Rattle.lerc_contracts.proofs.Answers.{each-at, each-not}
+use Rattle.lerc_contracts.proofs.Bits.{byte-ok, decoded-is}
+use Rattle.lerc_contracts.proofs.Walking.{run-all, run-none}
+
+-- ---- `value`
+
+module _ (s : List ℕ) (h : Header) (m : Mode) (q : List ℕ) (at index maximum : ℕ) where
+  module _ (f : m .flag ≡ 0) where
+    -- 4.29
+    pub raw-past : length s < at + typeSize (h .kind) → value s h m q at index maximum ≡ none
+    unfolding value
+    raw-past l = rw (eq-eqb (m .flag) 0 f, lt-leb (at + typeSize (h .kind)) (length s) l)
+
+    -- 4.30
+    pub raw-word : at + typeSize (h .kind) ≤ length s → value s h m q at index maximum ≡ some (record { value = little (typeSize (h .kind)) s at; at = at + typeSize (h .kind); q = index })
+    unfolding value
+    raw-word l = rw (eq-eqb (m .flag) 0 f, le-leb (at + typeSize (h .kind)) (length s) l)
+
+  -- 4.31
+  pub zero-word : m .flag ≡ 2 → value s h m q at index maximum ≡ some (record { value = 0; at = at; q = index })
+  unfolding value
+  zero-word f = rw (ne-eqb (m .flag) 0 (λ e. omega arith), eq-eqb (m .flag) 2 f)
+
+  module _ (f : m .flag ≡ 3) where
+    -- 4.32, 4.36
+    pub level-word : (w : ℕ) → stored (h .kind) (m .offset) ≡ ok w → value s h m q at index maximum ≡ some (record { value = w; at = at; q = index })
+    unfolding value
+    level-word w e = rw (ne-eqb (m .flag) 0 (λ e. omega arith), ne-eqb (m .flag) 2 (λ e. omega arith), eq-eqb (m .flag) 3 f, ne-eqb (m .flag) 1 (λ e. omega arith), e)
+
+    -- 4.35
+    pub level-none : (r : Refusal) → stored (h .kind) (m .offset) ≡ fail r → value s h m q at index maximum ≡ none
+    unfolding value
+    level-none r e = rw (ne-eqb (m .flag) 0 (λ e. omega arith), ne-eqb (m .flag) 2 (λ e. omega arith), eq-eqb (m .flag) 3 f, ne-eqb (m .flag) 1 (λ e. omega arith), e)
+
+  module _ (f : m .flag ≡ 1) where
+    -- 4.34
+    pub step-past : length q ≤ index → value s h m q at index maximum ≡ none
+    unfolding value
+    step-past l = rw (ne-eqb (m .flag) 0 (λ e. omega arith), ne-eqb (m .flag) 2 (λ e. omega arith), eq-eqb (m .flag) 1 f, le-leb (length q) index l)
+
+    -- 4.33, 4.36
+    pub step-word : index < length q → (w : ℕ) → stored (h .kind) (stepValue (h .error) maximum (m .offset) (getD q index 0)) ≡ ok w
+        → value s h m q at index maximum ≡ some (record { value = w; at = at; q = index + 1 })
+    unfolding value stepValue lesser
+    step-word l w e = rw (ne-eqb (m .flag) 0 (λ e. omega arith), ne-eqb (m .flag) 2 (λ e. omega arith), ne-eqb (m .flag) 3 (λ e. omega arith), eq-eqb (m .flag) 1 f, lt-leb (length q) index l, e)
+
+    pub step-none : index < length q → (r : Refusal) → stored (h .kind) (stepValue (h .error) maximum (m .offset) (getD q index 0)) ≡ fail r → value s h m q at index maximum ≡ none
+    unfolding value stepValue lesser
+    step-none l r e = rw (ne-eqb (m .flag) 0 (λ e. omega arith), ne-eqb (m .flag) 2 (λ e. omega arith), ne-eqb (m .flag) 3 (λ e. omega arith), eq-eqb (m .flag) 1 f, lt-leb (length q) index l, e)
+
+-- ---- `mode`
+
+module _ (s : List ℕ) (at : ℕ) (h : Header) (t : Tile) where
+  -- 4.11
+  pub mode-past : length s ≤ at → mode s at h t ≡ none
+  unfolding mode
+  mode-past l = rw (le-leb (length s) at l)
+
+  module _ (l : at < length s) where
+    -- 4.12
+    pub mode-check : eqb (getD s at 0 / 4 % 16) (t .x / 8 % 16) ≡ false → mode s at h t ≡ none
+    unfolding mode
+    mode-check c = rw (lt-leb (length s) at l, c)
+
+    module _ (c : eqb (getD s at 0 / 4 % 16) (t .x / 8 % 16) ≡ true) where
+      -- 4.13
+      pub mode-free : (eqb (getD s at 0 % 4) 0 || eqb (getD s at 0 % 4) 2) ≡ true → mode s at h t ≡ some (record { at = at + 1; flag = getD s at 0 % 4; offset = 0; quant = 0; next = at + 1 })
+      unfolding mode
+      mode-free o = rw (lt-leb (length s) at l, c, o)
+
+      module _ (o : (eqb (getD s at 0 % 4) 0 || eqb (getD s at 0 % 4) 2) ≡ false) where
+        -- 4.14
+        pub mode-kind : (r : Refusal) → offsetKind (h .kind) (getD s at 0 / 64) ≡ fail r → mode s at h t ≡ none
+        unfolding mode
+        mode-kind r e = rw (lt-leb (length s) at l, c, o, e)
+
+        module _ (k : ℕ) (e : offsetKind (h .kind) (getD s at 0 / 64) ≡ ok k) where
+          -- 4.15
+          pub mode-number : (r : Refusal) → sampleAt k s (at + 1) ≡ fail r → mode s at h t ≡ none
+          unfolding mode
+          mode-number r d = rw (lt-leb (length s) at l, c, o, e, d)
+
+          pub mode-offset : (v : ℕ) → sampleAt k s (at + 1) ≡ ok v → mode s at h t ≡ modeOffset s at (getD s at 0 % 4) k v
+          unfolding mode
+          mode-offset v d = rw (lt-leb (length s) at l, c, o, e, d)
+
+module _ (s : List ℕ) (at f k v : ℕ) where
+  -- 4.16
+  pub offset-wild : finite v ≡ false → modeOffset s at f k v ≡ none
+  offset-wild e = rw (e)
+
+  module _ (e : finite v ≡ true) where
+    -- 4.17
+    pub offset-level : eqb f 3 ≡ true → modeOffset s at f k v ≡ some (record { at = at + 1 + typeSize k; flag = f; offset = v; quant = 0; next = at + 1 + typeSize k })
+    offset-level d = rw (e, d)
+
+    module _ (d : eqb f 3 ≡ false) (y : Bytes s) (few : length s ≤ lengthMax) where
+      -- 4.18
+      pub offset-none : (r : Refusal) → counts s (at + 1 + typeSize k) ≡ fail r → modeOffset s at f k v ≡ none
+      offset-none r q = rw (e, d, decoded-is s (at + 1 + typeSize k) y few, q)
+
+      -- 4.19
+      pub offset-steps : (c : Counts) → counts s (at + 1 + typeSize k) ≡ ok c
+          → modeOffset s at f k v ≡ some (record { at = c .next; flag = f; offset = v; quant = at + 1 + typeSize k; next = c .next })
+      offset-steps c q = rw (e, d, decoded-is s (at + 1 + typeSize k) y few, q)
+
+-- flags
+
+neither : (f : ℕ) → (eqb f 0 || eqb f 2) ≡ false → (f ≡ 0 → ⊥) × (f ≡ 2 → ⊥)
+neither f o = go (eqb f 0) refl (eqb f 2) refl
+  where
+    go : (t : Bool) → eqb f 0 ≡ t → (u : Bool) → eqb f 2 ≡ u → (f ≡ 0 → ⊥) × (f ≡ 2 → ⊥)
+    go false e false d = (eqb-false f 0 e, eqb-false f 2 d)
+    go true e u d = absurd (let w = rw (e) at o in let z : _≡_ {A = ℕ} 0 1 = cc in omega arith)
+    go false e true d = absurd (let w = rw (e, d) at o in let z : _≡_ {A = ℕ} 0 1 = cc in omega arith)
+
+one : (f : ℕ) → f < 4 → (f ≡ 0 → ⊥) → (f ≡ 2 → ⊥) → (f ≡ 3 → ⊥) → f ≡ 1
+one f l a b c = omega arith
+
+-- ---- the four forms
+
+-- a block of ours as upstream's result
+abbrev pub result : Header → List ℕ → ℕ → List ℕ → Block → ResultModel
+result h mask n image b = record { at = b .next; image = scattered (shapeOf h) mask n (b .words) image }
+
+module _ (h : Header) (mask : List ℕ) (n : ℕ) (start : List ℕ) (g : Shaped (shapeOf h)) (below : n < blockCount (shapeOf h)) (room : cells (shapeOf h) ≤ length start) where
+  abbrev many : ℕ
+  many = tileValid (shapeOf h) mask (tileOf (shapeOf h) n)
+
+  module _ (s : List ℕ) (m : Mode) (maximum : ℕ) where
+    abbrev cellsOf : List ℕ → Option ResultModel
+    cellsOf q = finish s h (tileOf (shapeOf h) n) m q mask maximum 0 (m .at) 0 start 256
+
+    finished-free : (q : List ℕ) (at index : ℕ) (out : List ℕ) → (m .flag ≡ 1 → ⊥) → finished m q at index out ≡ some (record { at = at; image = out })
+    finished-free q at index out f = rw (ne-eqb (m .flag) 1 f)
+
+    raw-is : (q : List ℕ) → m .flag ≡ 0 → m .at ≤ length s → cellsOf q ≡ said (result h mask n start) (rawWords s (m .at) (h .kind) many)
+    unfolding rawWords
+    raw-is q f inside = go (decLe (m .at + many * typeSize (h .kind)) (length s))
+      where
+        z : ℕ
+        z = typeSize (h .kind)
+
+        pos : ℕ → ℕ
+        pos i = m .at + i * z
+
+        next : (i : ℕ) → pos i + z ≡ pos (i + 1)
+        next i = rw (add-one) (omega (arith, suc-mul i z))
+
+        first : pos 0 ≡ m .at
+        first = rw (zero-mul) (add-zero (m .at))
+
+        words : List ℕ
+        words = tabulate many (λ k. little (typeSize (h .kind)) s (m .at + k * typeSize (h .kind)))
+
+        goes : (i : ℕ) → pos i + z ≤ length s → value s h m q (pos i) 0 maximum ≡ some (record { value = little z s (pos i); at = pos (i + 1); q = 0 })
+        goes i l = raw-word s h m q (pos i) 0 maximum f l ∙ rw (next i)
+
+        step : (i : ℕ) → Dec (pos i + z ≤ length s)
+            → (value s h m q (pos i) 0 maximum ≡ none) ⊎ ((w : ℕ) × (value s h m q (pos i) 0 maximum ≡ some (record { value = w; at = pos (i + 1); q = 0 })))
+        step i (yes l) = inr (little z s (pos i), goes i l)
+        step i (no l) = inl (raw-past s h m q (pos i) 0 maximum f (omega arith))
+
+        go : Dec (m .at + many * typeSize (h .kind) ≤ length s) → cellsOf q ≡ said (result h mask n start) (rawWords s (m .at) (h .kind) many)
+        go (yes l) =
+            let each : (i : ℕ) → i < many → value s h m q (pos i) 0 maximum ≡ some (record { value = getD words i 0; at = pos (i + 1); q = 0 }) =
+            λ i k. rw (getD-tabulate many (λ k. little (typeSize (h .kind)) s (m .at + k * typeSize (h .kind))) i 0 k) (goes i (omega (arith, suc-mul i z, mul-le-mul-right z k))) in
+            rw (le-leb (m .at + many * z) (length s) l)
+            (run-all h mask n start g below room s m q maximum pos (λ i. 0) first refl words each ∙ finished-free q (pos many) 0 (scattered (shapeOf h) mask n words start) (λ e. omega arith))
+        go (no l) =
+            let k : length s < m .at + many * z = omega arith in
+            let o : 0 < many = positive many k in
+            let e : pos (many - 1) + z ≡ m .at + many * z = next (many - 1) ∙ ap pos (let x : many - 1 + 1 ≡ many = omega arith in x) in
+            rw (lt-leb (m .at + many * z) (length s) k)
+            (run-none h mask n start g below room s m q maximum pos (λ i. 0) first refl (λ i _. step i (decLe (pos i + z) (length s)))
+            (inl (many - 1, omega arith, omega arith, raw-past s h m q (pos (many - 1)) 0 maximum f (rw (e) k))))
+          where
+            positive : (c : ℕ) → length s < m .at + c * z → 0 < c
+            positive zero k = absurd (omega (arith, zero-mul z))
+            positive (suc c) k = omega arith
+
+    zero-is : (q : List ℕ) → m .flag ≡ 2 → cellsOf q ≡ some (result h mask n start (record { words = replicate many 0; next = m .at }))
+    zero-is q f =
+        run-all h mask n start g below room s m q maximum (λ i. m .at) (λ i. 0) refl refl (replicate many 0) (λ i k. rw (getD-replicate {A = ℕ} many i 0 0 k) (zero-word s h m q (m .at) 0 maximum f))
+        ∙ finished-free q (m .at) 0 (scattered (shapeOf h) mask n (replicate many 0) start) (λ e. omega arith)
+
+    level-is : (q : List ℕ) → m .flag ≡ 3 → cellsOf q ≡ said (result h mask n start) (levelBlock (m .at) (h .kind) (m .offset) many)
+    unfolding levelBlock
+    level-is q f = go (each (stored (h .kind)) (replicate many (m .offset))) refl
+      where
+        here : (i : ℕ) → i < many → getD (replicate many (m .offset)) i 0 ≡ m .offset
+        here i k = getD-replicate many i (m .offset) 0 k
+
+        step : (w : Res ℕ) → stored (h .kind) (m .offset) ≡ w → (value s h m q (m .at) 0 maximum ≡ none) ⊎ ((w : ℕ) × (value s h m q (m .at) 0 maximum ≡ some (record { value = w; at = m .at; q = 0 })))
+        step (ok w) e = inr (w, level-word s h m q (m .at) 0 maximum f w e)
+        step (fail r) e = inl (level-none s h m q (m .at) 0 maximum f r e)
+
+        go : (x : Res (List ℕ)) → each (stored (h .kind)) (replicate many (m .offset)) ≡ x → cellsOf q ≡ said (result h mask n start) (levelBlock (m .at) (h .kind) (m .offset) many)
+        go (ok words) e =
+            let at : (i : ℕ) → i < many → stored (h .kind) (m .offset) ≡ ok (getD words i 0) =
+            λ i k. rw (← here i k) (each-at (stored (h .kind)) (replicate many (m .offset)) i 0 0 e (rw (length-replicate) k)) in
+            rw (e)
+            (run-all h mask n start g below room s m q maximum (λ i. m .at) (λ i. 0) refl refl words (λ i k. level-word s h m q (m .at) 0 maximum f (getD words i 0) (at i k))
+            ∙ finished-free q (m .at) 0 (scattered (shapeOf h) mask n words start) (λ e. omega arith))
+        go (fail r) e =
+            let (i, k, d) = each-not (stored (h .kind)) (replicate many (m .offset)) 0 e in
+            let k2 : i < many = rw (length-replicate) at k in
+            let d2 : stored (h .kind) (m .offset) ≡ fail r = rw (here i k2) at d in
+            rw (e)
+            (run-none h mask n start g below room s m q maximum (λ i. m .at) (λ i. 0) refl refl (λ i _. step (stored (h .kind) (m .offset)) refl)
+            (inl (i, omega arith, k2, level-none s h m q (m .at) 0 maximum f r d2)))
+
+    -- the counts were read: their number, then each value
+    abbrev told : List ℕ → Res Block
+    told q = require (eqb (length q) many) 8 >>= λ _. each (λ c. stored (h .kind) (stepValue (h .error) maximum (m .offset) c)) q >>= λ words. ok (record { words = words; next = m .at })
+
+    stepped-is : (q : List ℕ) → m .flag ≡ 1 → cellsOf q ≡ said (result h mask n start) (told q)
+    stepped-is q f = go (eqb (length q) many) refl
+      where
+        to : ℕ → Res ℕ
+        to c = stored (h .kind) (stepValue (h .error) maximum (m .offset) c)
+
+        step : (i : ℕ) → (value s h m q (m .at) i maximum ≡ none) ⊎ ((w : ℕ) × (value s h m q (m .at) i maximum ≡ some (record { value = w; at = m .at; q = i + 1 })))
+        step i = here (decLt i (length q))
+          where
+            judged : i < length q → (w : Res ℕ) → to (getD q i 0) ≡ w → (value s h m q (m .at) i maximum ≡ none) ⊎ ((w : ℕ) × (value s h m q (m .at) i maximum ≡ some (record { value = w; at = m .at; q = i + 1 })))
+            judged l (ok w) e = inr (w, step-word s h m q (m .at) i maximum f l w e)
+            judged l (fail r) e = inl (step-none s h m q (m .at) i maximum f l r e)
+
+            here : Dec (i < length q) → (value s h m q (m .at) i maximum ≡ none) ⊎ ((w : ℕ) × (value s h m q (m .at) i maximum ≡ some (record { value = w; at = m .at; q = i + 1 })))
+            here (yes l) = judged l (to (getD q i 0)) refl
+            here (no l) = inl (step-past s h m q (m .at) i maximum f (omega arith))
+
+        right : length q ≡ many → (x : Res (List ℕ)) → each to q ≡ x → cellsOf q ≡ said (result h mask n start) (x >>= λ words. ok (record { words = words; next = m .at }))
+        right e (ok words) d =
+            run-all h mask n start g below room s m q maximum (λ i. m .at) (λ i. i) refl refl words
+            (λ i k. step-word s h m q (m .at) i maximum f (omega arith) (getD words i 0) (each-at to q i 0 0 d (omega arith)))
+            ∙ rw (eq-eqb (m .flag) 1 f, eq-eqb many (length q) (sym e))
+        right e (fail r) d =
+            let (j, k, b) = each-not to q 0 d in
+            run-none h mask n start g below room s m q maximum (λ i. m .at) (λ i. i) refl refl (λ i _. step i)
+            (inl (j, omega arith, omega arith, step-none s h m q (m .at) j maximum f k r b))
+
+        wrong : (length q ≡ many → ⊥) → Dec (length q < many) → cellsOf q ≡ none
+        wrong d (yes l) = run-none h mask n start g below room s m q maximum (λ i. m .at) (λ i. i) refl refl (λ i _. step i)
+            (inl (length q, omega arith, l, step-past s h m q (m .at) (length q) maximum f (omega arith)))
+        wrong d (no l) = run-none h mask n start g below room s m q maximum (λ i. m .at) (λ i. i) refl refl (λ i _. step i)
+            (inr (λ o. rw (eq-eqb (m .flag) 1 f, ne-eqb many (length q) (λ e. d (sym e)))))
+
+        go : (t : Bool) → eqb (length q) many ≡ t → cellsOf q ≡ said (result h mask n start) (told q)
+        go true e = rw (e) (right (eqb-true _ _ e) (each to q) refl)
+        go false e = rw (e) (wrong (eqb-false _ _ e) (decLt (length q) many))
+
+  -- ---- THE BLOCK
+
+  module _ (s : List ℕ) (y : Bytes s) (few : length s ≤ lengthMax) (maximum at : ℕ) where
+    -- what is left of a block whose mode is m
+    abbrev rest : Mode → Option ResultModel
+    rest m = finish s h (tileOf (shapeOf h) n) m (countsOf s m) mask maximum 0 (m .at) 0 start 256
+
+    steps-rest : (f k v : ℕ) → f ≡ 1 → finite v ≡ true → eqb f 3 ≡ false
+        → onSome (modeOffset s at f k v) rest ≡ said (result h mask n start) (steppedBlock s (at + 1 + typeSize k) (h .kind) (h .error) maximum v many)
+    unfolding steppedBlock
+    steps-rest f k v o e d = go (counts s (at + 1 + typeSize k)) refl
+      where
+        go : (c : Res Counts) → counts s (at + 1 + typeSize k) ≡ c → onSome (modeOffset s at f k v) rest ≡ said (result h mask n start) (steppedBlock s (at + 1 + typeSize k) (h .kind) (h .error) maximum v many)
+        go (ok c) q =
+            rw (offset-steps s at f k v e d y few c q, q, eq-eqb f 1 o, decoded-is s (at + 1 + typeSize k) y few, q)
+            (stepped-is s (record { at = c .next; flag = f; offset = v; quant = at + 1 + typeSize k; next = c .next }) maximum (c .values) o)
+        go (fail r) q = rw (offset-none s at f k v e d y few r q, q)
+
+    offset-rest : (f k v : ℕ) → f < 4 → (eqb f 0 || eqb f 2) ≡ false → onSome (modeOffset s at f k v) rest
+        ≡ said (result h mask n start) (require (finite v) 8 >>= λ _. cond (eqb f 3) (levelBlock (at + 1 + typeSize k) (h .kind) v many) (steppedBlock s (at + 1 + typeSize k) (h .kind) (h .error) maximum v many))
+    offset-rest f k v l o = go (finite v) refl (eqb f 3) refl
+      where
+        go : (t : Bool) → finite v ≡ t → (u : Bool) → eqb f 3 ≡ u → onSome (modeOffset s at f k v) rest
+            ≡ said (result h mask n start) (require (finite v) 8 >>= λ _. cond (eqb f 3) (levelBlock (at + 1 + typeSize k) (h .kind) v many) (steppedBlock s (at + 1 + typeSize k) (h .kind) (h .error) maximum v many))
+        go false e u d = rw (e)
+        go true e true d =
+            let f3 = eqb-true f 3 d in
+            let m : Mode = record { at = at + 1 + typeSize k; flag = f; offset = v; quant = 0; next = at + 1 + typeSize k } in
+            rw (offset-level s at f k v e d, e, d) (level-is s m maximum (countsOf s m) f3)
+        go true e false d =
+            let a = neither f o in
+            let b : f ≡ 3 → ⊥ = eqb-false f 3 d in
+            let f1 : f ≡ 1 = one f l (a .0) (a .1) b in
+            rw (e, d) (rw (e, d) at (steps-rest f k v f1 e d))
+
+    pub block-is : block s h (tileOf (shapeOf h) n) mask maximum at start ≡ said (result h mask n start) (blockSays s at (h .kind) (h .error) maximum (tileOf (shapeOf h) n .x) many)
+    unfolding block blockSays formed offsetBlock
+    block-is = within (decLt at (length s))
+      where
+        t : Tile
+        t = tileOf (shapeOf h) n
+
+        flag : ℕ
+        flag = getD s at 0
+
+        freeMode : Mode
+        freeMode = record { at = at + 1; flag = flag % 4; offset = 0; quant = 0; next = at + 1 }
+
+        numbers : at < length s → eqb (flag / 4 % 16) (t .x / 8 % 16) ≡ true → (eqb (flag % 4) 0 || eqb (flag % 4) 2) ≡ false → (k : ℕ) → offsetKind (h .kind) (flag / 64) ≡ ok k → (v : Res ℕ) → sampleAt k s (at + 1) ≡ v
+            → block s h t mask maximum at start ≡ said (result h mask n start) (offsetBlock s (at + 1) (h .kind) (h .error) maximum flag many)
+        numbers l c o k e (ok v) d = rw (mode-offset s at h t l c o k e v d, e, d) (offset-rest (flag % 4) k v (omega arith) o)
+        numbers l c o k e (fail r) d = rw (mode-number s at h t l c o k e r d, e, d)
+
+        kinds : at < length s → eqb (flag / 4 % 16) (t .x / 8 % 16) ≡ true → (eqb (flag % 4) 0 || eqb (flag % 4) 2) ≡ false → (k : Res ℕ) → offsetKind (h .kind) (flag / 64) ≡ k
+            → block s h t mask maximum at start ≡ said (result h mask n start) (offsetBlock s (at + 1) (h .kind) (h .error) maximum flag many)
+        kinds l c o (ok k) e = numbers l c o k e (sampleAt k s (at + 1)) refl
+        kinds l c o (fail r) e = rw (mode-kind s at h t l c o r e, e)
+
+        free : at < length s → eqb (flag / 4 % 16) (t .x / 8 % 16) ≡ true → (u : Bool) → eqb (flag % 4) 0 ≡ u → (w : Bool) → eqb (flag % 4) 2 ≡ w
+            → block s h t mask maximum at start ≡ said (result h mask n start) (formed s (at + 1) (h .kind) (h .error) maximum flag many)
+        free l c true e w d = rw (mode-free s at h t l c (rw (e)), e) (raw-is s freeMode maximum (countsOf s freeMode) (eqb-true _ _ e) (omega arith))
+        free l c false e true d = rw (mode-free s at h t l c (rw (e, d)), e, d) (zero-is s freeMode maximum (countsOf s freeMode) (eqb-true _ _ d))
+        free l c false e false d = rw (e, d) (kinds l c (rw (e, d)) (offsetKind (h .kind) (flag / 64)) refl)
+
+        checked : at < length s → (c : Bool) → eqb (flag / 4 % 16) (t .x / 8 % 16) ≡ c → block s h t mask maximum at start ≡ said (result h mask n start) (blockSays s at (h .kind) (h .error) maximum (t .x) many)
+        checked l false c = rw (mode-check s at h t l c, byte-ok s at l, c)
+        checked l true c = rw (byte-ok s at l, c) (free l c (eqb (flag % 4) 0) refl (eqb (flag % 4) 2) refl)
+
+        within : Dec (at < length s) → block s h t mask maximum at start ≡ said (result h mask n start) (blockSays s at (h .kind) (h .error) maximum (t .x) many)
+        within (yes l) = checked l (eqb (flag / 4 % 16) (t .x / 8 % 16)) refl
+        within (no l) = rw (mode-past s at h t (omega arith), wordAt-no 1 s at (omega arith))

@@ -1,0 +1,273 @@
+-- lerc_image.rs, clause by clause, from the promises of `lerc_image::decode_tiles` and of the functions of `lerc` that read a
+-- constant and a raw body.
+-- Assumes nothing.
+use mathlib.Core.Path.{_≡_, refl, sym, ap, _∙_}
+use mathlib.Core.Bool.{Bool, true, false, cond, _&&_}
+use mathlib.Core.List.{List, []}
+use mathlib.Core.Option.{Option, some}
+use Prim.Native.Nat.{ℕ, zero, suc, _+_, _*_, _≤_, _<_, min}
+use native.Mathlib.Omega.{arith}
+use native.Mathlib.Nat.{mul-comm}
+use borrow.Author.Tests.{leb-true, lt-leb}
+use lib.Dec.{leb}
+use lib.ListN.{length, getD, take, drop, replicate}
+use Rattle.lerc_words.specs.declared.Refusal.{Refusal}
+use Rattle.lerc_words.specs.Res.{Res, ok, fail, _>>=_, refuse, require, accepts}
+use Rattle.lerc_words.specs.Lists.{over}
+use Rattle.lerc_words.proofs.Laws.{Bytes, ok-is, and-is, bind-is, require-is}
+use Rattle.lerc_numeric.specs.Kinds.{typeSize}
+use Rattle.lerc_header.specs.declared.Header.{Header}
+use Rattle.lerc_header.specs.declared.Extent.{Extent}
+use Rattle.lerc_header.specs.Header.{shapeOf, held, extentOf, headerSays}
+use Rattle.lerc_header.specs.Shape.{cells, blockCount}
+use Rattle.lerc_header.proofs.Kept.{held-is, held-shaped}
+use Rattle.lerc_mask.proofs.Steps.{bytes-part}
+use Rattle.lerc_planes.specs.declared.Ranges.{Ranges}
+use Rattle.lerc_planes.specs.Ranges.{constantWords}
+use Rattle.lerc_planes.proofs.RangesLaws.{length-constants}
+use Rattle.lerc_block.specs.Block.{Block, rawWords}
+use Rattle.lerc_block.proofs.Accepted.{block-ends}
+use Rattle.lerc_image.specs.declared.WalkAnswer.{WalkAnswer}
+use Rattle.lerc_image.specs.Geometry.{tileOf, tileValid, isValidCell}
+use Rattle.lerc_image.specs.Paint.{painted, wordOf}
+use Rattle.lerc_image.specs.Blocks.{blockAt, Chain, chain, allBlocks}
+use Rattle.lerc_image.specs.Walk.{Walk, walkSaid, walkCount}
+use Rattle.lerc_image.specs.Tiles.{tilesSays, tilesImage, Tiled}
+use Rattle.lerc_image.proofs.Painting.{length-painted, painted-cell}
+use Rattle.lerc_image.proofs.Upto.{valid-below}
+use Rattle.lerc_image.proofs.Chain.{chain-none, chain-parts}
+use Rattle.lerc.specs.declared.ReadAnswer.{ReadAnswer}
+use Rattle.lerc.specs.Meaning.{Body, rawBody, constantBody, endOf, startsOf, cellWord}
+use Rattle.lerc.specs.Read.{Lent, room, masked, readSays, Whole, readSaid, WholeRead}
+use Rattle.lerc.specs.Parts.{Ready, bodyCount, bodyImage, LinearRead}
+use Rattle.lerc_contracts.specs.Outside.{said, is-some}
+use Rattle.lerc_contracts.specs.Block.{ResultModel}
+use Rattle.lerc_contracts.specs.Image.{tiles, linear}
+use Rattle.lerc_contracts.proofs.Refusals.{blob-short}
+use Rattle.lerc_contracts.proofs.Image.{tiles-is}
+use Rattle.lerc_contracts.proofs.Linear.{bodied, constant-is, raw-is}
+
+-- a painted cell past the image
+past : (h : Header) (mask image : List ℕ) (word : ℕ → ℕ) (j : ℕ) → h .columns * h .rows * h .depth ≤ j → j < length image → getD (painted image (isValidCell (shapeOf h) mask) word) j 0 ≡ getD image j 0
+past h mask image word j l o = painted-cell image word (isValidCell (shapeOf h) mask) j o ∙ go (isValidCell (shapeOf h) mask j) refl
+  where
+    go : (t : Bool) → isValidCell (shapeOf h) mask j ≡ t → cond t (word j) (getD image j 0) ≡ getD image j 0
+    go true e =
+        let k : cells (shapeOf h) ≤ j = rw (← mul-comm (h .columns) (h .rows)) l in
+        absurd (omega (arith, valid-below (shapeOf h) mask j e))
+    go false e = refl
+
+result-is : {a c : ℕ} {x y : List ℕ} → a ≡ c → x ≡ y → _≡_ {A = Option ResultModel} (some (record { at = a; image = x })) (some (record { at = c; image = y }))
+result-is p q = rw (p, q)
+
+-- ---- `decode_tiles`
+
+ends : (s : List ℕ) (h : Header) (maxima m : List ℕ) (n at : ℕ) {b : Block} → blockAt s h maxima m n at ≡ ok b → (at < b .next) × (b .next ≤ length s)
+unfolding blockAt
+ends s h maxima m n at d =
+    let t = tileOf (shapeOf h) n in
+    block-ends s at (h .kind) (h .error) (getD maxima (t .d) 0) (t .x) (tileValid (shapeOf h) m t) d
+
+-- 5.31
+pub chain-inside : (s : List ℕ) (h : Header) (maxima m : List ℕ) (f n at : ℕ) (c : Chain) → at ≤ length s → chain s h maxima m f n at ≡ ok c → (at ≤ c .end) × (c .end ≤ length s)
+chain-inside s h maxima m zero n at c l e =
+    let w : _≡_ {A = Res Chain} (ok (record { starts = []; words = []; end = at })) (ok c) = sym (chain-none s h maxima m n at) ∙ e in
+    let z : at ≡ c .end = ap (λ (x : Chain). x .end) (ok-is w) in
+    (omega arith, omega arith)
+chain-inside s h maxima m (suc f) n at c l e =
+    let p = chain-parts s h maxima m f n at c e in
+    let b = ends s h maxima m n at (p .first-is) in
+    let r = chain-inside s h maxima m f (suc n) (p .block .next) (p .others) (b .1) (p .others-are) in
+    let z : c .end ≡ p .others .end = ap (λ (x : Chain). x .end) (p .whole) in
+    (omega (arith, b .0, r .0), omega (arith, r .1))
+
+module _ (b : List ℕ) (h : Header) (mask maxima : List ℕ) (at : ℕ) (r : WalkAnswer) (list list′ old new : List ℕ) (promise : Tiled (tilesSays b h mask maxima at (length list) (length old)) h mask r list list′ old new) where
+  -- 5.23
+  pub tiles-held : (q : Refusal) → held h (length b) ≡ fail q → walkSaid r ≡ fail q
+  unfolding tilesSays
+  tiles-held q e = promise .says ∙ rw (e)
+
+  -- 5.25, 5.26
+  pub tiles-room : (e : Extent) → held h (length b) ≡ ok e → (leb (e .mask) (length mask) && leb (e .blocks) (length list) && leb (e .cells) (length old)) ≡ false → walkSaid r ≡ fail (refuse 5)
+  unfolding tilesSays
+  tiles-room e k t = promise .says ∙ rw (k, t)
+
+  left : (m : Res Chain) → tilesSays b h mask maxima at (length list) (length old) ≡ m → (length new ≡ length old) × ((j : ℕ) → h .columns * h .rows * h .depth ≤ j → j < length old → getD new j 0 ≡ getD old j 0)
+  left (fail q) e = let p : new ≡ old = promise .image ∙ rw (e) in rw (p) (refl, λ j _ _. refl)
+  left (ok c) e =
+      let p : new ≡ tilesImage h mask old c = promise .image ∙ rw (e) in
+      rw (p) (length-painted old _ _, λ j l o. past h mask old (wordOf (shapeOf h) mask (λ n. getD (c .words) n [])) j l o)
+
+  -- 5.27
+  pub tiles-length : length new ≡ length old
+  tiles-length = left (tilesSays b h mask maxima at (length list) (length old)) refl .0
+
+  -- 5.32
+  pub tiles-rest : (j : ℕ) → h .columns * h .rows * h .depth ≤ j → j < length old → getD new j 0 ≡ getD old j 0
+  tiles-rest = left (tilesSays b h mask maxima at (length list) (length old)) refl .1
+
+  module _ (e : Extent) (k : held h (length b) ≡ ok e) (wide : (leb (e .mask) (length mask) && leb (e .blocks) (length list) && leb (e .cells) (length old)) ≡ true) (y : Bytes b) where
+    -- upstream's walk over the blob cut at its size
+    abbrev their-tiles : Option ResultModel
+    their-tiles = tiles (take (h .size) b) h mask maxima (record { x = 0; y = 0; d = 0 }) at old (h .columns * h .rows * h .depth)
+
+    judged : tilesSays b h mask maxima at (length list) (length old) ≡ allBlocks (take (h .size) b) h maxima mask at
+    unfolding tilesSays
+    judged = rw (k, wide)
+
+    abbrev image-of : Chain → ResultModel
+    image-of c = record { at = c .end; image = tilesImage h mask old c }
+
+    same-tiles : their-tiles ≡ said image-of (tilesSays b h mask maxima at (length list) (length old))
+    same-tiles =
+        let i : e ≡ extentOf h = held-is h (length b) k in
+        let room : cells (shapeOf h) ≤ length old = rw (i) at (leb-true (e .cells) (length old) (and-is (leb (e .mask) (length mask) && leb (e .blocks) (length list)) (leb (e .cells) (length old)) wide .1)) in
+        rw (judged) (tiles-is (take (h .size) b) (bytes-part b 0 (h .size) y) (blob-short b h k) h (held-shaped h (length b) k) mask maxima at old room)
+
+    -- 5.28
+    pub tiles-ok : accepts (walkSaid r) ≡ is-some their-tiles
+    tiles-ok = rw (promise .says, same-tiles) (go (tilesSays b h mask maxima at (length list) (length old)))
+      where
+        go : (m : Res Chain) → accepts (m >>= walkCount h) ≡ is-some (said image-of m)
+        go (ok c) = refl
+        go (fail q) = refl
+
+    module _ (w : Walk) (a : walkSaid r ≡ ok w) where
+      -- what was walked
+      walked : (m : Res Chain) → tilesSays b h mask maxima at (length list) (length old) ≡ m → (c : Chain) × (tilesSays b h mask maxima at (length list) (length old) ≡ ok c) × (w .end ≡ c .end) × (new ≡ tilesImage h mask old c)
+      walked (ok c) d =
+          let z : ok w ≡ ok (record { blocks = blockCount (shapeOf h); end = c .end }) = sym a ∙ promise .says ∙ rw (d) in
+          (c, d, ap (λ (x : Walk). x .end) (ok-is z), promise .image ∙ rw (d))
+      walked (fail q) d = absurd (let z : _≡_ {A = Res Walk} (ok w) (fail q) = sym a ∙ promise .says ∙ rw (d) in let o : _≡_ {A = ℕ} 0 1 = cc in omega arith)
+
+      -- 5.29, 5.30
+      pub tiles-result : their-tiles ≡ some (record { at = w .end; image = new })
+      tiles-result =
+          let (c, d, p, q) = walked (tilesSays b h mask maxima at (length list) (length old)) refl in
+          same-tiles ∙ ap (said image-of) d ∙ sym (result-is p q)
+
+      -- 5.31
+      pub tiles-inside : at ≤ length (take (h .size) b) → (at ≤ w .end) × (w .end ≤ length (take (h .size) b))
+      tiles-inside l =
+          let (c, d, p, q) = walked (tilesSays b h mask maxima at (length list) (length old)) refl in
+          rw (p) (chain-inside (take (h .size) b) h maxima mask (blockCount (shapeOf h)) 0 at c l (sym judged ∙ d))
+
+-- ---- `decode_linear`
+
+-- either body
+module _ (m : Res Body) (h : Header) (mask : List ℕ) (a : ReadAnswer) (old new : List ℕ) (promise : LinearRead m h mask a old new) where
+  kept : (x : Res Body) → m ≡ x → (length new ≡ length old) × ((j : ℕ) → h .columns * h .rows * h .depth ≤ j → j < length old → getD new j 0 ≡ getD old j 0)
+  kept (fail q) e = let p : new ≡ old = promise .image ∙ rw (e) in rw (p) (refl, λ j _ _. refl)
+  kept (ok c) e =
+      let p : new ≡ bodyImage h mask old c = promise .image ∙ rw (e) in
+      rw (p) (length-painted old _ _, λ j l o. past h mask old (cellWord h mask c) j l o)
+
+  -- 5.45
+  pub linear-length : length new ≡ length old
+  linear-length = kept m refl .0
+
+  -- 5.50
+  pub linear-rest : (j : ℕ) → h .columns * h .rows * h .depth ≤ j → j < length old → getD new j 0 ≡ getD old j 0
+  linear-rest = kept m refl .1
+
+  -- the body that was read
+  read-body : (w : Whole) → readSaid a ≡ ok w → (x : Res Body) → m ≡ x → (c : Body) × (m ≡ ok c) × (w .end ≡ endOf c) × (new ≡ bodyImage h mask old c)
+  read-body w e (ok c) d =
+      let z : ok w ≡ ok (record { blocks = length (startsOf c); end = endOf c }) = sym e ∙ promise .says ∙ rw (d) in
+      (c, d, ap (λ (x : Whole). x .end) (ok-is z), promise .image ∙ rw (d))
+  read-body w e (fail q) d = absurd (let z : _≡_ {A = Res Whole} (ok w) (fail q) = sym e ∙ promise .says ∙ rw (d) in let o : _≡_ {A = ℕ} 0 1 = cc in omega arith)
+
+  module _ (t : Option ResultModel) (same : t ≡ said (bodied h mask old) m) where
+    linear-ok : accepts (readSaid a) ≡ is-some t
+    linear-ok = rw (promise .says, same) (go m)
+      where
+        go : (x : Res Body) → accepts (x >>= bodyCount) ≡ is-some (said (bodied h mask old) x)
+        go (ok c) = refl
+        go (fail q) = refl
+
+    linear-result : (w : Whole) → readSaid a ≡ ok w → t ≡ some (record { at = w .end; image = new })
+    linear-result w e =
+        let (c, d, p, q) = read-body w e m refl in
+        same ∙ ap (said (bodied h mask old)) d ∙ sym (result-is p q)
+
+raw-inside : (s : List ℕ) (h : Header) (at : ℕ) (c : Body) → rawBody s h at ≡ ok c → (at ≤ endOf c) × (endOf c ≤ length s)
+unfolding rawBody rawWords
+raw-inside s h at c e =
+    let (w, p, e) = bind-is (rawWords s at (h .kind) (h .valid * h .depth)) _ e in
+    let (_, t, p) = bind-is (require (leb (at + h .valid * h .depth * typeSize (h .kind)) (length s)) 1) _ p in
+    let l : at + h .valid * h .depth * typeSize (h .kind) ≤ length s = leb-true _ _ (require-is _ 1 t) in
+    let z : at + h .valid * h .depth * typeSize (h .kind) ≡ endOf c = ap (λ (x : Block). x .next) (ok-is p) ∙ ap endOf (ok-is e) in
+    (omega arith, omega arith)
+
+-- a raw body: upstream's `raw` is true, and its constants are not looked at
+module _ (b : List ℕ) (h : Header) (at : ℕ) (mask constants : List ℕ) (a : ReadAnswer) (old new : List ℕ) (ready : Ready b h mask old)
+    (promise : LinearRead (rawBody (take (h .size) b) h at) h mask a old new) (inside : at ≤ length (take (h .size) b)) where
+  abbrev their-raw : Option ResultModel
+  their-raw = linear (take (h .size) b) h mask constants true 0 at old (h .columns * h .rows * h .depth)
+
+  same-raw : their-raw ≡ said (bodied h mask old) (rawBody (take (h .size) b) h at)
+  same-raw = raw-is (take (h .size) b) h (held-shaped h (length b) (ready .header)) mask old (ready .room) constants at inside (ready .counts)
+
+  -- 5.46
+  pub raw-ok : accepts (readSaid a) ≡ is-some their-raw
+  raw-ok = linear-ok (rawBody (take (h .size) b) h at) h mask a old new promise their-raw same-raw
+
+  module _ (w : Whole) (e : readSaid a ≡ ok w) where
+    -- 5.47, 5.48
+    pub raw-result : their-raw ≡ some (record { at = w .end; image = new })
+    raw-result = linear-result (rawBody (take (h .size) b) h at) h mask a old new promise their-raw same-raw w e
+
+    -- 5.49
+    pub raw-end : (at ≤ w .end) × (w .end ≤ length (take (h .size) b))
+    raw-end =
+        let (c, d, p, q) = read-body (rawBody (take (h .size) b) h at) h mask a old new promise w e (rawBody (take (h .size) b) h at) refl in
+        rw (p) (raw-inside (take (h .size) b) h at c d)
+
+-- a constant body: upstream has its words from `convert` (3.34, 3.35), and always accepts
+module _ (b : List ℕ) (h : Header) (ranges : Ranges) (mask words : List ℕ) (a : ReadAnswer) (old new : List ℕ) (ready : Ready b h mask old) (long : length (ranges .min) ≡ 64)
+    (promise : LinearRead (constantBody h ranges) h mask a old new) (converted : constantWords (h .depth) (h .kind) (ranges .min) ≡ ok words) where
+  abbrev their-constant : Option ResultModel
+  their-constant = linear (take (h .size) b) h mask (over words (replicate 64 0)) false 0 (ranges .at) old (h .columns * h .rows * h .depth)
+
+  same-constant : their-constant ≡ said (bodied h mask old) (constantBody h ranges)
+  unfolding constantBody
+  same-constant =
+      let g = held-shaped h (length b) (ready .header) in
+      let n : length words ≡ h .depth = length-constants (h .depth) (h .kind) (ranges .min) converted ∙ (let z : min (h .depth) (length (ranges .min)) ≡ h .depth = omega (arith, g .depth .1) in z) in
+      rw (converted) (constant-is (take (h .size) b) h g mask old (ready .room) words (drop (length words) (replicate 64 0)) (ranges .at) n)
+
+  -- 5.46
+  pub constant-ok : accepts (readSaid a) ≡ is-some their-constant
+  constant-ok = linear-ok (constantBody h ranges) h mask a old new promise their-constant same-constant
+
+  module _ (w : Whole) (e : readSaid a ≡ ok w) where
+    -- 5.47, 5.48
+    pub constant-result : their-constant ≡ some (record { at = w .end; image = new })
+    constant-result = linear-result (constantBody h ranges) h mask a old new promise their-constant same-constant w e
+
+    -- 5.49
+    pub constant-end : w .end ≡ ranges .at
+    unfolding constantBody
+    constant-end =
+        let (c, d, p, q) = read-body (constantBody h ranges) h mask a old new promise w e (constantBody h ranges) refl in
+        let (_, _, d) = bind-is (constantWords (h .depth) (h .kind) (ranges .min)) _ d in
+        p ∙ sym (ap endOf (ok-is d))
+
+-- ---- what `decode_linear` asks: a raw body that starts past the end, and the whole read
+
+-- 5.42
+pub raw-start : (s : List ℕ) (h : Header) (at : ℕ) → length s < at → rawBody s h at ≡ fail (refuse 1)
+unfolding rawBody rawWords
+raw-start s h at l = let k : length s < at + h .valid * h .depth * typeSize (h .kind) = omega arith in rw (lt-leb (at + h .valid * h .depth * typeSize (h .kind)) (length s) k)
+
+-- from what a whole read promises
+module _ (b : List ℕ) (reuse : Bool) (r : ReadAnswer) (old new : Lent) (promise : WholeRead b reuse r old new) where
+  -- 5.41
+  pub whole-header : (q : Refusal) → headerSays b ≡ fail q → readSaid r ≡ fail q
+  unfolding readSays masked
+  whole-header q e = promise .says ∙ rw (e)
+
+  -- 5.43, 5.44
+  pub whole-room : (h : Header) → headerSays b ≡ ok h → room h old ≡ false → readSaid r ≡ fail (refuse 5)
+  unfolding readSays masked
+  whole-room h e t = promise .says ∙ rw (e, t)

@@ -1,0 +1,13 @@
+pub mod Answers
+pub mod Lists
+pub mod Refusals
+pub mod Bits
+pub mod Planes
+pub mod Walking
+pub mod Block
+pub mod Image
+pub mod Linear
+pub mod BlockClauses
+pub mod ImageClauses
+pub mod Numeric
+pub mod Native

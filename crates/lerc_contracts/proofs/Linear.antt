@@ -1,0 +1,276 @@
+-- lerc_image.rs, second half: `linear`. "A CONSTANT BODY" and "A RAW BODY" say that upstream's cell by cell is our body, painted.
+-- Assumes nothing.
+use mathlib.Core.Path.{_≡_, refl, sym, ap, _∙_}
+use mathlib.Core.Bool.{Bool, true, false, and-false}
+use mathlib.Core.List.{List, _++_}
+use mathlib.Core.Logic.{_≢_}
+use mathlib.Core.Option.{Option, none, some}
+use Prim.Native.Nat.{ℕ, zero, suc, _+_, _*_, _/_, _%_, _≤_, _<_}
+use native.Mathlib.Omega.{arith}
+use native.Mathlib.Nat.{mul-comm, suc-mul, zero-mul, add-zero, mul-le-mul-right, div-add-mod', mod-lt}
+use native.Mathlib.Numerals.{add-one}
+use native.Mathlib.Decide.{decLt, decLe}
+use borrow.Author.Tests.{lt-ltb, le-ltb, le-leb, lt-leb, eq-eqb, ne-eqb, eqb-true, eqb-false}
+use lib.Arith.{digits-div}
+use lib.Dec.{ltb, eqb}
+use lib.ListN.{length, getD, set}
+use Rattle.lerc_words.specs.Res.{little}
+use Rattle.lerc_words.specs.Lists.{count, tabulate}
+use Rattle.lerc_words.proofs.Counts.{count-zero, count-more, count-mono, count-plus, count-rows, count-all}
+use Rattle.lerc_numeric.specs.Kinds.{typeSize}
+use Rattle.lerc_header.specs.declared.Header.{Header}
+use Rattle.lerc_header.specs.Header.{shapeOf}
+use Rattle.lerc_header.specs.Shape.{Shaped, pixels, cells}
+use Rattle.lerc_mask.specs.Mask.{pixelValid, validBelow}
+use Rattle.lerc_block.specs.Block.{rawWords}
+use Rattle.lerc_image.specs.Geometry.{isValidCell}
+use Rattle.lerc_image.specs.Paint.{painted}
+use Rattle.lerc_image.proofs.Painting.{painted-same, painted-set, painted-words}
+use Rattle.lerc.specs.Meaning.{Body, rawBody, endOf, cellWord}
+use Rattle.lerc.specs.Meaning as body
+use Rattle.lerc.specs.Linear.{validUpto, depthWord, rawWord}
+use Rattle.lerc.proofs.Pixels.{upto-none, upto-all}
+use Rattle.lerc.proofs.Bodies.{valid-at, image-constant, image-raw}
+use Rattle.lerc_contracts.specs.Outside.{said}
+use Rattle.lerc_contracts.specs.Block.{ResultModel}
+use Rattle.lerc_contracts.specs.Image.{Word, linearValue, linear}
+
+-- ---- `linear_value`, and one step of `linear`
+
+module _ (s : List ℕ) (h : Header) (at k : ℕ) (constants : List ℕ) where
+  -- 5.33
+  pub value-constant : linearValue s h at k false constants ≡ some (record { at = at; value = getD constants (k % h .depth) 0 })
+  unfolding linearValue
+  value-constant = refl
+
+  -- 5.34
+  pub value-past : length s < at + typeSize (h .kind) → linearValue s h at k true constants ≡ none
+  unfolding linearValue
+  value-past l = rw (lt-leb (at + typeSize (h .kind)) (length s) l)
+
+  -- 5.35
+  pub value-raw : at + typeSize (h .kind) ≤ length s → linearValue s h at k true constants ≡ some (record { at = at + typeSize (h .kind); value = little (typeSize (h .kind)) s at })
+  unfolding linearValue
+  value-raw l = rw (le-leb (at + typeSize (h .kind)) (length s) l)
+
+-- upstream's count of cells
+cells-are : (h : Header) → h .columns * h .rows * h .depth ≡ cells (shapeOf h)
+cells-are h = rw (mul-comm (h .columns) (h .rows))
+
+module _ (s : List ℕ) (h : Header) (mask constants : List ℕ) (raw : Bool) where
+  -- 5.36
+  pub linear-done : (k at : ℕ) (out : List ℕ) (fuel : ℕ) → k ≡ cells (shapeOf h) → linear s h mask constants raw k at out fuel ≡ some (record { at = at; image = out })
+  unfolding linear
+  linear-done k at out zero e = rw (eq-eqb k (h .columns * h .rows * h .depth) (e ∙ sym (cells-are h)))
+  linear-done k at out (suc fuel) e = rw (eq-eqb k (h .columns * h .rows * h .depth) (e ∙ sym (cells-are h)))
+
+  module _ (k at : ℕ) (out : List ℕ) (d : k ≡ cells (shapeOf h) → ⊥) where
+    apart : k ≡ h .columns * h .rows * h .depth → ⊥
+    apart e = d (e ∙ cells-are h)
+
+    -- 5.37
+    pub linear-out : linear s h mask constants raw k at out zero ≡ none
+    unfolding linear
+    linear-out = rw (ne-eqb k (h .columns * h .rows * h .depth) apart)
+
+    -- 5.38
+    pub linear-skip : (fuel : ℕ) → pixelValid mask (k / h .depth) ≡ false → linear s h mask constants raw k at out (suc fuel) ≡ linear s h mask constants raw (k + 1) at out fuel
+    unfolding linear
+    linear-skip fuel v = rw (ne-eqb k (h .columns * h .rows * h .depth) apart, v)
+
+    -- 5.39
+    pub linear-stop : (fuel : ℕ) → pixelValid mask (k / h .depth) ≡ true → linearValue s h at k raw constants ≡ none → linear s h mask constants raw k at out (suc fuel) ≡ none
+    unfolding linear
+    linear-stop fuel v e = rw (ne-eqb k (h .columns * h .rows * h .depth) apart, v, e)
+
+    -- 5.40
+    pub linear-step : (fuel : ℕ) (w : Word) → pixelValid mask (k / h .depth) ≡ true → linearValue s h at k raw constants ≡ some w
+        → linear s h mask constants raw k at out (suc fuel) ≡ linear s h mask constants raw (k + 1) (w .at) (set out k (w .value)) fuel
+    unfolding linear
+    linear-step fuel w v e = rw (ne-eqb k (h .columns * h .rows * h .depth) apart, v, e)
+
+-- ---- all cells
+
+near : (c k : ℕ) → c ≢ k → ltb c (k + 1) ≡ ltb c k
+near c k d = go (decLt c k)
+  where
+    go : Dec (c < k) → ltb c (k + 1) ≡ ltb c k
+    go (yes p) = rw (lt-ltb c k p, lt-ltb c (k + 1) (omega arith))
+    go (no p) = rw (le-ltb c k (omega arith), le-ltb c (k + 1) (omega arith))
+
+module _ (h : Header) (mask image : List ℕ) (word : ℕ → ℕ) (room : cells (shapeOf h) ≤ length image) where
+  -- the image once the first k cells are done
+  abbrev upTo : ℕ → List ℕ
+  upTo k = painted image (validUpto (shapeOf h) mask k) word
+
+  module _ (k : ℕ) (l : k < cells (shapeOf h)) where
+    paint-valid : pixelValid mask (k / h .depth) ≡ true → set (upTo k) k (word k) ≡ upTo (k + 1)
+    unfolding validUpto isValidCell
+    paint-valid v = painted-set image word (validUpto (shapeOf h) mask k) (validUpto (shapeOf h) mask (k + 1)) k (omega arith)
+        (rw (lt-ltb k (cells (shapeOf h)) l, v, lt-ltb k (k + 1) (omega arith)))
+        (λ c d. rw (near c k d))
+
+    paint-skip : pixelValid mask (k / h .depth) ≡ false → upTo k ≡ upTo (k + 1)
+    unfolding validUpto isValidCell
+    paint-skip v = painted-same image word (validUpto (shapeOf h) mask k) (validUpto (shapeOf h) mask (k + 1)) (λ c _. go c (eqb c k) refl)
+      where
+        go : (c : ℕ) (t : Bool) → eqb c k ≡ t → validUpto (shapeOf h) mask k c ≡ validUpto (shapeOf h) mask (k + 1) c
+        go c true e = rw (eqb-true c k e, v, and-false (ltb k (cells (shapeOf h))))
+        go c false e = rw (near c k (eqb-false c k e))
+
+  -- how many valid cells are before k
+  abbrev before : ℕ → ℕ
+  before k = count k (λ c. pixelValid mask (c / h .depth))
+
+  module _ (s constants : List ℕ) (raw : Bool) (pos : ℕ → ℕ) where
+    abbrev run : ℕ → List ℕ → ℕ → Option ResultModel
+    run k out fuel = linear s h mask constants raw k (pos (before k)) out fuel
+
+    -- all words are there
+    module _ (go : (k : ℕ) → k < cells (shapeOf h) → pixelValid mask (k / h .depth) ≡ true → linearValue s h (pos (before k)) k raw constants ≡ some (record { at = pos (before k + 1); value = word k })) where
+      ends : (fuel k : ℕ) → k ≡ cells (shapeOf h) → run k (upTo k) fuel ≡ some (record { at = pos (before (cells (shapeOf h))); image = upTo (cells (shapeOf h)) })
+      ends fuel k e = linear-done s h mask constants raw k _ _ fuel e ∙ rw (e)
+
+      pub linear-all : (fuel k : ℕ) → k ≤ cells (shapeOf h) → cells (shapeOf h) ≤ k + fuel → run k (upTo k) fuel ≡ some (record { at = pos (before (cells (shapeOf h))); image = upTo (cells (shapeOf h)) })
+      linear-all zero k l f = ends zero k (omega arith)
+      linear-all (suc fuel) k l f = more (decLt k (cells (shapeOf h))) (linear-all fuel (k + 1))
+        where
+          more : Dec (k < cells (shapeOf h)) → (k + 1 ≤ cells (shapeOf h) → cells (shapeOf h) ≤ k + 1 + fuel → run (k + 1) (upTo (k + 1)) fuel ≡ some (record { at = pos (before (cells (shapeOf h))); image = upTo (cells (shapeOf h)) }))
+              → run k (upTo k) (suc fuel) ≡ some (record { at = pos (before (cells (shapeOf h))); image = upTo (cells (shapeOf h)) })
+          more (no o) rest = ends (suc fuel) k (omega arith)
+          more (yes o) rest = look (pixelValid mask (k / h .depth)) refl
+            where
+              d : k ≡ cells (shapeOf h) → ⊥
+              d e = omega arith
+
+              look : (b : Bool) → pixelValid mask (k / h .depth) ≡ b → run k (upTo k) (suc fuel) ≡ some (record { at = pos (before (cells (shapeOf h))); image = upTo (cells (shapeOf h)) })
+              look true v =
+                  let e : before (k + 1) ≡ before k + 1 = count-more k _ ∙ rw (v) in
+                  linear-step s h mask constants raw k _ _ d fuel _ v (go k o v) ∙ rw (paint-valid k o v, ← e) (rest (omega arith) (omega arith))
+              look false v =
+                  let e : before (k + 1) ≡ before k = count-more k _ ∙ rw (v) (add-zero (before k)) in
+                  linear-skip s h mask constants raw k _ _ d fuel v ∙ rw (paint-skip k o v, ← e) (rest (omega arith) (omega arith))
+
+-- a word that is missing
+module _ (h : Header) (mask s constants : List ℕ) (at : ℕ) (short : length s < at + count (cells (shapeOf h)) (λ c. pixelValid mask (c / h .depth)) * typeSize (h .kind)) where
+  abbrev used : ℕ → ℕ
+  used k = at + count k (λ c. pixelValid mask (c / h .depth)) * typeSize (h .kind)
+
+  none-ends : {A : Type 0} (k : ℕ) → k ≡ cells (shapeOf h) → used k ≤ length s → A
+  none-ends k e l = absurd (let z : used k ≡ used (cells (shapeOf h)) = ap used e in omega arith)
+
+  pub linear-none : (fuel k : ℕ) (out : List ℕ) → k ≤ cells (shapeOf h) → used k ≤ length s → linear s h mask constants true k (used k) out fuel ≡ none
+  linear-none zero k out l u = last (decLt k (cells (shapeOf h)))
+    where
+      last : Dec (k < cells (shapeOf h)) → linear s h mask constants true k (used k) out zero ≡ none
+      last (yes o) = linear-out s h mask constants true k _ out (λ e. omega arith)
+      last (no o) = none-ends k (omega arith) u
+  linear-none (suc fuel) k out l u = more (decLt k (cells (shapeOf h))) (linear-none fuel (k + 1))
+    where
+      more : Dec (k < cells (shapeOf h)) → ((out : List ℕ) → k + 1 ≤ cells (shapeOf h) → used (k + 1) ≤ length s → linear s h mask constants true (k + 1) (used (k + 1)) out fuel ≡ none) → linear s h mask constants true k (used k) out (suc fuel) ≡ none
+      more (no o) rest = none-ends k (omega arith) u
+      more (yes o) rest = look (pixelValid mask (k / h .depth)) refl
+        where
+          z : ℕ
+          z = typeSize (h .kind)
+
+          n : ℕ → ℕ
+          n k = count k (λ c. pixelValid mask (c / h .depth))
+
+          d : k ≡ cells (shapeOf h) → ⊥
+          d e = omega arith
+
+          fits : pixelValid mask (k / h .depth) ≡ true → used (k + 1) ≡ used k + typeSize (h .kind) → Dec (used k + typeSize (h .kind) ≤ length s) → linear s h mask constants true k (used k) out (suc fuel) ≡ none
+          fits v e (no b) = linear-stop s h mask constants true k _ out d fuel v (value-past s h (used k) k constants (omega arith))
+          fits v e (yes b) = linear-step s h mask constants true k _ out d fuel _ v (value-raw s h (used k) k constants b) ∙ rw (← e) (rest _ (omega arith) (rw (e) b))
+
+          look : (b : Bool) → pixelValid mask (k / h .depth) ≡ b → linear s h mask constants true k (used k) out (suc fuel) ≡ none
+          look true v =
+              let a : n (k + 1) ≡ suc (n k) = count-more k _ ∙ rw (v) (add-one (n k)) in
+              let e : used (k + 1) ≡ used k + typeSize (h .kind) = rw (a) (omega (arith, suc-mul (n k) z)) in
+              fits v e (decLe (used k + typeSize (h .kind)) (length s))
+          look false v =
+              let a : n (k + 1) ≡ n k = count-more k _ ∙ rw (v) (add-zero (n k)) in
+              let e : used (k + 1) ≡ used k = rw (a) in
+              linear-skip s h mask constants true k _ out d fuel v ∙ rw (← e) (rest out (omega arith) (rw (e) u))
+
+-- ---- a body of ours as upstream's result
+
+abbrev pub bodied : Header → List ℕ → List ℕ → Body → ResultModel
+bodied h mask image b = record { at = endOf b; image = painted image (isValidCell (shapeOf h) mask) (cellWord h mask b) }
+
+module _ (s : List ℕ) (h : Header) (g : Shaped (shapeOf h)) (mask image : List ℕ) (room : cells (shapeOf h) ≤ length image) where
+  starts : (constants : List ℕ) (raw : Bool) (pos : ℕ → ℕ) (word : ℕ → ℕ) (at : ℕ) (r : Option ResultModel) → pos 0 ≡ at
+      → linear s h mask constants raw 0 (pos (count 0 (λ c. pixelValid mask (c / h .depth)))) (painted image (validUpto (shapeOf h) mask 0) word) (cells (shapeOf h)) ≡ r
+      → linear s h mask constants raw 0 at image (h .columns * h .rows * h .depth) ≡ r
+  unfolding count
+  starts constants raw pos word at r e d = rw (cells-are h, upto-none (shapeOf h) mask image word, ← e) d
+
+  -- A CONSTANT BODY
+  pub constant-is : (words rest : List ℕ) (at : ℕ) → length words ≡ h .depth → linear s h mask (words ++ rest) false 0 at image (h .columns * h .rows * h .depth) ≡ some (bodied h mask image (body.constant words at))
+  constant-is words rest at e =
+      starts (words ++ rest) false (λ i. at) (depthWord (shapeOf h) (words ++ rest)) at (some (bodied h mask image (body.constant words at))) refl
+      (linear-all h mask image (depthWord (shapeOf h) (words ++ rest)) room s (words ++ rest) false (λ i. at) (λ k l v. value-constant s h at k (words ++ rest)) (cells (shapeOf h)) 0 (omega arith) (omega arith)
+      ∙ ap (λ (o : List ℕ). some (record { at = at; image = o })) (upto-all (shapeOf h) mask image (depthWord (shapeOf h) (words ++ rest)) ∙ image-constant h mask image words rest at (g .depth .0) e))
+
+  -- the valid cells before a valid cell
+  before-is : (c : ℕ) → pixelValid mask (c / h .depth) ≡ true → count c (λ i. pixelValid mask (i / h .depth)) ≡ validBelow (c / h .depth) mask * h .depth + c % h .depth
+  before-is c v =
+      let p = c / h .depth in
+      let b = c % h .depth in
+      let e : c ≡ b + p * h .depth = omega (arith, div-add-mod' c (h .depth)) in
+      let l : b < h .depth = mod-lt c (g .depth .0) in
+      let f : count b (λ i. pixelValid mask ((i + p * h .depth) / h .depth)) ≡ b =
+      count-all b (λ i. pixelValid mask ((i + p * h .depth) / h .depth)) (λ i k. let z : i + p * h .depth ≡ p * h .depth + i = omega arith in let o : i < h .depth = omega arith in rw (z, digits-div p o) v) in
+      ap (λ (x : ℕ). count x (λ i. pixelValid mask (i / h .depth))) e ∙ count-plus (p * h .depth) b (λ i. pixelValid mask (i / h .depth)) ∙ rw (f, count-rows (h .depth) p (pixelValid mask))
+
+  all-are : count (cells (shapeOf h)) (λ i. pixelValid mask (i / h .depth)) ≡ validBelow (pixels (shapeOf h)) mask * h .depth
+  all-are = count-rows (h .depth) (pixels (shapeOf h)) (pixelValid mask)
+
+  -- A RAW BODY
+  pub raw-is : (constants : List ℕ) (at : ℕ) → at ≤ length s → validBelow (pixels (shapeOf h)) mask ≡ h .valid
+      → linear s h mask constants true 0 at image (h .columns * h .rows * h .depth) ≡ said (bodied h mask image) (rawBody s h at)
+  unfolding rawBody rawWords
+  raw-is constants at inside counts = go (decLe (at + h .valid * h .depth * typeSize (h .kind)) (length s))
+    where
+      z : ℕ
+      z = typeSize (h .kind)
+
+      n : ℕ → ℕ
+      n k = count k (λ c. pixelValid mask (c / h .depth))
+
+      total : n (cells (shapeOf h)) ≡ h .valid * h .depth
+      total = all-are ∙ ap (λ (x : ℕ). x * h .depth) counts
+
+      word : ℕ → ℕ
+      word c = little (typeSize (h .kind)) s (at + count c (λ c. pixelValid mask (c / h .depth)) * typeSize (h .kind))
+
+      first : at + 0 * typeSize (h .kind) ≡ at
+      first = rw (zero-mul) (add-zero at)
+
+      words-are : painted image (isValidCell (shapeOf h) mask) word ≡ painted image (isValidCell (shapeOf h) mask) (rawWord s at (typeSize (h .kind)) (shapeOf h) mask)
+      words-are = painted-words image word (rawWord s at (typeSize (h .kind)) (shapeOf h) mask) (isValidCell (shapeOf h) mask) (λ c q. let v = valid-at (shapeOf h) mask c q in rw (before-is c (v .valid)))
+
+      stepped : (k : ℕ) → k < cells (shapeOf h) → pixelValid mask (k / h .depth) ≡ true → at + h .valid * h .depth * typeSize (h .kind) ≤ length s
+          → linearValue s h (at + n k * z) k true constants ≡ some (record { at = at + (n k + 1) * z; value = word k })
+      stepped k o v l =
+          let a : n (k + 1) ≡ suc (n k) = count-more k (λ c. pixelValid mask (c / h .depth)) ∙ rw (v) (add-one (n k)) in
+          let b : n (k + 1) ≤ n (cells (shapeOf h)) = count-mono (k + 1) (cells (shapeOf h)) (λ c. pixelValid mask (c / h .depth)) (omega arith) in
+          let c : suc (n k) * z ≤ h .valid * h .depth * z = mul-le-mul-right z (let x : suc (n k) ≤ h .valid * h .depth = rw (← total, ← a) b in x) in
+          let d : suc (n k) * z ≡ n k * z + z = suc-mul (n k) z in
+          let e : at + n k * z + z ≡ at + (n k + 1) * z = rw (add-one) (omega arith) in
+          value-raw s h (at + n k * z) k constants (omega arith) ∙ rw (e)
+
+      go : Dec (at + h .valid * h .depth * typeSize (h .kind) ≤ length s) → linear s h mask constants true 0 at image (h .columns * h .rows * h .depth) ≡ said (bodied h mask image) (rawBody s h at)
+      go (yes l) =
+          rw (le-leb (at + h .valid * h .depth * z) (length s) l)
+          (starts constants true (λ i. at + i * z) word at (some (bodied h mask image (body.raw (tabulate (h .valid * h .depth) (λ k. little z s (at + k * z))) (at + h .valid * h .depth * z)))) first
+          (linear-all h mask image word room s constants true (λ i. at + i * z) (λ k o v. stepped k o v l) (cells (shapeOf h)) 0 (omega arith) (omega arith)
+          ∙ rw (total) (ap (λ (o : List ℕ). some (record { at = at + h .valid * h .depth * z; image = o }))
+          (upto-all (shapeOf h) mask image word ∙ words-are ∙ image-raw h s mask image at z (at + h .valid * h .depth * z) (g .depth .0) counts))))
+      go (no l) =
+          let k : length s < at + h .valid * h .depth * z = omega arith in
+          let short : length s < at + n (cells (shapeOf h)) * z = rw (total) k in
+          let none-used : at + n 0 * z ≤ length s = rw (count-zero (λ c. pixelValid mask (c / h .depth)), zero-mul) (omega arith) in
+          rw (lt-leb (at + h .valid * h .depth * z) (length s) k)
+          (starts constants true (λ i. at + i * z) word at none first (linear-none h mask s constants at short (cells (shapeOf h)) 0 (painted image (validUpto (shapeOf h) mask 0) word) (omega arith) none-used))

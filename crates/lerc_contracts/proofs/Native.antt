@@ -1,0 +1,140 @@
+-- native_lerc.rs: its `pixels` is our body, but for the sweep byte (1 alone is raw here) and Huffman images (10 here).
+-- Assumes nothing.
+use mathlib.Core.Path.{_≡_, refl, ap, _∙_}
+use mathlib.Core.Bool.{Bool, true, false, not, cond}
+use mathlib.Core.List.{List}
+use mathlib.Core.Option.{Option, none, some}
+use Prim.Native.Nat.{ℕ, _+_, _*_, _≤_, _<_, min}
+use native.Mathlib.Omega.{arith}
+use native.Mathlib.Nat.{mul-comm, add-zero}
+use native.Mathlib.Decide.{decLt}
+use borrow.Author.Tests.{lt-ltb, le-ltb, le-leb, lt-leb, eq-eqb, ne-eqb, eqb-true, eqb-false}
+use lib.Dec.{leb, eqb}
+use lib.ListN.{length, getD, drop, replicate}
+use Rattle.lerc_words.specs.Res.{Res, ok, fail, _>>=_}
+use Rattle.lerc_words.specs.Lists.{tabulate, over}
+use Rattle.lerc_words.proofs.Laws.{Bytes, wordAt-no}
+use Rattle.lerc_header.specs.declared.Header.{Header}
+use Rattle.lerc_header.specs.Header.{shapeOf, headerBytes, rangesAt, pairRight}
+use Rattle.lerc_header.specs.Shape.{Shaped, cells}
+use Rattle.lerc_header.specs.Shape as shape
+use Rattle.lerc_mask.specs.Mask.{validBelow}
+use Rattle.lerc_planes.specs.declared.Ranges.{Ranges}
+use Rattle.lerc_planes.specs.Ranges.{rangesSays, constantWords}
+use Rattle.lerc_planes.proofs.RangesLaws.{ranges-kept, length-constants}
+use Rattle.lerc_image.specs.Sweep.{modeAt, moded, swept}
+use Rattle.lerc_image.specs.Blocks.{Chain, allBlocks}
+use Rattle.lerc.specs.Meaning.{blockBody, bodyFrom, sweptBody, constantBody, bodySays, cellWord}
+use Rattle.lerc.specs.Meaning as body
+use Rattle.lerc_image.specs.Tiles.{tilesImage}
+use Rattle.lerc.proofs.Bodies.{image-empty}
+use Rattle.lerc_contracts.specs.Outside.{said, onSome, lengthMax}
+use Rattle.lerc_contracts.specs.Planes.{constants}
+use Rattle.lerc_contracts.specs.Block.{ResultModel}
+use Rattle.lerc_contracts.specs.Image.{tiles, linear}
+use Rattle.lerc_contracts.specs.Native.{entropy, unswept, ranged, pixels}
+use Rattle.lerc_contracts.proofs.Bits.{byte-ok}
+use Rattle.lerc_contracts.proofs.Planes.{model, ranges-is, constants-is}
+use Rattle.lerc_contracts.proofs.Image.{tiles-is}
+use Rattle.lerc_contracts.proofs.Linear.{bodied, constant-is, raw-is}
+
+-- where the two read alike: the sweep byte is 0 or 1, and no mode byte announces a Huffman image
+pub record Alike (s : List ℕ) (h : Header) (at : ℕ) : Type 0 where
+  pub sweep : getD s at 0 < 2
+  pub mode : entropy h ≡ true → getD s (at + 1) 0 < 3 → getD s (at + 1) 0 ≡ 0
+
+module _ (s : List ℕ) (y : Bytes s) (few : length s ≤ lengthMax) (h : Header) (g : Shaped (shapeOf h)) (mask initial : List ℕ) (size : length initial ≡ h .columns * h .rows * h .depth)
+    (counts : validBelow (shape.pixels (shapeOf h)) mask ≡ h .valid) (huffman : Option ResultModel) where
+  room : cells (shapeOf h) ≤ length initial
+  room = let e : h .columns * h .rows * h .depth ≡ cells (shapeOf h) = rw (mul-comm (h .columns) (h .rows)) in omega (arith, size)
+
+  -- blocks
+  tiled : (max : List ℕ) (at : ℕ) → tiles s h mask max (record { x = 0; y = 0; d = 0 }) at initial (length initial) ≡ said (bodied h mask initial) (blockBody s h max mask at)
+  unfolding blockBody cellWord
+  tiled max at = rw (size) (tiles-is s y few h g mask max at initial room ∙ go (allBlocks s h max mask at))
+    where
+      go : (m : Res Chain) → said (λ c. record { at = c .end; image = tilesImage h mask initial c }) m ≡ said (bodied h mask initial) (m >>= λ c. ok (body.blocks c))
+      go (ok c) = refl
+      go (fail q) = refl
+
+  -- a mode byte, where there is one
+  unswept-is : (r : Ranges) → (entropy h ≡ true → getD s (r .at + 1) 0 < 3 → getD s (r .at + 1) 0 ≡ 0)
+      → unswept s h mask (model r) initial huffman ≡ said (bodied h mask initial) (moded s (h .kind) (h .error) (r .at + 1) >>= bodyFrom s h r mask)
+  unfolding moded modeAt
+  unswept-is r plain = coded (entropy h) refl
+    where
+      at : ℕ
+      at = r .at + 1
+
+      small : entropy h ≡ true → at < length s → Dec (getD s at 0 < 3) → unswept s h mask (model r) initial huffman ≡ said (bodied h mask initial) (moded s (h .kind) (h .error) at >>= bodyFrom s h r mask)
+      small e l (yes k) =
+          let z : getD s at 0 ≡ 0 = plain e k in
+          rw (e, lt-leb (length s) at l, byte-ok s at l, z) (tiled (r .max) (at + 1))
+      small e l (no k) = rw (e, lt-leb (length s) at l, byte-ok s at l, lt-ltb 2 (getD s at 0) (omega arith), le-ltb (getD s at 0) 3 (omega arith))
+
+      inside : entropy h ≡ true → Dec (at < length s) → unswept s h mask (model r) initial huffman ≡ said (bodied h mask initial) (moded s (h .kind) (h .error) at >>= bodyFrom s h r mask)
+      inside e (yes l) = small e l (decLt (getD s at 0) 3)
+      inside e (no l) = rw (e, le-leb (length s) at (omega arith), wordAt-no 1 s at (omega arith))
+
+      coded : (t : Bool) → entropy h ≡ t → unswept s h mask (model r) initial huffman ≡ said (bodied h mask initial) (moded s (h .kind) (h .error) at >>= bodyFrom s h r mask)
+      coded true e = inside e (decLt at (length s))
+      coded false e = rw (e, add-zero at) (tiled (r .max) at)
+
+  -- a sweep byte
+  abbrev announced : Ranges → Option ResultModel
+  announced r =
+      cond (leb (length s) (r .at)) none
+      (cond (not (eqb (getD s (r .at) 0) 0)) (linear s h mask (tabulate 64 (λ i. 0)) true 0 (r .at + 1) initial (length initial))
+      (unswept s h mask (model r) initial huffman))
+
+  swept-is : (r : Ranges) → Alike s h (r .at) → announced r ≡ said (bodied h mask initial) (sweptBody s h r mask)
+  unfolding sweptBody swept
+  swept-is r a = inside (decLt (r .at) (length s))
+    where
+      which : r .at < length s → (t : Bool) → eqb (getD s (r .at) 0) 0 ≡ t → announced r ≡ said (bodied h mask initial) (sweptBody s h r mask)
+      which l true e =
+          let z : getD s (r .at) 0 ≡ 0 = eqb-true (getD s (r .at) 0) 0 e in
+          rw (lt-leb (length s) (r .at) l, byte-ok s (r .at) l, lt-ltb (getD s (r .at) 0) 2 (a .sweep), e, ne-eqb (getD s (r .at) 0) 1 (λ o. omega arith)) (unswept-is r (a .mode))
+      which l false e =
+          let z : getD s (r .at) 0 ≡ 0 → ⊥ = eqb-false (getD s (r .at) 0) 0 e in
+          rw (lt-leb (length s) (r .at) l, byte-ok s (r .at) l, lt-ltb (getD s (r .at) 0) 2 (a .sweep), e, eq-eqb (getD s (r .at) 0) 1 (omega (arith, a .sweep)), size)
+          (raw-is s h g mask initial room (tabulate 64 (λ i. 0)) (r .at + 1) (omega arith) counts)
+
+      inside : Dec (r .at < length s) → announced r ≡ said (bodied h mask initial) (sweptBody s h r mask)
+      inside (yes l) = which l (eqb (getD s (r .at) 0) 0) refl
+      inside (no l) = rw (le-leb (length s) (r .at) (omega arith), wordAt-no 1 s (r .at) (omega arith))
+
+  -- a constant body
+  constant-body : (r : Ranges) → length (r .min) ≡ 64 → onSome (constants (r .min) (h .depth) (h .kind)) (λ c. linear s h mask c false 0 (r .at) initial (length initial)) ≡ said (bodied h mask initial) (constantBody h r)
+  unfolding constantBody
+  constant-body r long = rw (constants-is (r .min) (h .depth) (h .kind) (g .depth .1) (omega (arith, g .depth .1)), size) (go (constantWords (h .depth) (h .kind) (r .min)) refl)
+    where
+      go : (m : Res (List ℕ)) → constantWords (h .depth) (h .kind) (r .min) ≡ m
+          → onSome (said (λ ws. over ws (replicate 64 0)) m) (λ c. linear s h mask c false 0 (r .at) initial (h .columns * h .rows * h .depth))
+          ≡ said (bodied h mask initial) (m >>= λ words. ok (body.constant words (r .at)))
+      go (fail q) e = refl
+      go (ok ws) e =
+          let n : length ws ≡ h .depth = length-constants (h .depth) (h .kind) (r .min) e ∙ (let z : min (h .depth) (length (r .min)) ≡ h .depth = omega (arith, g .depth .1) in z) in
+          constant-is s h g mask initial room ws (drop (length ws) (replicate 64 0)) (r .at) n
+
+  -- THE BODY
+  pub pixels-is : pairRight (h .min) (h .max) ≡ true → rangesAt h ≤ length s → (h .valid ≡ 0 → h .mask ≡ 0) → ((r : Ranges) → rangesSays s h ≡ ok r → Alike s h (r .at))
+      → pixels s h mask initial huffman ≡ said (bodied h mask initial) (bodySays s h mask)
+  unfolding pixels bodySays
+  pixels-is pair begins plain alike = none? (eqb (h .valid) 0) refl
+    where
+      formed : (r : Ranges) → rangesSays s h ≡ ok r → (t : Bool)
+          → cond t (onSome (constants (r .min) (h .depth) (h .kind)) (λ c. linear s h mask c false 0 (r .at) initial (length initial))) (announced r) ≡ said (bodied h mask initial) (cond t (constantBody h r) (sweptBody s h r mask))
+      formed r e true = constant-body r (ranges-kept s h (g .depth .1) pair begins r e .low)
+      formed r e false = swept-is r (alike r e)
+
+      read : (m : Res Ranges) → rangesSays s h ≡ m → onSome (said model m) (ranged s h mask initial huffman) ≡ said (bodied h mask initial) (m >>= λ r. cond (r .constant) (constantBody h r) (sweptBody s h r mask))
+      read (ok r) e = formed r e (r .constant)
+      read (fail q) e = refl
+
+      none? : (t : Bool) → eqb (h .valid) 0 ≡ t → pixels s h mask initial huffman ≡ said (bodied h mask initial) (bodySays s h mask)
+      none? true e =
+          let z : h .valid ≡ 0 = eqb-true (h .valid) 0 e in
+          let m : rangesAt h ≡ headerBytes = rw (plain z) in
+          rw (e, m) (ap (λ (o : List ℕ). some (record { at = headerBytes; image = o })) (image-empty (shapeOf h) mask initial (cellWord h mask body.empty) (g .depth .0) (counts ∙ z)))
+      none? false e = rw (e, ranges-is s h) (read (rangesSays s h) refl)
