@@ -1,0 +1,355 @@
+//! Measures whole reads, and walks with all fills, of the proved reader and of
+//! the plain one (with the feature `esri` of Esri's library too): least times
+//! of interleaved rounds, and exact counts of instructions by callgrind.
+//!
+//!     whole [--folder FOLDER] [--only NAME] [--rounds N] [--svg FILE] [--no-counts]
+//!     whole one FILE WAY READER      one call, for callgrind
+
+mod clock;
+mod make;
+mod plot;
+mod task;
+
+use make::{Body, Sort};
+use std::error::Error;
+use std::fs;
+use std::path::{Path, PathBuf};
+use std::process::{Command, ExitCode};
+use std::time::Instant;
+use task::{Reader, Task, Way};
+
+/// What is asked of the proved reader, against the plain one.
+const INTEGERS: f64 = 3.0;
+const FLOATS: f64 = 6.0;
+const LINEAR: f64 = 1.3;
+/// How much more a cell of the largest image may cost than one of the
+/// smallest.
+const GROWTH: f64 = 1.1;
+/// Rounds of one line go on for so long.
+const SECONDS: f64 = 2.0;
+/// Larger images are not run under callgrind, which takes fifty times as long.
+const COUNTED: usize = 1 << 20;
+
+struct Image {
+    name: String,
+    blob: Vec<u8>,
+    /// One of a row of sizes.
+    sized: bool,
+}
+
+pub struct Line {
+    name: String,
+    way: Way,
+    cells: usize,
+    bar: f64,
+    sized: bool,
+    /// Nanoseconds a cell and instructions a cell, by reader.
+    times: Vec<Option<f64>>,
+    counts: Vec<Option<f64>>,
+}
+
+impl Line {
+    /// How many times the plain reader's the proved one's is.
+    fn ratio(numbers: &[Option<f64>]) -> Option<f64> {
+        Some(numbers[0]? / numbers[1]?)
+    }
+}
+
+fn main() -> ExitCode {
+    let words: Vec<String> = std::env::args().skip(1).collect();
+    let words: Vec<&str> = words.iter().map(String::as_str).collect();
+    let done = match words.as_slice() {
+        ["one", file, way, reader] => one(file, way, reader),
+        _ => measure(&words),
+    };
+    if let Err(error) = done {
+        eprintln!("whole: {error}");
+        return ExitCode::FAILURE;
+    }
+    ExitCode::SUCCESS
+}
+
+fn option<'a>(words: &[&'a str], name: &str) -> Option<&'a str> {
+    let at = words.iter().position(|&word| word == name)?;
+    words.get(at + 1).copied()
+}
+
+fn one(file: &str, way: &str, reader: &str) -> Result<(), Box<dyn Error>> {
+    let way = Way::ALL.into_iter().find(|w| w.name() == way);
+    let reader = Reader::ALL.iter().find(|r| r.name() == reader);
+    let (Some(way), Some(&reader)) = (way, reader) else {
+        return Err("no such way or reader".into());
+    };
+    let mut task = Task::new(&fs::read(file)?).ok_or("the header is refused")?;
+    if !task.go(way, reader) {
+        return Err("refused".into());
+    }
+    Ok(())
+}
+
+fn measure(words: &[&str]) -> Result<(), Box<dyn Error>> {
+    let rounds: usize = option(words, "--rounds").unwrap_or("15").parse()?;
+    let counts = !words.contains(&"--no-counts");
+    let mut images = Vec::new();
+    if let Some(folder) = option(words, "--folder") {
+        for file in compare::folder::files(Path::new(folder))? {
+            let name = file
+                .file_stem()
+                .unwrap_or_default()
+                .to_string_lossy()
+                .into_owned();
+            images.push(Image {
+                name,
+                blob: fs::read(&file)?,
+                sized: false,
+            });
+        }
+    }
+    images.extend(made());
+    if let Some(word) = option(words, "--only") {
+        images.retain(|image| image.name.contains(word));
+    }
+    let scratch = std::env::temp_dir().join(format!("whole-{}", std::process::id()));
+    fs::create_dir_all(&scratch)?;
+    let mut lines = Vec::new();
+    for image in &images {
+        for way in Way::ALL {
+            if let Some(line) = line(image, way, rounds, counts, &scratch)? {
+                eprintln!("{} {}", line.name, line.way.name());
+                lines.push(line);
+            }
+        }
+    }
+    fs::remove_dir_all(&scratch)?;
+    print!("{}", table(&lines));
+    print!("{}", verdicts(&lines));
+    if let Some(file) = option(words, "--svg") {
+        fs::write(file, plot::svg(&lines))?;
+    }
+    Ok(())
+}
+
+fn made() -> Vec<Image> {
+    let sort = |kind, error, body| Sort { kind, error, body };
+    let mut images = Vec::new();
+    let mut add = |name: &str, sort: Sort, side: usize, sized: bool| {
+        images.push(Image {
+            name: format!("{name} {side}x{side}"),
+            blob: make::blob(&sort, side),
+            sized,
+        });
+    };
+    add("i8", sort(0, 0.5, Body::Blocks), 512, false);
+    add("u8", sort(1, 0.5, Body::Blocks), 512, false);
+    add("i32", sort(4, 1.0, Body::Blocks), 512, false);
+    for side in [64, 128, 256, 512, 1024, 2048] {
+        add("u16", sort(3, 0.5, Body::Blocks), side, true);
+    }
+    for side in [64, 128, 256, 512, 1024, 2048] {
+        add("f32", sort(6, 0.01, Body::Blocks), side, true);
+    }
+    add("f64", sort(7, 0.001, Body::Blocks), 512, false);
+    add("raw u8", sort(1, 0.5, Body::Raw), 512, false);
+    add("raw u16", sort(3, 0.5, Body::Raw), 512, false);
+    add("raw f32", sort(6, 0.01, Body::Raw), 512, false);
+    add("raw f64", sort(7, 0.01, Body::Raw), 512, false);
+    add("constant u8", sort(1, 0.5, Body::Constant), 512, false);
+    add("constant f32", sort(6, 0.01, Body::Constant), 512, false);
+    images
+}
+
+/// Nothing for a blob that is refused, or has no blocks to walk.
+fn line(
+    image: &Image,
+    way: Way,
+    rounds: usize,
+    counts: bool,
+    scratch: &Path,
+) -> Result<Option<Line>, Box<dyn Error>> {
+    let Some(mut task) = Task::new(&image.blob) else {
+        return Ok(None);
+    };
+    if !task.go(way, Reader::Proved) {
+        return Ok(None);
+    }
+    let cells = task.image.clone();
+    task.image.fill(0);
+    if !task.go(way, Reader::Plain) || task.image != cells {
+        return Err(format!("{}: the readers differ", image.name).into());
+    }
+    let constant = second::read_ranges(&image.blob, &task.header).is_ok_and(|r| r.constant);
+    let mut walked = true;
+    if way == Way::Read {
+        let mut probe = Task::new(&image.blob).expect("as above");
+        walked = probe.go(Way::Steps, Reader::Plain);
+    }
+    let bar = match task.header.kind {
+        _ if constant || !walked => LINEAR,
+        0..=5 => INTEGERS,
+        _ => FLOATS,
+    };
+    let count = cells.len();
+    let times = least_times(&mut task, way, rounds);
+    let mut line = Line {
+        name: image.name.clone(),
+        way,
+        cells: count,
+        bar,
+        sized: image.sized,
+        times: times
+            .iter()
+            .map(|t| t.map(|t| t * 1e9 / count as f64))
+            .collect(),
+        counts: vec![None; Reader::ALL.len()],
+    };
+    if counts && count <= COUNTED {
+        let file = scratch.join("image.lerc2");
+        fs::write(&file, &image.blob)?;
+        for (n, &reader) in Reader::ALL.iter().enumerate() {
+            if reader.has(way) {
+                let found = instructions(&file, way, reader)?;
+                line.counts[n] = Some(found as f64 / count as f64);
+            }
+        }
+    }
+    Ok(Some(line))
+}
+
+/// Seconds that this thread runs in one call; the readers take turns. There are
+/// at least so many rounds, and more while there is time: on a shared machine
+/// many rounds are disturbed.
+fn least_times(task: &mut Task, way: Way, rounds: usize) -> Vec<Option<f64>> {
+    let mut least = vec![None::<f64>; Reader::ALL.len()];
+    let begun = Instant::now();
+    let mut round = 0;
+    while round < rounds || begun.elapsed().as_secs_f64() < SECONDS {
+        for (n, &reader) in Reader::ALL.iter().enumerate() {
+            if !reader.has(way) {
+                continue;
+            }
+            let begun = clock::now();
+            task.go(way, reader);
+            let time = clock::now() - begun;
+            least[n] = Some(least[n].map_or(time, |before| before.min(time)));
+        }
+        round += 1;
+    }
+    least
+}
+
+/// Instructions of one call, exact and repeatable.
+fn instructions(file: &Path, way: Way, reader: Reader) -> Result<u64, Box<dyn Error>> {
+    let output = Command::new("valgrind")
+        .args(["--tool=callgrind", "--callgrind-out-file=/dev/null"])
+        .arg("--toggle-collect=measured_*")
+        .arg(own_path()?)
+        .args(["one".as_ref(), file.as_os_str()])
+        .args([way.name(), reader.name()])
+        .output()
+        .map_err(|e| format!("valgrind: {e}; --no-counts measures time alone"))?;
+    let text = String::from_utf8_lossy(&output.stderr);
+    let said = text
+        .lines()
+        .find_map(|line| line.split_once("Collected : "));
+    let (_, count) = said.ok_or_else(|| format!("callgrind said nothing: {text}"))?;
+    Ok(count.trim().parse()?)
+}
+
+fn own_path() -> Result<PathBuf, Box<dyn Error>> {
+    Ok(std::env::current_exe()?)
+}
+
+fn shown(number: Option<f64>) -> String {
+    number.map_or("-".into(), |number| format!("{number:.2}"))
+}
+
+fn table(lines: &[Line]) -> String {
+    let mut text = String::from("| image | way |");
+    for reader in Reader::ALL {
+        text += &format!(" {} ns | {} instr |", reader.name(), reader.name());
+    }
+    text += " ratio, time | ratio, instr | bar |\n|---|---|";
+    text += &"---|".repeat(2 * Reader::ALL.len() + 3);
+    text += "\n";
+    for line in lines {
+        text += &format!("| {} | {} |", line.name, line.way.name());
+        for n in 0..Reader::ALL.len() {
+            text += &format!(" {} | {} |", shown(line.times[n]), shown(line.counts[n]));
+        }
+        let ratios = [&line.times, &line.counts].map(|numbers| shown(Line::ratio(numbers)));
+        text += &format!(" {} | {} | {} |\n", ratios[0], ratios[1], line.bar);
+    }
+    text
+}
+
+/// Whether each bar holds, by the worst image.
+fn verdicts(lines: &[Line]) -> String {
+    let mut text = String::from(
+        "\n| bar | worst by time | worst by instructions | holds |\n|---|---|---|---|\n",
+    );
+    let classes = [
+        ("integer kinds in blocks, at most 3", INTEGERS),
+        ("float kinds in blocks, at most 6", FLOATS),
+        ("raw and constant, at most 1.3", LINEAR),
+    ];
+    for way in Way::ALL {
+        for (name, bar) in classes {
+            let of_class = |line: &&Line| line.way == way && line.bar == bar;
+            let worst = |numbers: fn(&Line) -> &Vec<Option<f64>>| {
+                lines
+                    .iter()
+                    .filter(of_class)
+                    .filter_map(|line| Some((Line::ratio(numbers(line))?, line.name.as_str())))
+                    .max_by(|a, b| a.0.total_cmp(&b.0))
+            };
+            let (time, count) = (worst(|line| &line.times), worst(|line| &line.counts));
+            let Some(time) = time else { continue };
+            let holds = |worst: f64| if worst <= bar { "yes" } else { "no" };
+            let by_count = count.map_or("-".into(), |(ratio, name)| format!("{ratio:.2} ({name})"));
+            text += &format!(
+                "| {name}: {} | {:.2} ({}) | {by_count} | time {}, instructions {} |\n",
+                way.name(),
+                time.0,
+                time.1,
+                holds(time.0),
+                count.map_or("-", |(ratio, _)| holds(ratio)),
+            );
+        }
+    }
+    for way in Way::ALL {
+        for kind in ["u16", "f32"] {
+            let rows: Vec<&Line> = lines
+                .iter()
+                .filter(|line| line.sized && line.way == way && line.name.starts_with(kind))
+                .collect();
+            let (Some(first), Some(last)) = (rows.first(), rows.last()) else {
+                continue;
+            };
+            // The largest that was counted is not the largest that was timed.
+            let growth = |numbers: &dyn Fn(&Line) -> Option<f64>| {
+                let last = rows.iter().rev().find_map(|line| numbers(line));
+                Some(last? / numbers(first)?)
+            };
+            let time = growth(&|line| line.times[0]);
+            let plain = growth(&|line| line.times[1]);
+            let count = growth(&|line| line.counts[0]);
+            let holds = |growth: Option<f64>| match growth {
+                Some(growth) if growth <= GROWTH => "yes",
+                Some(_) => "no",
+                None => "-",
+            };
+            text += &format!(
+                "| linear: a cell of {} costs at most 1.1 times one of {}: {} | {} (plain {}) | {} | time {}, instructions {} |\n",
+                last.name,
+                first.name,
+                way.name(),
+                shown(time),
+                shown(plain),
+                shown(count),
+                holds(time),
+                holds(count),
+            );
+        }
+    }
+    text
+}

@@ -1,0 +1,140 @@
+//! One call: the operation, and everything it is lent.
+
+/// The operations of the C interface.
+#[derive(Clone, Copy, Debug, PartialEq, Eq)]
+pub enum Op {
+    Header,
+    Mask,
+    Ranges,
+    Walk,
+    Fill,
+    Read,
+    Sum,
+    Scaled,
+    Narrow,
+    Number,
+    Stored,
+}
+
+impl Op {
+    pub const ALL: [Op; 11] = [
+        Op::Header,
+        Op::Mask,
+        Op::Ranges,
+        Op::Walk,
+        Op::Fill,
+        Op::Read,
+        Op::Sum,
+        Op::Scaled,
+        Op::Narrow,
+        Op::Number,
+        Op::Stored,
+    ];
+
+    /// The entry's name without `lerc2_`.
+    pub fn name(self) -> &'static str {
+        match self {
+            Op::Header => "read_header",
+            Op::Mask => "prepare_mask",
+            Op::Ranges => "read_ranges",
+            Op::Walk => "walk",
+            Op::Fill => "fill",
+            Op::Read => "read",
+            Op::Sum => "sum",
+            Op::Scaled => "scaled",
+            Op::Narrow => "narrow",
+            Op::Number => "number",
+            Op::Stored => "stored",
+        }
+    }
+}
+
+/// Slices that the operation is not lent stay empty.
+#[derive(Clone, Debug, PartialEq, Eq)]
+pub struct Case {
+    pub op: Op,
+    pub blob: Vec<u8>,
+    /// The record of a header, written by `read_header`, else read.
+    pub header: Vec<u64>,
+    /// The record of ranges, written by `read_ranges`, else read.
+    pub ranges: Vec<u64>,
+    /// The mask lent to walk and fill.
+    pub mask: Vec<u8>,
+    pub kept: Vec<u8>,
+    pub spare: Vec<u8>,
+    pub list: Vec<usize>,
+    pub image: Vec<u64>,
+    pub said: Vec<u64>,
+    pub reuse: bool,
+    /// Fill: the block's number. Arithmetic: the operands.
+    pub numbers: [u64; 2],
+}
+
+impl Case {
+    pub fn new(op: Op) -> Case {
+        Case {
+            op,
+            blob: Vec::new(),
+            header: Vec::new(),
+            ranges: Vec::new(),
+            mask: Vec::new(),
+            kept: Vec::new(),
+            spare: Vec::new(),
+            list: Vec::new(),
+            image: Vec::new(),
+            said: Vec::new(),
+            reuse: false,
+            numbers: [0; 2],
+        }
+    }
+
+    pub fn arithmetic(op: Op, a: u64, b: u64) -> Case {
+        Case {
+            numbers: [a, b],
+            ..Case::new(op)
+        }
+    }
+}
+
+/// What a call left: its answer, the word of an arithmetic operation, every
+/// lent slice, and whether a mark beside a slice was overwritten.
+#[derive(Clone, Debug, PartialEq, Eq)]
+pub struct After {
+    pub answer: u32,
+    pub word: u64,
+    pub outside: bool,
+    pub lent: Case,
+}
+
+impl After {
+    /// The first thing in which two calls differ.
+    pub fn difference(&self, other: &After) -> Option<String> {
+        if self.answer != other.answer {
+            return Some(format!("answer {} and {}", self.answer, other.answer));
+        }
+        if self.word != other.word {
+            return Some(format!("word {:#018x} and {:#018x}", self.word, other.word));
+        }
+        if self.outside || other.outside {
+            return Some("a mark beside a slice was overwritten".into());
+        }
+        let (a, b) = (&self.lent, &other.lent);
+        first_of("blob", &a.blob, &b.blob)
+            .or_else(|| first_of("header", &a.header, &b.header))
+            .or_else(|| first_of("ranges", &a.ranges, &b.ranges))
+            .or_else(|| first_of("mask", &a.mask, &b.mask))
+            .or_else(|| first_of("kept", &a.kept, &b.kept))
+            .or_else(|| first_of("spare", &a.spare, &b.spare))
+            .or_else(|| first_of("list", &a.list, &b.list))
+            .or_else(|| first_of("image", &a.image, &b.image))
+            .or_else(|| first_of("said", &a.said, &b.said))
+    }
+}
+
+fn first_of<T: PartialEq + std::fmt::LowerHex>(name: &str, a: &[T], b: &[T]) -> Option<String> {
+    if a.len() != b.len() {
+        return Some(format!("{name}: lengths {} and {}", a.len(), b.len()));
+    }
+    let at = a.iter().zip(b).position(|(a, b)| a != b)?;
+    Some(format!("{name}[{at}]: {:#x} and {:#x}", a[at], b[at]))
+}

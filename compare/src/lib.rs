@@ -1,0 +1,20 @@
+//! Compares the proved reader with the plain one, call by call.
+//!
+//! Each call is made on both sides with the same slices; answer, number and
+//! every lent byte afterwards must be the same, and marks on both sides of each
+//! slice must stand.
+
+pub mod case;
+pub mod damage;
+#[cfg(feature = "esri")]
+pub mod esri;
+pub mod folder;
+pub mod form;
+mod lent;
+pub mod plan;
+pub mod random;
+pub mod run;
+pub mod shrink;
+pub mod sides;
+pub mod store;
+pub mod table;

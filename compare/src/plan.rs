@@ -1,0 +1,487 @@
+//! Calls made out of one form: every operation, with slices of lengths around
+//! what the rules ask for.
+
+use crate::case::{Case, Op};
+use crate::damage;
+use crate::form::{any_form, form, Body, Fault, Form, Wanted};
+use crate::random::Random;
+use crate::sides::{ranges_record, record};
+use lerc2::raw;
+use second::{Header, Ranges};
+
+/// Images above this many cells are made on purpose only.
+const USUAL_CELLS: usize = 20_000;
+
+/// What is known of a blob before it is called with.
+struct Blob {
+    bytes: Vec<u8>,
+    header: Header,
+    ranges: [u64; raw::RANGES],
+    mask: Vec<u8>,
+    starts: Vec<usize>,
+}
+
+impl Blob {
+    fn new(form: &Form, bytes: Vec<u8>) -> Blob {
+        let f = &form.fields;
+        let header = Header {
+            rows: f.rows,
+            columns: f.columns,
+            depth: f.depth,
+            valid: f.valid,
+            side: f.side,
+            size: form.size() as u32,
+            kind: f.kind,
+            error: f.error,
+            min: f.min,
+            max: f.max,
+            mask: form.section.len() as u32,
+        };
+        let ranges = second::read_ranges(&bytes, &header).unwrap_or(Ranges {
+            place: 70 + form.section.len(),
+            constant: false,
+            min: [f.min; 64],
+            max: [f.max; 64],
+        });
+        Blob {
+            bytes,
+            header,
+            ranges: ranges_record(&ranges),
+            mask: form.mask.clone(),
+            starts: form.starts.clone(),
+        }
+    }
+}
+
+/// The calls of one blob of a run.
+pub fn calls(random: &mut Random, out: &mut Vec<Case>) {
+    let form = any_form(random, false);
+    let mut bytes = form.bytes();
+    let whole = Blob::new(&form, bytes.clone());
+    if random.once_in(3) {
+        damage::blob(random, &mut bytes);
+    }
+    let blob = Blob { bytes, ..whole };
+    let ops = [
+        Op::Header,
+        Op::Mask,
+        Op::Ranges,
+        Op::Walk,
+        Op::Walk,
+        Op::Fill,
+        Op::Fill,
+        Op::Fill,
+        Op::Read,
+        Op::Read,
+    ];
+    for op in ops {
+        if let Some(case) = call(random, &blob, op) {
+            out.push(case);
+        }
+    }
+    for _ in 0..4 {
+        out.push(arithmetic(random));
+    }
+    if random.once_in(400) && blob.bytes.len() < 400 {
+        cuts(random, &blob, out);
+    }
+    if random.once_in(100) {
+        rooms(random, &blob, out);
+    }
+}
+
+/// A call with lengths and contents at random.
+fn call(random: &mut Random, blob: &Blob, op: Op) -> Option<Case> {
+    let mut case = Case::new(op);
+    case.blob = blob.bytes.clone();
+    case.reuse = random.once_in(2);
+    let mut header = record(&blob.header).to_vec();
+    if matches!(op, Op::Mask | Op::Ranges | Op::Walk | Op::Fill) {
+        if random.once_in(5) {
+            damage::header(random, &mut header);
+        }
+        if random.once_in(40) {
+            damage::header(random, &mut header);
+        }
+        case.header = resized(random, &header, raw::HEADER);
+    }
+    // The room that the header in use asks for; the blob's own may be damaged.
+    let asks = match op {
+        Op::Read => second::read_header(&case.blob).unwrap_or(blob.header),
+        _ => as_header(&header),
+    };
+    let (cells, blocks, masks) = (asks.cells(), asks.blocks(), asks.mask_length());
+    if cells > USUAL_CELLS {
+        // Much room is never asked for here but by headers that are refused,
+        // or by a header by value that the blob does not fit; see `large`.
+        return (op == Op::Header).then_some(case);
+    }
+    let size = blob.header.size as usize;
+    match op {
+        Op::Header => case.header = marks(random, raw::HEADER),
+        Op::Mask => {
+            case.kept = mask(random, blob, masks);
+            case.spare = bytes(random, masks);
+            case.said = marks(random, raw::MASK);
+        }
+        Op::Ranges => case.ranges = marks(random, raw::RANGES),
+        Op::Walk | Op::Fill => {
+            let mut ranges = blob.ranges.to_vec();
+            if random.once_in(4) {
+                damage::ranges(random, &mut ranges, size, blob.header.depth as usize);
+            }
+            case.ranges = resized(random, &ranges, raw::RANGES);
+            case.mask = mask(random, blob, masks);
+            let numbers = if op == Op::Walk { raw::WALK } else { raw::FILL };
+            case.said = marks(random, numbers);
+            case.list = list(random, blocks);
+            if op == Op::Fill {
+                put_starts(random, blob, &mut case);
+                case.numbers[0] = block_number(random, blocks);
+                case.image = marks(random, cells);
+            }
+        }
+        Op::Read => {
+            case.kept = mask(random, blob, masks);
+            case.spare = bytes(random, masks);
+            case.list = list(random, blocks);
+            case.image = marks(random, cells);
+            case.said = marks(random, raw::READ);
+        }
+        _ => {}
+    }
+    Some(case)
+}
+
+/// Numbers cut to what fields hold; only lengths are made of them.
+fn as_header(record: &[u64]) -> Header {
+    Header {
+        rows: record[0] as u32,
+        columns: record[1] as u32,
+        depth: record[2] as u32,
+        valid: record[3] as u32,
+        side: record[4] as u32,
+        size: record[5] as u32,
+        kind: record[6] as u32,
+        error: record[7],
+        min: record[8],
+        max: record[9],
+        mask: record[10] as u32,
+    }
+}
+
+/// A length at or around what is needed.
+fn around(random: &mut Random, needed: usize) -> usize {
+    match random.below(128) {
+        0 => needed.saturating_sub(1),
+        1 => 0,
+        2 => random.below(needed + 1),
+        3..=18 => needed + 1,
+        19..=28 => needed + random.between(2, 9),
+        _ => needed,
+    }
+}
+
+fn resized(random: &mut Random, record: &[u64], needed: usize) -> Vec<u64> {
+    let length = around(random, needed);
+    let mut resized = record.to_vec();
+    resized.resize_with(length, || random.word());
+    resized
+}
+
+fn bytes(random: &mut Random, needed: usize) -> Vec<u8> {
+    let length = around(random, needed);
+    random.bytes(length)
+}
+
+fn marks(random: &mut Random, needed: usize) -> Vec<u64> {
+    let length = around(random, needed);
+    let mark = random.word();
+    (0..length as u64).map(|n| mark.wrapping_add(n)).collect()
+}
+
+fn list(random: &mut Random, needed: usize) -> Vec<usize> {
+    let length = around(random, needed);
+    let mark = random.word() as usize;
+    (0..length).map(|n| mark.wrapping_add(n)).collect()
+}
+
+/// Mostly the blob's own mask.
+fn mask(random: &mut Random, blob: &Blob, needed: usize) -> Vec<u8> {
+    let mut mask = bytes(random, needed);
+    if random.below(8) > 0 {
+        for (to, &byte) in mask.iter_mut().zip(&blob.mask) {
+            *to = byte;
+        }
+        if !mask.is_empty() && random.once_in(10) {
+            let at = random.below(mask.len());
+            mask[at] ^= 1 << random.below(8);
+        }
+    }
+    mask
+}
+
+fn put_starts(random: &mut Random, blob: &Blob, case: &mut Case) {
+    for (to, &start) in case.list.iter_mut().zip(&blob.starts) {
+        *to = start;
+    }
+    if random.once_in(5) {
+        for to in &mut case.list {
+            *to = damage::start(random, blob.header.size as usize, &blob.starts);
+        }
+    }
+}
+
+fn block_number(random: &mut Random, blocks: usize) -> u64 {
+    let number = match random.below(24) {
+        0 => random.pick(&[blocks, blocks + 1, usize::MAX, 1 << 63, 1 << 32]),
+        1 => blocks.saturating_sub(1),
+        _ => random.below(blocks.max(1)),
+    };
+    number as u64
+}
+
+/// The blob cut at every length, with room for everything.
+fn cuts(random: &mut Random, blob: &Blob, out: &mut Vec<Case>) {
+    let op = random.pick(&[
+        Op::Header,
+        Op::Mask,
+        Op::Ranges,
+        Op::Walk,
+        Op::Fill,
+        Op::Read,
+    ]);
+    let with_size = random.once_in(2);
+    for length in 0..blob.bytes.len() {
+        let mut case = exact(random, blob, op);
+        case.blob.truncate(length);
+        if with_size {
+            // The declared size goes with it, so that something else is short.
+            let size = (length as u32).to_le_bytes();
+            for (to, byte) in case.blob.iter_mut().skip(34).zip(size) {
+                *to = byte;
+            }
+            if case.header.len() > 5 {
+                case.header[5] = length as u64;
+            }
+        }
+        out.push(case);
+    }
+}
+
+/// Every slice in turn one short, exact, one long and empty.
+fn rooms(random: &mut Random, blob: &Blob, out: &mut Vec<Case>) {
+    for op in [
+        Op::Header,
+        Op::Mask,
+        Op::Ranges,
+        Op::Walk,
+        Op::Fill,
+        Op::Read,
+    ] {
+        let case = exact(random, blob, op);
+        let lengths = |length: usize| [length.saturating_sub(1), length + 1, 0];
+        for turn in 0..3 {
+            let mut vary = |lent: bool, change: &dyn Fn(&mut Case)| {
+                if lent {
+                    let mut case = case.clone();
+                    change(&mut case);
+                    out.push(case);
+                }
+            };
+            vary(true, &|c| c.blob.resize(lengths(c.blob.len())[turn], 7));
+            vary(!case.header.is_empty(), &|c| {
+                c.header.resize(lengths(c.header.len())[turn], 7)
+            });
+            vary(!case.ranges.is_empty(), &|c| {
+                c.ranges.resize(lengths(c.ranges.len())[turn], 7)
+            });
+            vary(!case.mask.is_empty(), &|c| {
+                c.mask.resize(lengths(c.mask.len())[turn], 7)
+            });
+            vary(!case.kept.is_empty(), &|c| {
+                c.kept.resize(lengths(c.kept.len())[turn], 7)
+            });
+            vary(!case.spare.is_empty(), &|c| {
+                c.spare.resize(lengths(c.spare.len())[turn], 7)
+            });
+            vary(!case.list.is_empty(), &|c| {
+                c.list.resize(lengths(c.list.len())[turn], 7)
+            });
+            vary(!case.image.is_empty(), &|c| {
+                c.image.resize(lengths(c.image.len())[turn], 7)
+            });
+            vary(!case.said.is_empty(), &|c| {
+                c.said.resize(lengths(c.said.len())[turn], 7)
+            });
+        }
+    }
+}
+
+/// A call with slices that are just long enough.
+fn exact(random: &mut Random, blob: &Blob, op: Op) -> Case {
+    let h = &blob.header;
+    let mut case = Case::new(op);
+    case.blob = blob.bytes.clone();
+    let numbers = |n: usize| (0..n as u64).map(|n| n ^ 0x5555_5555).collect::<Vec<u64>>();
+    let starts = |n: usize| {
+        let mut starts = blob.starts.clone();
+        starts.resize(n, 70);
+        starts
+    };
+    case.header = match op {
+        Op::Header => numbers(raw::HEADER),
+        Op::Read => Vec::new(),
+        _ => record(h).to_vec(),
+    };
+    match op {
+        Op::Mask | Op::Read => {
+            case.reuse = random.once_in(2);
+            case.kept = blob.mask.clone();
+            case.spare = vec![0x5A; h.mask_length()];
+            let said = if op == Op::Mask { raw::MASK } else { raw::READ };
+            case.said = numbers(said);
+        }
+        Op::Ranges => case.ranges = numbers(raw::RANGES),
+        Op::Walk | Op::Fill => {
+            case.ranges = blob.ranges.to_vec();
+            case.mask = blob.mask.clone();
+            let said = if op == Op::Walk { raw::WALK } else { raw::FILL };
+            case.said = numbers(said);
+        }
+        _ => {}
+    }
+    match op {
+        Op::Walk => case.list = vec![7; h.blocks()],
+        Op::Fill => {
+            case.list = starts(h.blocks());
+            case.numbers[0] = random.below(h.blocks()) as u64;
+            case.image = numbers(h.cells());
+        }
+        Op::Read => {
+            case.list = vec![7; h.blocks()];
+            case.image = numbers(h.cells());
+        }
+        _ => {}
+    }
+    case
+}
+
+/// Sums, products and conversions. Kinds above 7 are taken as 7 on both sides.
+fn arithmetic(random: &mut Random) -> Case {
+    let op = random.pick(&[Op::Sum, Op::Scaled, Op::Narrow, Op::Number, Op::Stored]);
+    let a = any_number(random);
+    let b = match op {
+        Op::Sum => near(random, a),
+        Op::Scaled => match random.below(4) {
+            0 => random.pick(&[0, 1, 2, 3, (1 << 31) - 1, 1 << 31, u32::MAX.into()]),
+            1 => random.word() >> 32,
+            _ => random.word() >> (33 + random.below(31)),
+        },
+        _ if random.once_in(30) => random.pick(&[8, 9, 255, u32::MAX.into()]),
+        _ => random.below(8) as u64,
+    };
+    let a = match op {
+        Op::Stored if random.below(3) > 0 => whole_edge(random),
+        _ => a,
+    };
+    let mut case = Case::arithmetic(op, a, b);
+    if op == Op::Stored {
+        case.said = marks(random, raw::STORED);
+    }
+    case
+}
+
+fn any_number(random: &mut Random) -> u64 {
+    match random.below(5) {
+        0 => random.pick(&damage::NUMBERS),
+        1 => random.word(),
+        2 => f64::to_bits(random.below(1 << 20) as f64 / 64.0 - 4096.0),
+        3 => {
+            // Few bits set, so that ties come up.
+            let bits = 1u64 << random.below(64) | 1 << random.below(64);
+            bits ^ random.word() & 0xFFF0_0000_0000_0000
+        }
+        _ => {
+            // Around the exponents of binary32.
+            let exponent = random.between(1023 - 160, 1023 + 140) as u64;
+            let fraction = random.word() & ((1 << 52) - 1);
+            let cut = random.pick(&[0u64, 28, 29, 30, 40, 52]);
+            random.word() & 1 << 63 | exponent << 52 | fraction >> cut << cut
+        }
+    }
+}
+
+/// Often of an exponent not far from another number's.
+fn near(random: &mut Random, a: u64) -> u64 {
+    if random.once_in(2) {
+        return any_number(random);
+    }
+    let exponent = (a >> 52 & 2047) as i64 + random.between(0, 120) as i64 - 60;
+    let exponent = exponent.clamp(0, 2047) as u64;
+    let fraction = match random.below(3) {
+        0 => 0,
+        1 => a,
+        _ => random.word(),
+    };
+    random.word() & 1 << 63 | exponent << 52 | fraction & ((1 << 52) - 1)
+}
+
+/// Numbers at the ends of the integer kinds.
+fn whole_edge(random: &mut Random) -> u64 {
+    let ends = [
+        0.0,
+        127.0,
+        128.0,
+        255.0,
+        256.0,
+        32767.0,
+        32768.0,
+        65535.0,
+        65536.0,
+        2147483647.0,
+        2147483648.0,
+        4294967295.0,
+        4294967296.0,
+        9223372036854775808.0,
+    ];
+    let end = random.pick(&ends) * random.pick(&[1.0, -1.0]);
+    let by = random.pick(&[0.0, 0.5, -0.5, 0.999, -0.999, 1.0, -1.0]);
+    let bits = f64::to_bits(end + by);
+    if random.once_in(4) {
+        bits.wrapping_add(random.pick(&[1, u64::MAX]))
+    } else {
+        bits
+    }
+}
+
+/// Calls on images at and past the ceilings, and on masks with the longest
+/// runs. They take much memory, so a run has few of them.
+pub fn large(random: &mut Random, out: &mut Vec<Case>) {
+    let shapes = [
+        (2048, 2048, 1),
+        (2048, 2049, 1),
+        (4096, 1024, 1),
+        (1024, 4096, 1),
+        (256, 256, 64),
+        (256, 257, 64),
+        (4096, 17, 60),
+        (1024, 1024, 1),
+    ];
+    let (rows, columns, depth) = random.pick(&shapes);
+    let wanted = Wanted {
+        rows,
+        columns,
+        depth,
+        side: random.pick(&[8, 16]),
+        kind: random.below(8) as u32,
+        body: random.pick(&[Body::ConstantByHeader, Body::Raw, Body::Blocks]),
+        fault: Fault::None,
+        esri: false,
+    };
+    let form = form(random, wanted);
+    let blob = Blob::new(&form, form.bytes());
+    for op in [Op::Mask, Op::Ranges, Op::Walk, Op::Fill, Op::Read] {
+        out.push(exact(random, &blob, op));
+    }
+}

@@ -1,0 +1,87 @@
+//! A run over many blobs.
+
+use crate::case::{After, Case, Op};
+use crate::plan;
+use crate::random::Random;
+use crate::shrink::shrunk;
+use crate::table::{Bodies, Table};
+
+/// One blob in so many is a large one.
+const LARGE: u64 = 8192;
+
+/// One side of the comparison.
+pub type Side = fn(&Case) -> After;
+
+pub struct Run {
+    pub seed: u64,
+    /// Number of the first blob.
+    pub from: u64,
+    pub calls: u64,
+    /// Failures after which a run stops.
+    pub failures: usize,
+}
+
+/// A call on which the sides differ, as it was and made smaller.
+pub struct Failure {
+    pub blob: u64,
+    pub case: Case,
+    pub small: Case,
+    pub difference: String,
+}
+
+impl Failure {
+    pub fn new(blob: u64, case: Case, proved: Side, plain: Side) -> Failure {
+        let differs = |case: &Case| proved(case).difference(&plain(case));
+        let small = shrunk(&case, &|case| differs(case).is_some());
+        Failure {
+            blob,
+            difference: differs(&small).unwrap_or_default(),
+            case,
+            small,
+        }
+    }
+}
+
+pub struct Report {
+    pub table: Table,
+    pub bodies: Bodies,
+    pub blobs: u64,
+    pub failures: Vec<Failure>,
+}
+
+impl Run {
+    pub fn go(&self, proved: Side, plain: Side) -> Report {
+        let mut report = Report {
+            table: Table::default(),
+            bodies: Bodies::default(),
+            blobs: 0,
+            failures: Vec::new(),
+        };
+        let mut cases = Vec::new();
+        while report.table.total() < self.calls && report.failures.len() < self.failures {
+            let blob = self.from + report.blobs;
+            let mut random = Random::of(self.seed, blob);
+            if blob % LARGE == LARGE - 1 {
+                plan::large(&mut random, &mut cases);
+            } else {
+                plan::calls(&mut random, &mut cases);
+            }
+            for case in cases.drain(..) {
+                let one = proved(&case);
+                report.table.count(case.op, one.answer);
+                if case.op == Op::Read && one.answer == 0 {
+                    report.bodies.count(&case.blob, &one.lent.said);
+                }
+                if one.difference(&plain(&case)).is_some() {
+                    report
+                        .failures
+                        .push(Failure::new(blob, case, proved, plain));
+                    break;
+                }
+            }
+            cases.clear();
+            report.blobs += 1;
+        }
+        report
+    }
+}

@@ -1,0 +1,89 @@
+//! Counts by operation and answer.
+
+use crate::case::Op;
+
+#[derive(Clone, Default)]
+pub struct Table([[u64; 12]; 11]);
+
+impl Table {
+    pub fn count(&mut self, op: Op, answer: u32) {
+        self.0[op as usize][answer.min(11) as usize] += 1;
+    }
+
+    pub fn total(&self) -> u64 {
+        self.0.iter().flatten().sum()
+    }
+
+    /// In the form of the documents.
+    pub fn text(&self) -> String {
+        let mut text = String::from("| operation | calls | accepted |");
+        for number in 1..=11 {
+            text += &format!(" {number} |");
+        }
+        text += "\n|---|---|---|";
+        text += &"---|".repeat(11);
+        text += "\n";
+        for op in Op::ALL {
+            let row = &self.0[op as usize];
+            let calls: u64 = row.iter().sum();
+            if calls == 0 {
+                continue;
+            }
+            text += &format!("| `{}` | {} |", op.name(), grouped(calls));
+            for &count in row {
+                let shown = if count == 0 {
+                    "-".into()
+                } else {
+                    grouped(count)
+                };
+                text += &format!(" {shown} |");
+            }
+            text += "\n";
+        }
+        text
+    }
+}
+
+/// Accepted whole reads by kind and body.
+#[derive(Clone, Default)]
+pub struct Bodies([[u64; 4]; 8]);
+
+impl Bodies {
+    /// Counts an accepted whole read, given what it said.
+    pub fn count(&mut self, blob: &[u8], said: &[u64]) {
+        let Ok(header) = second::read_header(blob) else {
+            return;
+        };
+        let constant = second::read_ranges(blob, &header).is_ok_and(|ranges| ranges.constant);
+        let body = match said[lerc2::raw::HEADER] {
+            0 if header.valid == 0 => 0,
+            0 if constant => 1,
+            0 => 2,
+            _ => 3,
+        };
+        self.0[header.kind as usize][body] += 1;
+    }
+
+    pub fn text(&self) -> String {
+        let mut text =
+            String::from("| kind | empty | constant | raw | blocks |\n|---|---|---|---|---|\n");
+        for (kind, row) in self.0.iter().enumerate() {
+            let counts = row.map(grouped).join(" | ");
+            text += &format!("| {kind} | {counts} |\n");
+        }
+        text
+    }
+}
+
+/// Digits in groups of three.
+pub fn grouped(number: u64) -> String {
+    let digits = number.to_string();
+    let mut text = String::new();
+    for (n, digit) in digits.chars().enumerate() {
+        if n > 0 && (digits.len() - n) % 3 == 0 {
+            text.push(',');
+        }
+        text.push(digit);
+    }
+    text
+}

@@ -1,0 +1,266 @@
+//! The entries of the C interface as they are, with slices in place of
+//! pointers and lengths.
+//!
+//! Each returns 0 or the number of a refusal. Records are slices of 64-bit
+//! numbers: a header 11, ranges 130, what an entry says 1, 2 or 13. A record
+//! that is too short is refused 5, then a number that its field cannot hold 3,
+//! both before anything else. After a refusal the records are as they were.
+//!
+//! All `unsafe` of this crate is here. Each call hands over the pointer and
+//! the length of a slice that lives through it; slices that are written do not
+//! overlap others, since Rust lends them only so.
+
+/// Numbers of a header's record: rows, columns, depth, valid, side, size,
+/// kind, the bits of error, min and max, mask bytes.
+pub const HEADER: usize = 11;
+/// Numbers of the ranges' record: the body's place, the constant mark (0 or
+/// 1), the bits of 64 minima and of 64 maxima.
+pub const RANGES: usize = 130;
+/// Numbers that [`prepare_mask`] says: 1 for the kept mask or 2 for the spare,
+/// and the mask's length.
+pub const MASK: usize = 2;
+/// Numbers that [`walk`] says: how many blocks, and where the last one ends.
+pub const WALK: usize = 2;
+/// Numbers that [`fill`] says: how many words were written.
+pub const FILL: usize = 1;
+/// Numbers that [`stored`] says: the word.
+pub const STORED: usize = 1;
+/// Numbers that [`read`] says: the header's, how many blocks, the body's end.
+pub const READ: usize = 13;
+
+mod c {
+    extern "C" {
+        pub fn lerc2_read_header(blob: *const u8, n: usize, header: *mut u64, m: usize) -> u32;
+        pub fn lerc2_prepare_mask(
+            blob: *const u8,
+            n: usize,
+            header: *const u64,
+            m: usize,
+            reuse: bool,
+            kept: *const u8,
+            kept_n: usize,
+            spare: *mut u8,
+            spare_n: usize,
+            said: *mut u64,
+            said_n: usize,
+        ) -> u32;
+        pub fn lerc2_read_ranges(
+            blob: *const u8,
+            n: usize,
+            header: *const u64,
+            m: usize,
+            ranges: *mut u64,
+            ranges_n: usize,
+        ) -> u32;
+        pub fn lerc2_walk(
+            blob: *const u8,
+            n: usize,
+            header: *const u64,
+            m: usize,
+            ranges: *const u64,
+            ranges_n: usize,
+            mask: *const u8,
+            mask_n: usize,
+            list: *mut usize,
+            list_n: usize,
+            said: *mut u64,
+            said_n: usize,
+        ) -> u32;
+        pub fn lerc2_fill(
+            blob: *const u8,
+            n: usize,
+            header: *const u64,
+            m: usize,
+            ranges: *const u64,
+            ranges_n: usize,
+            mask: *const u8,
+            mask_n: usize,
+            list: *const usize,
+            list_n: usize,
+            number: usize,
+            image: *mut u64,
+            image_n: usize,
+            said: *mut u64,
+            said_n: usize,
+        ) -> u32;
+        pub fn lerc2_read(
+            blob: *const u8,
+            n: usize,
+            reuse: bool,
+            kept: *mut u8,
+            kept_n: usize,
+            spare: *mut u8,
+            spare_n: usize,
+            list: *mut usize,
+            list_n: usize,
+            image: *mut u64,
+            image_n: usize,
+            said: *mut u64,
+            said_n: usize,
+        ) -> u32;
+        pub fn lerc2_sum(a: u64, b: u64) -> u64;
+        pub fn lerc2_scaled(a: u64, q: u32) -> u64;
+        pub fn lerc2_narrow(v: u64) -> u32;
+        pub fn lerc2_number(word: u64, kind: u32) -> u64;
+        pub fn lerc2_stored(v: u64, kind: u32, said: *mut u64, said_n: usize) -> u32;
+    }
+}
+
+/// The header of a blob into its record.
+pub fn read_header(blob: &[u8], header: &mut [u64]) -> u32 {
+    unsafe { c::lerc2_read_header(blob.as_ptr(), blob.len(), header.as_mut_ptr(), header.len()) }
+}
+
+/// The mask in force, written to the spare unless the kept mask is reused.
+pub fn prepare_mask(
+    blob: &[u8],
+    header: &[u64],
+    reuse: bool,
+    kept: &[u8],
+    spare: &mut [u8],
+    said: &mut [u64],
+) -> u32 {
+    unsafe {
+        c::lerc2_prepare_mask(
+            blob.as_ptr(),
+            blob.len(),
+            header.as_ptr(),
+            header.len(),
+            reuse,
+            kept.as_ptr(),
+            kept.len(),
+            spare.as_mut_ptr(),
+            spare.len(),
+            said.as_mut_ptr(),
+            said.len(),
+        )
+    }
+}
+
+/// The ranges of each depth into their record.
+pub fn read_ranges(blob: &[u8], header: &[u64], ranges: &mut [u64]) -> u32 {
+    unsafe {
+        c::lerc2_read_ranges(
+            blob.as_ptr(),
+            blob.len(),
+            header.as_ptr(),
+            header.len(),
+            ranges.as_mut_ptr(),
+            ranges.len(),
+        )
+    }
+}
+
+/// Checks every block, then writes the list of their starts.
+pub fn walk(
+    blob: &[u8],
+    header: &[u64],
+    ranges: &[u64],
+    mask: &[u8],
+    list: &mut [usize],
+    said: &mut [u64],
+) -> u32 {
+    unsafe {
+        c::lerc2_walk(
+            blob.as_ptr(),
+            blob.len(),
+            header.as_ptr(),
+            header.len(),
+            ranges.as_ptr(),
+            ranges.len(),
+            mask.as_ptr(),
+            mask.len(),
+            list.as_mut_ptr(),
+            list.len(),
+            said.as_mut_ptr(),
+            said.len(),
+        )
+    }
+}
+
+/// Writes the valid cells of one block.
+#[allow(clippy::too_many_arguments)]
+pub fn fill(
+    blob: &[u8],
+    header: &[u64],
+    ranges: &[u64],
+    mask: &[u8],
+    list: &[usize],
+    number: usize,
+    image: &mut [u64],
+    said: &mut [u64],
+) -> u32 {
+    unsafe {
+        c::lerc2_fill(
+            blob.as_ptr(),
+            blob.len(),
+            header.as_ptr(),
+            header.len(),
+            ranges.as_ptr(),
+            ranges.len(),
+            mask.as_ptr(),
+            mask.len(),
+            list.as_ptr(),
+            list.len(),
+            number,
+            image.as_mut_ptr(),
+            image.len(),
+            said.as_mut_ptr(),
+            said.len(),
+        )
+    }
+}
+
+/// Reads a whole blob.
+pub fn read(
+    blob: &[u8],
+    reuse: bool,
+    kept: &mut [u8],
+    spare: &mut [u8],
+    list: &mut [usize],
+    image: &mut [u64],
+    said: &mut [u64],
+) -> u32 {
+    unsafe {
+        c::lerc2_read(
+            blob.as_ptr(),
+            blob.len(),
+            reuse,
+            kept.as_mut_ptr(),
+            kept.len(),
+            spare.as_mut_ptr(),
+            spare.len(),
+            list.as_mut_ptr(),
+            list.len(),
+            image.as_mut_ptr(),
+            image.len(),
+            said.as_mut_ptr(),
+            said.len(),
+        )
+    }
+}
+
+/// The sum of two binary64 numbers, as bits.
+pub fn sum(a: u64, b: u64) -> u64 {
+    unsafe { c::lerc2_sum(a, b) }
+}
+
+/// Twice `q` times a binary64 number, as bits.
+pub fn scaled(a: u64, q: u32) -> u64 {
+    unsafe { c::lerc2_scaled(a, q) }
+}
+
+/// The bits of a binary64 number as those of a binary32.
+pub fn narrow(v: u64) -> u32 {
+    unsafe { c::lerc2_narrow(v) }
+}
+
+/// The number that a word of the kind stands for, as the bits of a binary64.
+pub fn number(word: u64, kind: u32) -> u64 {
+    unsafe { c::lerc2_number(word, kind) }
+}
+
+/// A binary64 number, as bits, as a stored word of the kind.
+pub fn stored(v: u64, kind: u32, said: &mut [u64]) -> u32 {
+    unsafe { c::lerc2_stored(v, kind, said.as_mut_ptr(), said.len()) }
+}
