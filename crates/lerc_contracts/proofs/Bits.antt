@@ -38,6 +38,10 @@ theirs p = record { n = p .n; bits = p .bits; entries = p .entries; lut = p .tab
 
 -- ---- the plan
 
+-- 2.2
+pub ceil-bytes-is : (n b : ℕ) → ceilBytes n b ≡ runBytes n b
+ceil-bytes-is n b = refl
+
 byte-is : (s : List ℕ) (at : ℕ) → little 1 s at ≡ getD s at 0
 unfolding little
 byte-is s at = omega arith
