@@ -11,9 +11,11 @@ use lib.ListN.{length}
 use Rattle.lerc_words.specs.Res.{ok, require, wordAt}
 use Rattle.lerc_words.proofs.Laws.{Bytes, byte-lt, bind-is, require-is}
 use Rattle.lerc_bits.specs.declared.Plan.{Plan}
-use Rattle.lerc_bits.specs.Bits.{runBytes, indexWidth, countBytes, plainPlan, tablePlan, fits, tabled, plan, Kept}
+use Rattle.lerc_bits.specs.declared.PlanAnswer.{PlanAnswer}
+use Rattle.lerc_bits.specs.declared.PlanAnswer.the-variants as found
+use Rattle.lerc_bits.specs.Bits.{runBytes, indexWidth, countBytes, plainPlan, tablePlan, fits, tabled, plan, planSaid, unpacked, counts, Kept}
 use Rattle.lerc_bits.proofs.IndexWidth.{index-least}
-use Rattle.lerc_bits.proofs.Answers.{Headed, fits-ok, tabled-more, plan-plain, plan-tabled}
+use Rattle.lerc_bits.proofs.Answers.{Headed, fits-ok, tabled-more, plan-plain, plan-tabled, inspect-ok, counts-by}
 
 -- by the first byte h, what follows at `to` is a run, or a table and a run
 pub data Laid (s : List ℕ) (to h n : ℕ) (p : Plan) : Type 0 where
@@ -114,3 +116,8 @@ plan-kept s at y e =
     let l = laid-narrow y (plan-is s at e .laid) in
     let d = plan-ends s at e in
     record { few = f .0; narrow = f .1; slim = l .1; short = l .0; tabled = d .1; begun = d .2; inside = d .3 }
+
+-- counts that were inspected
+module _ (s : List ℕ) (at : ℕ) (y : Bytes s) {r : PlanAnswer} {p : Plan} (e : planSaid r ≡ plan s at) (d : r ≡ found.Plan p) where
+  pub inspected : (counts s at ≡ unpacked s p) × Kept (length s) p
+  inspected = let f = inspect-ok s at e d in (counts-by s at f, plan-kept s at y f)

@@ -1,18 +1,17 @@
 -- What a header that is held keeps.
 -- Assumes nothing.
-use Prim.Native.Nat.{ℕ, _+_, _*_, _^_, _≤_, _<_}
-use mathlib.Core.Path.{_≡_, _∙_, sym, ap, refl}
+use Prim.Native.Nat.{ℕ, _*_, _^_, _≤_, _<_}
+use mathlib.Core.Path.{_≡_, _∙_, ap, refl}
 use mathlib.Core.Bool.{Bool, true, false, _&&_}
 use mathlib.Core.List.{List}
 use native.Mathlib.Omega.{arith}
 use native.Mathlib.Nat.{mul-le-mul}
 use lib.ListN.{length}
-use lib.Dec.{ltb, leb, eqb}
+use lib.Dec.{leb}
 use borrow.Author.Tests.{ltb-true, leb-true}
-use Rattle.lerc_words.specs.Res.{Res, ok, fail, _>>=_, require}
+use Rattle.lerc_words.specs.Res.{ok, require}
 use Rattle.lerc_words.proofs.Laws.{bind-is, require-is}
 use Rattle.lerc_header.specs.declared.Header.{Header}
-use Rattle.lerc_header.specs.declared.Shape.{Shape}
 use Rattle.lerc_header.specs.declared.Extent.{Extent}
 use Rattle.lerc_header.specs.Limits.{sideways, depthLimit, sideLimit, cellLimit, sizeLimit}
 use Rattle.lerc_header.specs.Shape.{pixels, Shaped}

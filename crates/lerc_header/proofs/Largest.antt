@@ -1,14 +1,12 @@
 -- The bits of the largest error: the words below are those whose sign is clear and whose number is below 2^1023.
 -- Assumes nothing.
-use Prim.Native.Nat.{ℕ, _+_, _*_, _%_, _/_, _^_, _≤_, _<_}
-use mathlib.Core.Path.{_≡_, _∙_, sym, refl}
-use mathlib.Core.Bool.{Bool, true, false, not, _&&_}
+use Prim.Native.Nat.{ℕ, _+_, _%_, _^_, _≤_, _<_}
+use mathlib.Core.Path.{_≡_, refl}
+use mathlib.Core.Bool.{false, not, _&&_}
 use native.Mathlib.Omega.{arith}
 use native.Mathlib.Decide.{decLt}
-use native.Mathlib.Nat.{lt-of-lt-of-le, le-of-eq, le-trans}
 use borrow.Author.Tests.{lt-ltb, le-ltb, le-leb, lt-leb}
-use lib.Dec.{ltb, leb}
-use lib.Pow.{pow-add}
+use lib.Dec.{ltb}
 use Rattle.lerc_numeric.specs.Numeric.{negative, mag}
 use Rattle.lerc_numeric.proofs.Magnitude.{mag-lt, mag-le}
 use Rattle.lerc_header.specs.Header.{errorRight}

@@ -1,9 +1,8 @@
 -- How large the sizes of an image are that keeps the ceilings.
 -- Assumes nothing.
-use Prim.Native.Nat.{ℕ, zero, suc, _+_, _-_, _*_, _/_, _^_, _≤_, _<_}
-use mathlib.Core.Path.{_≡_, sym}
+use Prim.Native.Nat.{ℕ, zero, suc, _+_, _-_, _*_, _^_, _≤_, _<_}
 use native.Mathlib.Omega.{arith}
-use native.Mathlib.Nat.{mul-le-mul, mul-le-mul-right, mul-suc, le-trans, div-le-of-le-mul, div-eq-of-lt, mul-one}
+use native.Mathlib.Nat.{mul-le-mul, mul-le-mul-right, mul-suc, le-trans, div-le-of-le-mul, div-eq-of-lt}
 use Rattle.lerc_header.specs.declared.Shape.{Shape}
 use Rattle.lerc_header.specs.Limits.{cellLimit}
 use Rattle.lerc_header.specs.Shape.{pixels, cells, maskLength, strips, tilesAcross, tilesDown, blockCount, Shaped}

@@ -18,7 +18,7 @@ pub record Pasting (old src : List ℕ) (to n k : ℕ) (new : List ℕ) : Type 0
 pub pasting-start : (old src : List ℕ) (to n : ℕ) → to + n ≤ length old → n ≤ length src → Pasting old src to n 0 old
 pasting-start old src to n h g = record { few = omega arith; here = h; there = g; now = paste-zero old to src }
 
-module _ (old src : List ℕ) (to n k : ℕ) (new : List ℕ) (i : Pasting old src to n k new) where
+module _ {old src : List ℕ} {to n k : ℕ} {new : List ℕ} (i : Pasting old src to n k new) where
   pub pasting-length : length new ≡ length old
   pasting-length =
       let h : to + k ≤ length old = let f = i .few in let g = i .here in omega arith in

@@ -1,15 +1,15 @@
 -- What ranges that were read keep, and what their judges say.
 -- Assumes nothing.
-use Prim.Native.Nat.{ℕ, _+_, _*_, _≤_, _<_, min}
-use mathlib.Core.Path.{_≡_, _∙_, sym, ap, refl}
-use mathlib.Core.Bool.{Bool, true, false, cond, _&&_}
+use Prim.Native.Nat.{ℕ, _≤_, _<_, min}
+use mathlib.Core.Path.{_≡_, _∙_, sym}
+use mathlib.Core.Bool.{Bool, true, false, cond}
 use mathlib.Core.List.{List}
 use native.Mathlib.Omega.{arith}
 use native.Mathlib.Nat.{min-eq-left}
 use borrow.Author.Tests.{leb-true}
-use lib.ListN.{length, getD, take, replicate, length-take, length-replicate, getD-replicate}
+use lib.ListN.{length, take, length-take, length-replicate, getD-replicate}
 use lib.Dec.{leb}
-use Rattle.lerc_words.specs.Res.{Res, ok, fail, _>>=_, require}
+use Rattle.lerc_words.specs.Res.{Res, ok, _>>=_, require}
 use Rattle.lerc_words.proofs.Laws.{bind-is, require-is, ok-is, each-length}
 use Rattle.lerc_words.proofs.Tables.{all-true}
 use Rattle.lerc_numeric.specs.Numeric.{same}

@@ -1,10 +1,10 @@
 -- Tables with a number for each depth, and the numbers in them.
 -- Assumes nothing.
-use Prim.Native.Nat.{ℕ, zero, suc, _+_, _*_, _%_, _^_, _≤_, _<_}
-use mathlib.Core.Path.{_≡_, _∙_, sym, ap, refl}
+use Prim.Native.Nat.{ℕ, _+_, _*_, _≤_, _<_}
+use mathlib.Core.Path.{_≡_, _∙_}
 use mathlib.Core.Logic.{_≢_}
-use mathlib.Core.Bool.{Bool, true, false, cond, _&&_}
-use mathlib.Core.List.{List, [], _∷_}
+use mathlib.Core.Bool.{true, cond, _&&_}
+use mathlib.Core.List.{List}
 use native.Mathlib.Omega.{arith}
 use native.Mathlib.Decide.{decLt}
 use native.Mathlib.Numerals.{add-one}
@@ -14,7 +14,7 @@ use lib.ListN.{length, getD, set, replicate, length-set}
 use lib.Seq.{ext-getD, getD-set-same, getD-set-other}
 use lib.Dec.{ltb}
 use Rattle.lerc_words.specs.Res.{little}
-use Rattle.lerc_words.specs.Lists.{from, tabulate, allTo}
+use Rattle.lerc_words.specs.Lists.{tabulate}
 use Rattle.lerc_words.proofs.Laws.{Bytes, little-lt, little-word, byte-pow}
 use Rattle.lerc_words.proofs.Tables.{length-tabulate, getD-tabulate, from-same, replicate-from, all-none, all-suc}
 use Rattle.lerc_numeric.specs.Kinds.{typeSize, modulus, valueOf}

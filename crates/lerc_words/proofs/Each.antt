@@ -1,8 +1,8 @@
 -- A list's answers one by one, and an array that a loop fills with them.
 -- Assumes nothing.
 use mathlib.Core.Path.{_≡_, _∙_, sym, ap, refl}
-use mathlib.Core.List.{List, [], _∷_, _++_, append-assoc}
-use Prim.Native.Nat.{ℕ, zero, suc, _+_, _-_, _≤_, _<_, min}
+use mathlib.Core.List.{List, [], _∷_, _++_}
+use Prim.Native.Nat.{ℕ, zero, suc, _+_, _-_, _≤_, _<_}
 use native.Mathlib.Omega.{arith}
 use native.Mathlib.Numerals.{add-one}
 use lib.ListN.{length, getD, set, take, drop, replicate, length-append, length-take, length-drop, take-append-drop}
@@ -10,7 +10,7 @@ use lib.Seq.{set-at, drop-cons, append-snoc, take-suc, take-all}
 use Rattle.lerc_words.specs.declared.Refusal.{Refusal}
 use Rattle.lerc_words.specs.Res.{Res, ok, fail, _>>=_, each}
 use Rattle.lerc_words.specs.Lists.{over}
-use Rattle.lerc_words.proofs.Laws.{bind-is, bind-ok, bind-no, ok-is, each-length}
+use Rattle.lerc_words.proofs.Laws.{bind-is, ok-is, each-length}
 
 module _ {A B : Type 0} (f : A → Res B) where
   pub each-append : (xs ys : List A) {us vs : List B} → each f xs ≡ ok us → each f ys ≡ ok vs → each f (xs ++ ys) ≡ ok (us ++ vs)

@@ -6,7 +6,7 @@ use mathlib.Core.Bool.{Bool, true, false, cond, _&&_}
 use Prim.Native.Nat.{ℕ, zero, suc, _+_, _-_, _*_, _/_, _%_, _^_, _≤_, _<_, min}
 use native.Mathlib.Decide.{decLe}
 use native.Mathlib.Omega.{arith}
-use native.Mathlib.Nat.{pow-suc, pow-succ', pow-zero, pow-le-pow-right, mul-assoc, mul-zero, mul-add, mul-comm, zero-add, add-assoc, add-zero, suc-add, add-suc, one-mul, mul-add-div, add-mul-mod-self-left, add-mul-div-left, div-eq-of-lt, mod-eq-of-lt, one-le-pow}
+use native.Mathlib.Nat.{pow-suc, pow-succ', pow-zero, pow-le-pow-right, mul-assoc, mul-zero, zero-add, add-assoc, add-zero, suc-add, add-suc, one-mul, add-mul-mod-self-left, add-mul-div-left, div-eq-of-lt, mod-eq-of-lt, one-le-pow}
 use lib.ListN.{length, getD, List·getD-eq-default}
 use lib.Seq.{getD-append-add}
 use Rattle.lerc_words.specs.Res.{Res, ok, fail, _>>=_, refuse, require, each, little, wordAt, wordSays, wordSaid, wordRefused, accepts}
@@ -179,6 +179,16 @@ byte-lt s at v b e = rw (wordAt-is 1 s at v e .value) (little-lt 1 s at b)
 pub bind-is : {A B : Type 0} (m : Res A) (k : A → Res B) {b : B} → (m >>= k) ≡ ok b → (a : A) × (m ≡ ok a) × (k a ≡ ok b)
 bind-is (ok a) k e = (a, refl, e)
 bind-is (fail r) k e = absurd (let z : _≡_ {A = ℕ} 0 1 = cc in omega arith)
+
+-- an answer that only names another's refusal has it too
+pub bind-fail : {A B : Type 0} (m : Res A) (f : A → B) {r : Refusal} → (m >>= λ a. ok (f a)) ≡ fail r → m ≡ fail r
+bind-fail (ok a) f e = absurd (let z : _≡_ {A = ℕ} 0 1 = cc in omega arith)
+bind-fail (fail q) f e = cc
+
+-- and one that only counts what was accepted tells what that was
+pub bind-counts : {A B : Type 0} (m : Res A) (f : A → B) {b : B} → (m >>= λ a. ok (f a)) ≡ ok b → (a : A) × (m ≡ ok a) × (b ≡ f a)
+bind-counts (ok a) f e = (a, refl, cc)
+bind-counts (fail r) f e = absurd (let z : _≡_ {A = ℕ} 0 1 = cc in omega arith)
 
 pub require-is : (t : Bool) (n : ℕ) {a : Bool} → require t n ≡ ok a → t ≡ true
 require-is true n e = refl

@@ -1,7 +1,7 @@
 -- Laws of tables of a function, and of arrays filled from the front.
 -- Assumes nothing.
 use mathlib.Core.Path.{_≡_, _∙_, sym, ap, refl}
-use mathlib.Core.List.{List, [], _∷_, _++_, append-assoc}
+use mathlib.Core.List.{List, [], _∷_, _++_}
 use mathlib.Core.Bool.{Bool, true, false, _&&_}
 use Prim.Native.Nat.{ℕ, zero, suc, _+_, _-_, _≤_, _<_}
 use native.Mathlib.Omega.{arith}
@@ -9,7 +9,7 @@ use native.Mathlib.Decide.{decLt}
 use native.Mathlib.Numerals.{add-one}
 use native.Mathlib.Nat.{zero-add, not-suc-le-zero, le-of-suc-le-suc}
 use lib.ListN.{length, getD, set, take, drop, length-append, length-drop, replicate, length-take}
-use lib.Seq.{set-at, drop-cons, append-snoc, getD-append-add, ext-getD, getD-take}
+use lib.Seq.{set-at, drop-cons, append-snoc, ext-getD, getD-take}
 use Rattle.lerc_words.specs.Lists.{from, tabulate, allTo, over}
 
 pub length-from : {A : Type 0} (n i : ℕ) (f : ℕ → A) → length (from n i f) ≡ n

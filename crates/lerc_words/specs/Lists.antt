@@ -1,9 +1,9 @@
 -- Lists by place, and counts over places.
 -- Assumes nothing.
 use Prim.Native.Nat.{ℕ, zero, suc, _+_}
-use mathlib.Core.Bool.{Bool, true, false, cond, _&&_}
+use mathlib.Core.Bool.{Bool, true, cond, _&&_}
 use mathlib.Core.List.{List, [], _∷_, _++_}
-use lib.ListN.{length, getD, drop}
+use lib.ListN.{length, drop}
 
 -- f i, f (i + 1), ..: n of them
 unfoldable pub from : {A : Type 0} → ℕ → ℕ → (ℕ → A) → List A

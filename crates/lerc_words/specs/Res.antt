@@ -1,7 +1,7 @@
 -- An answer: a value, or a refusal. Reading goes front to back, and the first failing read decides the number:
 -- that is what `>>=` means, and no other definition says anything about order.
 -- Assumes nothing.
-use Prim.Native.Nat.{ℕ, zero, suc, _+_, _*_, _-_}
+use Prim.Native.Nat.{ℕ, zero, suc, _+_, _*_}
 use mathlib.Core.Bool.{Bool, true, false}
 use mathlib.Core.List.{List, [], _∷_}
 use lib.ListN.{length, getD}

@@ -5,12 +5,11 @@ use mathlib.Core.List.{List}
 use native.Mathlib.Omega.{arith}
 use denote.Ref.{now}
 use lib.ListN.{length}
-use Rattle.lerc_words.specs.Res.{ok}
 use Rattle.lerc_bits.specs.declared.Plan.{Plan}
-use Rattle.lerc_bits.specs.Bits.{plan, run, Kept}
+use Rattle.lerc_bits.specs.Bits.{run, unpacked, counts, Kept}
 use Rattle.lerc_bits.proofs.Run.{length-digits}
-use Rattle.lerc_bits.proofs.Plans.{plan-kept}
-use Rattle.lerc_bits.proofs.Answers.{refused, given, inspect-ok, inspect-no, counts-no, counts-by, unpacked-plain}
+use Rattle.lerc_bits.proofs.Plans.{inspected}
+use Rattle.lerc_bits.proofs.Answers.{refused, given, inspect-no, counts-no, unpacked-plain}
 use Rattle.lerc_bits.proofs.decode.Statement.{statement}
 use Rattle.lerc_bits.proofs.decode.Tie as tie
 
@@ -24,35 +23,29 @@ returns c =
 abbrev s : tie.After-a → List ℕ
 s k = now (k .before .before .before .before .args .s)
 
-abbrev start : tie.After-a → ℕ
-start k = k .before .before .before .before .args .start
-
 abbrev p : tie.After-a → Plan
 p k = k .a .given .0 .0
 
-found : (k : tie.After-a) → plan (s k) (start k) ≡ ok (p k)
-found k = inspect-ok (s k) (start k) (k .before .before .inspect .ensures) (k .a .given .1)
-
-kept : (k : tie.After-a) → Kept (length (s k)) (p k)
-kept k = plan-kept (s k) (start k) (λ i. omega (arith, k .before .before .before .shared-slice-known .given i)) (found k)
+seen : (k : tie.After-a) → (counts (s k) (k .before .before .before .before .args .start) ≡ unpacked (s k) (p k)) × Kept (length (s k)) (p k)
+seen k = inspected (s k) (k .before .before .before .before .args .start) (λ i. omega (arith, k .before .before .before .shared-slice-known .given i)) (k .before .before .inspect .ensures) (k .a .given .1)
 
 unpack-requires : tie.Need-unpack-requires
 unpack-requires c κs =
-    let f = kept (c .before .before .before .before) in
+    let f = seen (c .before .before .before .before) .1 in
     (omega arith, omega arith, omega arith, omega arith)
 
 returns-2 : tie.Need-returns-2
 returns-2 c =
     let k = c .before .before .before .before .before in
-    given (run (s k) (p k .at) (p k .n) (p k .width)) (p k .n) (counts-by (s k) (start k) (found k) ∙ unpacked-plain (s k) (p k) (c .before .before .if1 .taken)) (length-digits _ (p k .n) (p k .width)) (c .unpack .ensures)
+    given (run (s k) (p k .at) (p k .n) (p k .width)) (p k .n) (seen k .0 ∙ unpacked-plain (s k) (p k) (c .before .before .if1 .taken)) (length-digits _ (p k .n) (p k .width)) (c .unpack .ensures)
 
 decode-table-requires : tie.Need-decode-table-requires
-decode-table-requires c κs = (kept (c .before .before .before .before), omega arith)
+decode-table-requires c κs = (seen (c .before .before .before .before) .1, omega arith)
 
 returns-3 : tie.Need-returns-3
 returns-3 c =
     let k = c .before .before .before .before .before in
-    rw (counts-by (s k) (start k) (found k)) (c .decode-table .ensures)
+    rw (seen k .0) (c .decode-table .ensures)
 
 pub decode-spec : {M : Type 1} → statement M
 decode-spec =

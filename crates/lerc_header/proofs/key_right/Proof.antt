@@ -6,12 +6,6 @@ use borrow.Author.Needs.{needs}
 use Rattle.lerc_header.proofs.key_right.Statement.{statement}
 use Rattle.lerc_header.proofs.key_right.Tie as tie
 
-peek-requires : tie.Need-peek-requires
-peek-requires c κs = search needs
-
-quad-requires : tie.Need-quad-requires
-quad-requires c κs = search needs
-
 returns : tie.Need-returns
 unfolding keyRight
 returns c =
@@ -19,4 +13,4 @@ returns c =
     rw (c .before .peek .ensures, little-word 6 s 0 (λ i. omega (arith, c .before .before .shared-slice-known .given i)) (omega arith), c .quad .ensures)
 
 pub key-right-spec : {M : Type 1} → statement M
-key-right-spec = tie.close (tie.spec peek-requires quad-requires returns)
+key-right-spec = tie.close (tie.spec (λ c κs. search needs) (λ c κs. search needs) returns)

@@ -10,27 +10,9 @@ returns : tie.Need-returns
 unfolding headerSays
 returns c = rw (lt-leb _ _ (c .if1 .taken))
 
-key-right-requires : tie.Need-key-right-requires
-key-right-requires c κs = search needs
-
 returns-2 : tie.Need-returns-2
 unfolding headerSays
 returns-2 c = rw (le-leb _ _ (c .before .before .if1 .left), sym (c .before .key-right .ensures) ∙ not-true _ (c .if2 .taken))
-
-fields-requires : tie.Need-fields-requires
-fields-requires c κs = search needs
-
-held-requires : tie.Need-held-requires
-held-requires c κs = search needs
-
-enum-known-answer : tie.Need-enum-known-answer
-enum-known-answer c = search needs
-
-enum-told : tie.Need-enum-told
-enum-told c = search needs
-
-refusal-requires : tie.Need-refusal-requires
-refusal-requires c κs = search needs
 
 returns-3 : tie.Need-returns-3
 unfolding headerSays
@@ -58,12 +40,12 @@ read-header-spec =
     tie.close
     (tie.spec
     returns
-    key-right-requires
+    (λ c κs. search needs)
     returns-2
-    fields-requires
-    held-requires
-    enum-known-answer
-    enum-told
-    refusal-requires
+    (λ c κs. search needs)
+    (λ c κs. search needs)
+    (λ c. search needs)
+    (λ c. search needs)
+    (λ c κs. search needs)
     returns-3
     returns-4)

@@ -6,20 +6,10 @@ use borrow.Author.Needs.{needs}
 use Rattle.lerc_header.proofs.within_ceilings.Statement.{statement}
 use Rattle.lerc_header.proofs.within_ceilings.Tie as tie
 
-cast-factors : tie.Need-cast-factors
-cast-factors c = search needs
-
-cast-result : tie.Need-cast-result
-cast-result c = search needs
-
-cast-result-2 : tie.Need-cast-result-2
-cast-result-2 c = search needs
-
 mul-result : tie.Need-mul-result
-mul-result c = let a = c .before .before .before .before .before .before .args in record { fits = product-fits (a .h .rows) (a .h .columns) (omega arith) (omega arith) }
-
-cast-result-3 : tie.Need-cast-result-3
-cast-result-3 c = search needs
+mul-result c =
+    let a = c .before .before .before .before .before .before .args in
+    record { fits = product-fits (a .h .rows) (a .h .columns) (omega arith) (omega arith) }
 
 mul-result-2 : tie.Need-mul-result-2
 mul-result-2 c = record { fits = factors-fit _ _ _ (c .before .before .before .if1 .taken) }
@@ -36,11 +26,11 @@ pub within-ceilings-spec : {M : Type 1} → statement M
 within-ceilings-spec =
     tie.close
     (tie.spec
-    cast-factors
-    cast-result
-    cast-result-2
+    (λ c. search needs)
+    (λ c. search needs)
+    (λ c. search needs)
     mul-result
-    cast-result-3
+    (λ c. search needs)
     mul-result-2
     returns
     returns-2)

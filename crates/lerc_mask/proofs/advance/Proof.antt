@@ -4,26 +4,11 @@ use borrow.Author.Needs.{needs}
 use Rattle.lerc_mask.proofs.advance.Statement.{statement}
 use Rattle.lerc_mask.proofs.advance.Tie as tie
 
-read-step-requires : tie.Need-read-step-requires
-read-step-requires c κs = search needs
-
-enum-known-run : tie.Need-enum-known-run
-enum-known-run c = search needs
-
 copied-requires : tie.Need-copied-requires
 copied-requires c κs = (rw (c .before .run .given .1) at (c .before .before .before .read-step .ensures .1), c .before .before .before .before .before .pre)
 
-enum-known-run-2 : tie.Need-enum-known-run-2
-enum-known-run-2 c = search needs
-
 repeated-requires : tie.Need-repeated-requires
 repeated-requires c κs = (rw (c .before .run2 .given .1) at (c .before .before .before .read-step .ensures .1), c .before .before .before .before .before .pre)
-
-enum-told : tie.Need-enum-told
-enum-told c = search needs
-
-enum-told-2 : tie.Need-enum-told-2
-enum-told-2 c = search needs
 
 returns : tie.Need-returns
 unfolding goOn
@@ -45,13 +30,13 @@ pub advance-spec : {M : Type 1} → statement M
 advance-spec =
     tie.close
     (tie.spec
-    read-step-requires
-    enum-known-run
+    (λ c κs. search needs)
+    (λ c. search needs)
     copied-requires
-    enum-known-run-2
+    (λ c. search needs)
     repeated-requires
-    enum-told
-    enum-told-2
+    (λ c. search needs)
+    (λ c. search needs)
     returns
     returns-2
     returns-3

@@ -7,42 +7,6 @@ use borrow.Author.Needs.{needs}
 use Rattle.lerc_mask.proofs.copied.Statement.{statement}
 use Rattle.lerc_mask.proofs.copied.Tie as tie
 
-ones-of-requires : tie.Need-ones-of-requires
-ones-of-requires c κs = search needs
-
-add-total : tie.Need-add-total
-add-total c = search needs
-
-add-ones-in : tie.Need-add-ones-in
-add-ones-in c = search needs
-
-sub-ones-in : tie.Need-sub-ones-in
-sub-ones-in c = search needs
-
-ones-in-requires : tie.Need-ones-in-requires
-ones-in-requires c κs = search needs
-
-add-total-2 : tie.Need-add-total-2
-add-total-2 c = search needs
-
-add-t6 : tie.Need-add-t6
-add-t6 c = search needs
-
-add-t10 : tie.Need-add-t10
-add-t10 c = search needs
-
-sub-t9 : tie.Need-sub-t9
-sub-t9 c = search needs
-
-add-t8 : tie.Need-add-t8
-add-t8 c = search needs
-
-add-t7 : tie.Need-add-t7
-add-t7 c = search needs
-
-shared-slice-read-t12 : tie.Need-shared-slice-read-t12
-shared-slice-read-t12 c = search needs
-
 returns : tie.Need-returns
 returns c =
     let a = c .before .before .before .before .before .before .args in
@@ -61,16 +25,16 @@ pub copied-spec : {M : Type 1} → statement M
 copied-spec =
     tie.close
     (tie.spec
-    ones-of-requires
-    add-total
-    add-ones-in
-    sub-ones-in
-    ones-in-requires
-    add-total-2
-    add-t6
-    add-t10
-    sub-t9
-    add-t8
-    add-t7
-    shared-slice-read-t12
+    (λ c κs. search needs)
+    (λ c. search needs)
+    (λ c. search needs)
+    (λ c. search needs)
+    (λ c κs. search needs)
+    (λ c. search needs)
+    (λ c. search needs)
+    (λ c. search needs)
+    (λ c. search needs)
+    (λ c. search needs)
+    (λ c. search needs)
+    (λ c. search needs)
     returns)

@@ -19,44 +19,20 @@ loop-holds c =
     let a = c .args in
     pasting-start (now (a .out)) (drop (a .from) (now (a .s))) (a .to) (a .n) (omega arith) (simp length-drop (omega arith))
 
-add-out : tie.Need-add-out Inv-loop μ-loop
-add-out c = search needs
-
-shared-slice-read-out : tie.Need-shared-slice-read-out Inv-loop μ-loop
-shared-slice-read-out c = search needs
-
-add-out-2 : tie.Need-add-out-2 Inv-loop μ-loop
-add-out-2 c = search needs
-
 slice-write-out : tie.Need-slice-write-out Inv-loop μ-loop
-slice-write-out c =
-    let l = c .before .before in
-    let a = l .before .args in
-    omega (arith, pasting-length (now (a .out)) (drop (a .from) (now (a .s))) (a .to) (a .n) (l .loop .k) (l .loop .out) (l .loop .inv))
-
-add-k : tie.Need-add-k Inv-loop μ-loop
-add-k c = search needs
-
-loop-less : tie.Need-loop-less Inv-loop μ-loop
-loop-less c = search needs
+slice-write-out c = omega (arith, pasting-length (c .before .before .loop .inv))
 
 loop-again : tie.Need-loop-again Inv-loop μ-loop
 loop-again c =
     let l = c .before .before in
     let a = l .before .args in
-    pasting-more (now (a .out)) (drop (a .from) (now (a .s))) (a .to) (a .n) (l .loop .k) (l .loop .out) (l .loop .inv) _ (omega arith) (getD-drop (a .from) (now (a .s)) (l .loop .k) 0)
+    pasting-more (l .loop .inv) _ (omega arith) (getD-drop (a .from) (now (a .s)) (l .loop .k) 0)
 
 same-length : tie.Need-same-length Inv-loop μ-loop
-same-length c =
-    let l = c .before in
-    let a = l .before .args in
-    pasting-length (now (a .out)) (drop (a .from) (now (a .s))) (a .to) (a .n) (l .loop .k) (l .loop .out) (l .loop .inv)
+same-length c = pasting-length (c .before .loop .inv)
 
 returns : tie.Need-returns Inv-loop μ-loop
-returns c =
-    let l = c .before in
-    let a = l .before .args in
-    pasting-done (now (a .out)) (drop (a .from) (now (a .s))) (a .to) (a .n) (l .loop .k) (l .loop .out) (l .loop .inv) (omega arith)
+returns c = pasting-done (c .before .loop .inv) (omega arith)
 
 pub copy-spec : {M : Type 1} → statement M
 copy-spec =
@@ -65,12 +41,12 @@ copy-spec =
     Inv-loop
     μ-loop
     loop-holds
-    add-out
-    shared-slice-read-out
-    add-out-2
+    (λ c. search needs)
+    (λ c. search needs)
+    (λ c. search needs)
     slice-write-out
-    add-k
-    loop-less
+    (λ c. search needs)
+    (λ c. search needs)
     loop-again
     same-length
     returns)

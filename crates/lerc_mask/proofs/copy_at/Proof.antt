@@ -11,9 +11,6 @@ unfolding copyAt
 returns c =
     rw (c .if1 .taken)
 
-sub-if2 : tie.Need-sub-if2
-sub-if2 c = search needs
-
 returns-2 : tie.Need-returns-2
 unfolding copyAt
 returns-2 c =
@@ -39,4 +36,4 @@ returns-4 c =
     rw (lt-ltb 0 (a .n) p, le-leb (a .at + a .n) (a .len) q, le-leb (a .n) (a .left) (c .if3 .left))
 
 pub copy-at-spec : {M : Type 1} → statement M
-copy-at-spec = tie.close (tie.spec returns sub-if2 returns-2 returns-3 returns-4)
+copy-at-spec = tie.close (tie.spec returns (λ c. search needs) returns-2 returns-3 returns-4)

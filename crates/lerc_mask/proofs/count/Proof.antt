@@ -11,9 +11,6 @@ use Rattle.lerc_mask.proofs.Pixels.{valid-past}
 use Rattle.lerc_mask.proofs.count.Statement.{statement}
 use Rattle.lerc_mask.proofs.count.Tie as tie
 
-ones-in-requires : tie.Need-ones-in-requires
-ones-in-requires c κs = search needs
-
 returns : tie.Need-returns
 returns c =
     let a = c .before .before .before .args in
@@ -21,15 +18,6 @@ returns c =
     let b : Bytes m = λ i. omega (arith, c .before .before .shared-slice-known .given i) in
     let e : a .pixels ≡ 8 * length m + (a .pixels - 8 * length m) = omega arith in
     c .ones-in .ensures .0 ∙ sym (valid-bytes m (length m) b (omega arith)) ∙ sym (valid-past m (8 * length m) (a .pixels - 8 * length m) (omega arith)) ∙ ap (λ (x : ℕ). validBelow x m) (sym e)
-
-ones-in-requires-2 : tie.Need-ones-in-requires-2
-ones-in-requires-2 c κs = search needs
-
-shared-slice-read-leading : tie.Need-shared-slice-read-leading
-shared-slice-read-leading c = search needs
-
-leading-requires : tie.Need-leading-requires
-leading-requires c κs = search needs
 
 add-result : tie.Need-add-result
 add-result c =
@@ -47,10 +35,10 @@ pub count-spec : {M : Type 1} → statement M
 count-spec =
     tie.close
     (tie.spec
-    ones-in-requires
+    (λ c κs. search needs)
     returns
-    ones-in-requires-2
-    shared-slice-read-leading
-    leading-requires
+    (λ c κs. search needs)
+    (λ c. search needs)
+    (λ c κs. search needs)
     add-result
     returns-2)

@@ -12,18 +12,6 @@ returns c =
     let a = c .before .before .args in
     rw (List·getD-eq-default (now (a .mask)) 0 (c .if1 .taken), zero-div)
 
-sub-k : tie.Need-sub-k
-sub-k c = search needs
-
-shared-slice-read-wide : tie.Need-shared-slice-read-wide
-shared-slice-read-wide c = search needs
-
-wide-requires : tie.Need-wide-requires
-wide-requires c κs = search needs
-
-shr-result : tie.Need-shr-result
-shr-result c = search needs
-
 returns-2 : tie.Need-returns-2
 unfolding pixelValid
 returns-2 c =
@@ -31,4 +19,4 @@ returns-2 c =
 
 pub is-valid-spec : {M : Type 1} → statement M
 is-valid-spec =
-    tie.close (tie.spec returns sub-k shared-slice-read-wide wide-requires shr-result returns-2)
+    tie.close (tie.spec returns (λ c. search needs) (λ c. search needs) (λ c κs. search needs) (λ c. search needs) returns-2)

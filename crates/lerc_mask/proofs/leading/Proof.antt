@@ -7,15 +7,6 @@ use lib.Pow.{shr-lt}
 use Rattle.lerc_mask.proofs.leading.Statement.{statement}
 use Rattle.lerc_mask.proofs.leading.Tie as tie
 
-sub-k : tie.Need-sub-k
-sub-k c = search needs
-
-cast-result : tie.Need-cast-result
-cast-result c = search needs
-
-shr-result : tie.Need-shr-result
-shr-result c = search needs
-
 cast-result-2 : tie.Need-cast-result-2
 cast-result-2 c =
     let a = c .args in
@@ -33,4 +24,4 @@ returns c =
     (refl, h)
 
 pub leading-spec : {M : Type 1} → statement M
-leading-spec = tie.close (tie.spec sub-k cast-result shr-result cast-result-2 returns)
+leading-spec = tie.close (tie.spec (λ c. search needs) (λ c. search needs) (λ c. search needs) cast-result-2 returns)

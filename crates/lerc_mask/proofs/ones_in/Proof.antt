@@ -21,24 +21,9 @@ unfolding onesAll
 loop-holds c =
     (omega arith, omega arith, refl)
 
-add-ones-of : tie.Need-add-ones-of Inv-loop μ-loop
-add-ones-of c = search needs
-
-shared-slice-read-ones-of : tie.Need-shared-slice-read-ones-of Inv-loop μ-loop
-shared-slice-read-ones-of c = search needs
-
-ones-of-requires : tie.Need-ones-of-requires Inv-loop μ-loop
-ones-of-requires c κs = search needs
-
 add-total : tie.Need-add-total Inv-loop μ-loop
 add-total c =
     omega (arith, c .ones-of .ensures .1, c .before .before .before .before .before .pre .1)
-
-add-k : tie.Need-add-k Inv-loop μ-loop
-add-k c = search needs
-
-loop-less : tie.Need-loop-less Inv-loop μ-loop
-loop-less c = search needs
 
 loop-again : tie.Need-loop-again Inv-loop μ-loop
 loop-again c =
@@ -62,11 +47,11 @@ ones-in-spec =
     Inv-loop
     μ-loop
     loop-holds
-    add-ones-of
-    shared-slice-read-ones-of
-    ones-of-requires
+    (λ c. search needs)
+    (λ c. search needs)
+    (λ c κs. search needs)
     add-total
-    add-k
-    loop-less
+    (λ c. search needs)
+    (λ c. search needs)
     loop-again
     returns)

@@ -3,11 +3,8 @@ use borrow.Author.Needs.{needs}
 use Rattle.lerc_mask.proofs.ones_of.Statement.{statement}
 use Rattle.lerc_mask.proofs.ones_of.Tie as tie
 
-leading-requires : tie.Need-leading-requires
-leading-requires c κs = search needs
-
 returns : tie.Need-returns
 returns c = rw (div-one) at (c .leading .ensures)
 
 pub ones-of-spec : {M : Type 1} → statement M
-ones-of-spec = tie.close (tie.spec leading-requires returns)
+ones-of-spec = tie.close (tie.spec (λ c κs. search needs) returns)

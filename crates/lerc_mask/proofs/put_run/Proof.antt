@@ -11,12 +11,6 @@ use borrow.Author.Needs.{needs}
 use Rattle.lerc_mask.proofs.put_run.Statement.{statement}
 use Rattle.lerc_mask.proofs.put_run.Tie as tie
 
-read-step-requires : tie.Need-read-step-requires
-read-step-requires c κs = search needs
-
-enum-known-run : tie.Need-enum-known-run
-enum-known-run c = search needs
-
 add-copy : tie.Need-add-copy
 add-copy c =
     let f = rw (c .before .run .given .1) at (c .before .before .before .read-step .ensures .1) in
@@ -41,9 +35,6 @@ add-t16 : tie.Need-add-t16
 add-t16 c =
     let f = rw (c .before .before .before .before .before .run .given .1) at (c .before .before .before .before .before .before .before .read-step .ensures .1) in
     omega arith
-
-enum-known-run-2 : tie.Need-enum-known-run-2
-enum-known-run-2 c = search needs
 
 add-b : tie.Need-add-b
 add-b c =
@@ -70,15 +61,6 @@ add-t23 c =
     let f = rw (c .before .before .before .before .before .before .run2 .given .1) at (c .before .before .before .before .before .before .before .before .read-step .ensures .1) in
     omega arith
 
-enum-told : tie.Need-enum-told
-enum-told c = search needs
-
-enum-told-2 : tie.Need-enum-told-2
-enum-told-2 c = search needs
-
-same-length : tie.Need-same-length
-same-length c = search needs
-
 returns : tie.Need-returns
 unfolding putOn putOut
 returns c =
@@ -89,9 +71,6 @@ returns c =
     let f = rw (c .before .before .before .before .before .run .given .1) at (c .before .before .before .before .before .before .before .read-step .ensures .1) in
     let l = length-copied s (a .at + 2) n (f .1) in
     (rw (e, l), rw (c .before .before .copy .ensures, e, l) (ap (λ (x : List ℕ). take (a .made) (now (a .out)) ++ x ++ drop (a .made + n) (now (a .out))) (sym (take-all n (take n (drop (a .at + 2) s)) (rw (l) (omega arith))))))
-
-same-length-2 : tie.Need-same-length-2
-same-length-2 c = search needs
 
 returns-2 : tie.Need-returns-2
 unfolding putOn putOut
@@ -115,24 +94,24 @@ pub put-run-spec : {M : Type 1} → statement M
 put-run-spec =
     tie.close
     (tie.spec
-    read-step-requires
-    enum-known-run
+    (λ c κs. search needs)
+    (λ c. search needs)
     add-copy
     copy-requires
     add-t12
     add-t15
     add-t16
-    enum-known-run-2
+    (λ c. search needs)
     add-b
     shared-slice-read-b
     fill-requires
     add-t17
     add-t23
-    enum-told
-    enum-told-2
-    same-length
+    (λ c. search needs)
+    (λ c. search needs)
+    (λ c. search needs)
     returns
-    same-length-2
+    (λ c. search needs)
     returns-2
     returns-3
     returns-4)

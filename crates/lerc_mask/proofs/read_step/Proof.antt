@@ -17,15 +17,6 @@ stands c =
     let a = c .before .before .before .before .before .args in
     wordAt-is 2 (now (a .s)) (a .at) (c .before .read .given .0 .0) (read-ok (now (a .s)) (a .at) 2 (omega arith) (c .before .before .before .word .ensures) (c .before .read .given .1))
 
-word-requires : tie.Need-word-requires
-word-requires c κs = search needs
-
-enum-known-read : tie.Need-enum-known-read
-enum-known-read c = search needs
-
-enum-told : tie.Need-enum-told
-enum-told c = search needs
-
 returns : tie.Need-returns
 returns c =
     let a = c .before .before .before .before .args in
@@ -35,9 +26,6 @@ returns c =
 
 add-end-at : tie.Need-add-end-at
 add-end-at c = omega (arith, stands (c .before) .inside)
-
-end-at-requires : tie.Need-end-at-requires
-end-at-requires c κs = search needs
 
 returns-2 : tie.Need-returns-2
 returns-2 c =
@@ -63,9 +51,6 @@ sub-repeat-at c =
     let a = c .before .before .before .before .before .before .before .args in
     omega (arith, stands (c .before .before) .value, little-lt 2 (now (a .s)) (a .at) (bytes (c .before .before .before .before .before .before)))
 
-repeat-at-requires : tie.Need-repeat-at-requires
-repeat-at-requires c κs = search needs
-
 returns-4 : tie.Need-returns-4
 returns-4 c =
     let a = c .before .before .before .before .before .before .before .before .args in
@@ -75,17 +60,17 @@ pub read-step-spec : {M : Type 1} → statement M
 read-step-spec =
     tie.close
     (tie.spec
-    word-requires
-    enum-known-read
-    enum-told
+    (λ c κs. search needs)
+    (λ c. search needs)
+    (λ c. search needs)
     returns
     add-end-at
-    end-at-requires
+    (λ c κs. search needs)
     returns-2
     add-copy-at
     copy-at-requires
     returns-3
     add-repeat-at
     sub-repeat-at
-    repeat-at-requires
+    (λ c κs. search needs)
     returns-4)

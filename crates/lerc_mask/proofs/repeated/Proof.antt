@@ -8,24 +8,6 @@ use borrow.Author.Needs.{needs}
 use Rattle.lerc_mask.proofs.repeated.Statement.{statement}
 use Rattle.lerc_mask.proofs.repeated.Tie as tie
 
-add-b : tie.Need-add-b
-add-b c = search needs
-
-shared-slice-read-b : tie.Need-shared-slice-read-b
-shared-slice-read-b c = search needs
-
-ones-of-requires : tie.Need-ones-of-requires
-ones-of-requires c κs = search needs
-
-add-total : tie.Need-add-total
-add-total c = search needs
-
-sub-total : tie.Need-sub-total
-sub-total c = search needs
-
-ones-of-requires-2 : tie.Need-ones-of-requires-2
-ones-of-requires-2 c κs = search needs
-
 mul-total : tie.Need-mul-total
 mul-total c =
     let a = c .before .before .before .before .before .args in
@@ -38,12 +20,6 @@ add-total-2 c =
     let q : (a .n - 1) * c .ones-of2 .result ≤ (a .n - 1) * 8 = mul-le-mul-left (a .n - 1) (c .ones-of2 .ensures .1) in
     omega arith
 
-add-t7 : tie.Need-add-t7
-add-t7 c = search needs
-
-sub-t13 : tie.Need-sub-t13
-sub-t13 c = search needs
-
 returns : tie.Need-returns
 returns c =
     let a = c .before .before .before .before .before .before .args in
@@ -54,14 +30,14 @@ pub repeated-spec : {M : Type 1} → statement M
 repeated-spec =
     tie.close
     (tie.spec
-    add-b
-    shared-slice-read-b
-    ones-of-requires
-    add-total
-    sub-total
-    ones-of-requires-2
+    (λ c. search needs)
+    (λ c. search needs)
+    (λ c κs. search needs)
+    (λ c. search needs)
+    (λ c. search needs)
+    (λ c κs. search needs)
     mul-total
     add-total-2
-    add-t7
-    sub-t13
+    (λ c. search needs)
+    (λ c. search needs)
     returns)

@@ -12,32 +12,8 @@ Inv-loop mask kept₀ n k₀ kept k = (k ≤ n) × (n ≤ length mask) × (n ≤
 abbrev μ-loop : tie.MeasureT-loop
 μ-loop mask kept₀ n k₀ kept k = n - k
 
-lesser-requires : tie.Need-lesser-requires Inv-loop μ-loop
-lesser-requires c κs = search needs
-
-loop-holds : tie.Need-loop-holds Inv-loop μ-loop
-loop-holds c = search needs
-
-shared-slice-read-kept : tie.Need-shared-slice-read-kept Inv-loop μ-loop
-shared-slice-read-kept c = search needs
-
-slice-write-kept : tie.Need-slice-write-kept Inv-loop μ-loop
-slice-write-kept c = search needs
-
-add-k : tie.Need-add-k Inv-loop μ-loop
-add-k c = search needs
-
-loop-less : tie.Need-loop-less Inv-loop μ-loop
-loop-less c = search needs
-
 loop-again : tie.Need-loop-again Inv-loop μ-loop
 loop-again c = (omega arith, omega arith, omega arith, simp length-set (omega arith))
-
-same-length : tie.Need-same-length Inv-loop μ-loop
-same-length c = search needs
-
-returns : tie.Need-returns Inv-loop μ-loop
-returns c = search needs
 
 pub keep-spec : {M : Type 1} → statement M
 keep-spec =
@@ -45,12 +21,12 @@ keep-spec =
     (tie.spec
     Inv-loop
     μ-loop
-    lesser-requires
-    loop-holds
-    shared-slice-read-kept
-    slice-write-kept
-    add-k
-    loop-less
+    (λ c κs. search needs)
+    (λ c. search needs)
+    (λ c. search needs)
+    (λ c. search needs)
+    (λ c. search needs)
+    (λ c. search needs)
     loop-again
-    same-length
-    returns)
+    (λ c. search needs)
+    (λ c. search needs))

@@ -9,23 +9,11 @@ use Rattle.lerc_numeric.proofs.to_integer.Tie as tie
 returns : tie.Need-returns
 returns c = cut-kind _ _ (c .if1 .taken)
 
-exponent-requires : tie.Need-exponent-requires
-exponent-requires c κs = search needs
-
 returns-2 : tie.Need-returns-2
 returns-2 c = cut-large _ _ _ (c .before .exponent .ensures) (c .before .before .if1 .left) (c .if2 .taken)
 
-whole-requires : tie.Need-whole-requires
-whole-requires c κs = search needs
-
-bound-requires : tie.Need-bound-requires
-bound-requires c κs = search needs
-
 returns-3 : tie.Need-returns-3
 returns-3 c = cut-out _ _ _ _ (c .before .before .whole .ensures) (c .before .bound .ensures) (c .if3 .taken)
-
-modulus-requires : tie.Need-modulus-requires
-modulus-requires c κs = search needs
 
 sub-t12 : tie.Need-sub-t12
 sub-t12 c =
@@ -52,12 +40,12 @@ to-integer-spec =
     tie.close
     (tie.spec
     returns
-    exponent-requires
+    (λ c κs. search needs)
     returns-2
-    whole-requires
-    bound-requires
+    (λ c κs. search needs)
+    (λ c κs. search needs)
     returns-3
-    modulus-requires
+    (λ c κs. search needs)
     sub-t12
     rem-t13
     returns-4

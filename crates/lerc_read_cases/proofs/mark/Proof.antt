@@ -12,29 +12,8 @@ Inv-loop kept₀ expect n room k₀ kept k = (k ≤ room) × (room ≤ length ke
 abbrev μ-loop : tie.MeasureT-loop
 μ-loop kept₀ expect n room k₀ kept k = room - k
 
-loop-holds : tie.Need-loop-holds Inv-loop μ-loop
-loop-holds c = search needs
-
-wanted-byte-requires : tie.Need-wanted-byte-requires Inv-loop μ-loop
-wanted-byte-requires c κs = search needs
-
-slice-write-kept : tie.Need-slice-write-kept Inv-loop μ-loop
-slice-write-kept c = search needs
-
-add-k : tie.Need-add-k Inv-loop μ-loop
-add-k c = search needs
-
-loop-less : tie.Need-loop-less Inv-loop μ-loop
-loop-less c = search needs
-
 loop-again : tie.Need-loop-again Inv-loop μ-loop
 loop-again c = (omega arith, omega arith, simp length-set (omega arith))
-
-same-length : tie.Need-same-length Inv-loop μ-loop
-same-length c = search needs
-
-returns : tie.Need-returns Inv-loop μ-loop
-returns c = search needs
 
 pub mark-spec : {M : Type 1} → statement M
 mark-spec =
@@ -42,11 +21,11 @@ mark-spec =
     (tie.spec
     Inv-loop
     μ-loop
-    loop-holds
-    wanted-byte-requires
-    slice-write-kept
-    add-k
-    loop-less
+    (λ c. search needs)
+    (λ c κs. search needs)
+    (λ c. search needs)
+    (λ c. search needs)
+    (λ c. search needs)
     loop-again
-    same-length
-    returns)
+    (λ c. search needs)
+    (λ c. search needs))

@@ -11,18 +11,6 @@ returns c = offset-kind-past _ (c .before .args .code) (c .if1 .taken)
 returns-2 : tie.Need-returns-2
 returns-2 c = offset-code-past _ _ (c .before .if1 .left) (c .if2 .taken)
 
-mul-k : tie.Need-mul-k
-mul-k c = search needs
-
-index-1-k : tie.Need-index-1-k
-index-1-k c = search needs
-
-index-2-k : tie.Need-index-2-k
-index-2-k c = search needs
-
-cast-t25 : tie.Need-cast-t25
-cast-t25 c = search needs
-
 returns-3 : tie.Need-returns-3
 unfolding offsetKinds
 returns-3 c = offset-ok _ _ _ (c .before .before .before .if1 .left) (c .before .before .if2 .left) refl (c .if3 .taken)
@@ -33,4 +21,4 @@ returns-4 c = offset-none (c .before .before .before .before .args .kind) (c .be
 
 pub offset-kind-spec : {M : Type 1} → statement M
 offset-kind-spec =
-    tie.close (tie.spec returns returns-2 mul-k index-1-k index-2-k cast-t25 returns-3 returns-4)
+    tie.close (tie.spec returns returns-2 (λ c. search needs) (λ c. search needs) (λ c. search needs) (λ c. search needs) returns-3 returns-4)

@@ -1,16 +1,13 @@
 use borrow.Author.Needs.{needs}
-use Prim.Native.Nat.{ℕ, suc, _≤_, _<_, _-_, _+_, _*_, _^_, min}
-use mathlib.Core.Path.{_≡_, _∙_, sym, ap, refl}
+use Prim.Native.Nat.{suc, _≤_, _<_, _-_, _^_, min}
+use mathlib.Core.Path.{_≡_, _∙_}
 use native.Mathlib.Omega.{arith}
 use denote.Ref.{now}
-use lib.ListN.{length, getD}
+use lib.ListN.{length}
 use Rattle.lerc_words.specs.Res.{little}
 use Rattle.lerc_words.proofs.Laws.{Bytes, little-suc, little-room, little-tail}
 use Rattle.lerc_words.proofs.tail.Statement.{statement}
 use Rattle.lerc_words.proofs.tail.Tie as tie
-use Rattle.lerc_words.proofs.tail.Reads as reads
-use Rattle.lerc_words.proofs.tail.Lts as lts
-use Rattle.lerc_words.proofs.wide.Reads as wide-reads
 
 abbrev Inv-loop : tie.InvT-loop
 Inv-loop s at v₀ k₀ v k = (k ≤ length s) × (min at (length s) ≤ k) × (v ≡ little (length s - k) s k)
@@ -28,7 +25,6 @@ room c =
     let b : Bytes s = λ i. omega (arith, l .before .shared-slice-known .given i) in
     rw (l .loop .inv .2) (little-room (length s - k) s k b (omega arith))
 
--- src/lib.rt:48:5
 loop-holds : tie.Need-loop-holds Inv-loop μ-loop
 unfolding little
 loop-holds c =
@@ -36,34 +32,15 @@ loop-holds c =
     let e : length s - length s ≡ 0 = omega arith in
     (omega arith, omega arith, rw (e))
 
--- src/lib.rt:49:9
-sub-k : tie.Need-sub-k Inv-loop μ-loop
-sub-k c = search needs
-
--- src/lib.rt:50:13
 mul-v : tie.Need-mul-v Inv-loop μ-loop
 mul-v c =
     omega (arith, room c)
 
--- src/lib.rt:50:28
-shared-slice-read-wide : tie.Need-shared-slice-read-wide Inv-loop μ-loop
-shared-slice-read-wide c = search needs
-
--- src/lib.rt:50:23
-wide-requires : tie.Need-wide-requires Inv-loop μ-loop
-wide-requires c κs = search needs
-
--- src/lib.rt:50:13
 add-v : tie.Need-add-v Inv-loop μ-loop
 add-v c =
     let l = c .before .before .before in
     omega (arith, room (c .before .before), c .wide .ensures, c .before .shared-slice-known2 .given (l .loop .k - 1))
 
--- src/lib.rt:48:5
-loop-less : tie.Need-loop-less Inv-loop μ-loop
-loop-less c = search needs
-
--- src/lib.rt:48:5
 loop-again : tie.Need-loop-again Inv-loop μ-loop
 loop-again c =
     let l = c .before .before .before in
@@ -74,7 +51,6 @@ loop-again c =
     let d : suc (k - 1) ≡ k = omega arith in
     (omega arith, omega arith, rw (c .wide .ensures, l .loop .inv .2, e, little-suc, d) (omega arith))
 
--- src/lib.rt:42:1
 returns : tie.Need-returns Inv-loop μ-loop
 returns c =
     let l = c .before in
@@ -89,11 +65,11 @@ tail-spec =
     Inv-loop
     μ-loop
     loop-holds
-    sub-k
+    (λ c. search needs)
     mul-v
-    shared-slice-read-wide
-    wide-requires
+    (λ c. search needs)
+    (λ c κs. search needs)
     add-v
-    loop-less
+    (λ c. search needs)
     loop-again
     returns)

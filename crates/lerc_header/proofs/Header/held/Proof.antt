@@ -6,29 +6,22 @@ use borrow.Author.Needs.{needs}
 use Rattle.lerc_header.proofs.Header.held.Statement.{statement}
 use Rattle.lerc_header.proofs.Header.held.Tie as tie
 
-fields-right-requires : tie.Need-fields-right-requires
-fields-right-requires c κs = search needs
-
 returns : tie.Need-returns
 unfolding held
 returns c = rw (sym (c .before .fields-right .ensures) ∙ not-true _ (c .if1 .taken))
 
-within-ceilings-requires : tie.Need-within-ceilings-requires
-within-ceilings-requires c κs = search needs
-
 returns-2 : tie.Need-returns-2
 unfolding held
 returns-2 c = rw (sym (c .before .before .before .fields-right .ensures) ∙ not-false _ (c .before .before .if1 .left), sym (c .before .within-ceilings .ensures) ∙ not-true _ (c .if2 .taken))
-
-cast-if3 : tie.Need-cast-if3
-cast-if3 c = search needs
 
 returns-3 : tie.Need-returns-3
 unfolding held
 returns-3 c = rw (sym (c .before .before .before .before .before .fields-right .ensures) ∙ not-false _ (c .before .before .before .before .if1 .left), sym (c .before .before .before .within-ceilings .ensures) ∙ not-false _ (c .before .before .if2 .left), lt-leb _ _ (c .if3 .taken))
 
 measure-requires : tie.Need-measure-requires
-measure-requires c κs = let h = c .before .before .before .before .before .before .args .self in shaped h (fields-right h (sym (c .before .before .before .before .before .fields-right .ensures) ∙ not-false _ (c .before .before .before .before .if1 .left))) (within-ceilings h (sym (c .before .before .before .within-ceilings .ensures) ∙ not-false _ (c .before .before .if2 .left)))
+measure-requires c κs =
+    let h = c .before .before .before .before .before .before .args .self in
+    shaped h (fields-right h (sym (c .before .before .before .before .before .fields-right .ensures) ∙ not-false _ (c .before .before .before .before .if1 .left))) (within-ceilings h (sym (c .before .before .before .within-ceilings .ensures) ∙ not-false _ (c .before .before .if2 .left)))
 
 returns-4 : tie.Need-returns-4
 unfolding held
@@ -38,11 +31,11 @@ pub held-spec : {M : Type 1} → statement M
 held-spec =
     tie.close
     (tie.spec
-    fields-right-requires
+    (λ c κs. search needs)
     returns
-    within-ceilings-requires
+    (λ c κs. search needs)
     returns-2
-    cast-if3
+    (λ c. search needs)
     returns-3
     measure-requires
     returns-4)

@@ -7,32 +7,14 @@ use borrow.Author.Needs.{needs}
 use Rattle.lerc_numeric.proofs.add.plus.Statement.{statement}
 use Rattle.lerc_numeric.proofs.add.plus.Tie as tie
 
-sub-s : tie.Need-sub-s
-sub-s c = search needs
-
-sub-t : tie.Need-sub-t
-sub-t c = search needs
-
-total-requires : tie.Need-total-requires
-total-requires c κs = search needs
-
 add-result : tie.Need-add-result
 add-result c = record { fits = weight-fits _ _ _ (c .before .before .before .fits .a .fits) (c .total .ensures) }
-
-total-requires-2 : tie.Need-total-requires-2
-total-requires-2 c κs = search needs
 
 add-result-2 : tie.Need-add-result-2
 add-result-2 c = record { fits = weight-fits _ _ _ (c .before .before .before .fits .a .fits) (c .total2 .ensures) }
 
-rest-requires : tie.Need-rest-requires
-rest-requires c κs = search needs
-
 add-result-3 : tie.Need-add-result-3
 add-result-3 c = record { fits = weight-fits _ _ _ (c .before .before .before .fits .b .fits) (c .rest .ensures) }
-
-rest-requires-2 : tie.Need-rest-requires-2
-rest-requires-2 c κs = search needs
 
 add-result-4 : tie.Need-add-result-4
 add-result-4 c = record { fits = weight-fits _ _ _ (c .before .before .before .before .fits .a .fits) (c .rest2 .ensures) }
@@ -66,15 +48,15 @@ pub plus-spec : {M : Type 1} → statement M
 plus-spec =
     tie.close
     (tie.spec
-    sub-s
-    sub-t
-    total-requires
+    (λ c. search needs)
+    (λ c. search needs)
+    (λ c κs. search needs)
     add-result
-    total-requires-2
+    (λ c κs. search needs)
     add-result-2
-    rest-requires
+    (λ c κs. search needs)
     add-result-3
-    rest-requires-2
+    (λ c κs. search needs)
     add-result-4
     returns
     returns-2

@@ -7,18 +7,12 @@ use borrow.Author.Needs.{needs}
 use Rattle.lerc_numeric.proofs.add.rest.Statement.{statement}
 use Rattle.lerc_numeric.proofs.add.rest.Tie as tie
 
-align-requires : tie.Need-align-requires
-align-requires c κs = search needs
-
 sub-pack : tie.Need-sub-pack
 sub-pack c =
     let k = c .before .before in
     let t = c .before .align in
     let h : exp (k .args .b) ≤ exp (k .args .a) = omega arith in
     rest-le _ _ _ _ _ h (t .ensures .0) (t .ensures .1) (t .ensures .2) (k .pre)
-
-pack-requires : tie.Need-pack-requires
-pack-requires c κs = search needs
 
 returns : tie.Need-returns
 returns c =
@@ -28,4 +22,4 @@ returns c =
     c .pack .ensures ∙ rest-is _ _ _ _ _ h (t .ensures .0) (t .ensures .1) (t .ensures .2)
 
 pub rest-spec : {M : Type 1} → statement M
-rest-spec = tie.close (tie.spec align-requires sub-pack pack-requires returns)
+rest-spec = tie.close (tie.spec (λ c κs. search needs) sub-pack (λ c κs. search needs) returns)

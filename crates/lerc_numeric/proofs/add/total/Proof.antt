@@ -7,18 +7,12 @@ use borrow.Author.Needs.{needs}
 use Rattle.lerc_numeric.proofs.add.total.Statement.{statement}
 use Rattle.lerc_numeric.proofs.add.total.Tie as tie
 
-align-requires : tie.Need-align-requires
-align-requires c κs = search needs
-
 add-pack : tie.Need-add-pack
 add-pack c =
     let k = c .before .before in
     let t = c .before .align in
     let h : exp (k .args .b) ≤ exp (k .args .a) = omega arith in
     record { fits = omega (arith, big-lt _ _ _ _ _ h (t .ensures .0) (t .ensures .1) (t .ensures .2), small-le _ _ _ _ _ h (t .ensures .0) (t .ensures .1) (t .ensures .2)) }
-
-pack-requires : tie.Need-pack-requires
-pack-requires c κs = search needs
 
 returns : tie.Need-returns
 returns c =
@@ -28,4 +22,4 @@ returns c =
     c .pack .ensures ∙ total-is _ _ _ _ _ h (t .ensures .0) (t .ensures .1) (t .ensures .2)
 
 pub total-spec : {M : Type 1} → statement M
-total-spec = tie.close (tie.spec align-requires add-pack pack-requires returns)
+total-spec = tie.close (tie.spec (λ c κs. search needs) add-pack (λ c κs. search needs) returns)

@@ -5,12 +5,6 @@ use borrow.Author.Needs.{needs}
 use Rattle.lerc_numeric.proofs.kinds.bound.Statement.{statement}
 use Rattle.lerc_numeric.proofs.kinds.bound.Tie as tie
 
-modulus-requires : tie.Need-modulus-requires
-modulus-requires c κs = search needs
-
-add-result : tie.Need-add-result
-add-result c = search needs
-
 returns : tie.Need-returns
 returns c = rw (← c .before .before .modulus .ensures, eq-eqb _ 0 (c .before .if1 .taken), c .if2 .taken)
 
@@ -24,4 +18,4 @@ returns-4 : tie.Need-returns-4
 returns-4 c = rw (← c .before .before .modulus .ensures, ne-eqb _ 0 (c .before .if1 .left), c .if3 .left)
 
 pub bound-spec : {M : Type 1} → statement M
-bound-spec = tie.close (tie.spec modulus-requires add-result returns returns-2 returns-3 returns-4)
+bound-spec = tie.close (tie.spec (λ c κs. search needs) (λ c. search needs) returns returns-2 returns-3 returns-4)

@@ -6,9 +6,6 @@ use borrow.Author.Needs.{needs}
 use Rattle.lerc_numeric.proofs.kinds.number.Statement.{statement}
 use Rattle.lerc_numeric.proofs.kinds.number.Tie as tie
 
-modulus-requires : tie.Need-modulus-requires
-modulus-requires c κs = search needs
-
 rem-integer : tie.Need-rem-integer
 rem-integer c = omega (arith, c .modulus .ensures, modulus-ge (c .before .before .args .kind))
 
@@ -17,9 +14,6 @@ integer-requires c κs =
     let k = c .before .before in
     let p : 0 < c .modulus .result = omega (arith, c .modulus .ensures, modulus-ge (k .args .kind)) in
     (c .before .if1 .taken, omega (arith, c .modulus .ensures, mod-lt (k .args .v) p))
-
-widen-requires : tie.Need-widen-requires
-widen-requires c κs = search needs
 
 returns : tie.Need-returns
 returns c = value-int _ (c .before .before .before .args .v) _ _ (c .before .modulus .ensures) (c .before .before .if1 .taken) (c .integer .ensures)
@@ -34,10 +28,10 @@ pub number-spec : {M : Type 1} → statement M
 number-spec =
     tie.close
     (tie.spec
-    modulus-requires
+    (λ c κs. search needs)
     rem-integer
     integer-requires
-    widen-requires
+    (λ c κs. search needs)
     returns
     returns-2
     returns-3)

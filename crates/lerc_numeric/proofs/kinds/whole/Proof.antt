@@ -4,18 +4,6 @@ use borrow.Author.Needs.{needs}
 use Rattle.lerc_numeric.proofs.kinds.whole.Statement.{statement}
 use Rattle.lerc_numeric.proofs.kinds.whole.Tie as tie
 
-exponent-requires : tie.Need-exponent-requires
-exponent-requires c κs = search needs
-
-significand-requires : tie.Need-significand-requires
-significand-requires c κs = search needs
-
-sub-result : tie.Need-sub-result
-sub-result c = search needs
-
-shr-result : tie.Need-shr-result
-shr-result c = search needs
-
 returns : tie.Need-returns
 returns c = whole-zero _ _ (c .before .exponent .ensures) (c .if1 .taken)
 
@@ -25,4 +13,4 @@ returns-2 c = whole-some _ _ _ (c .significand .ensures) (c .before .before .exp
 pub whole-spec : {M : Type 1} → statement M
 whole-spec =
     tie.close
-    (tie.spec exponent-requires significand-requires sub-result shr-result returns returns-2)
+    (tie.spec (λ c κs. search needs) (λ c κs. search needs) (λ c. search needs) (λ c. search needs) returns returns-2)

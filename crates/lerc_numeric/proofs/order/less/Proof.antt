@@ -3,9 +3,6 @@ use borrow.Author.Needs.{needs}
 use Rattle.lerc_numeric.proofs.order.less.Statement.{statement}
 use Rattle.lerc_numeric.proofs.order.less.Tie as tie
 
-add-result : tie.Need-add-result
-add-result c = search needs
-
 returns : tie.Need-returns
 returns c = less-pp (c .before .before .args .a) (c .before .before .args .b) (c .before .if1 .taken) (c .if2 .taken)
 
@@ -19,4 +16,4 @@ returns-4 : tie.Need-returns-4
 returns-4 c = less-nn (c .before .before .args .a) (c .before .before .args .b) (c .before .if1 .left) (c .if3 .left)
 
 pub less-spec : {M : Type 1} → statement M
-less-spec = tie.close (tie.spec add-result returns returns-2 returns-3 returns-4)
+less-spec = tie.close (tie.spec (λ c. search needs) returns returns-2 returns-3 returns-4)

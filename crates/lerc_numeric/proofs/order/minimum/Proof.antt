@@ -4,9 +4,6 @@ use borrow.Author.Needs.{needs}
 use Rattle.lerc_numeric.proofs.order.minimum.Statement.{statement}
 use Rattle.lerc_numeric.proofs.order.minimum.Tie as tie
 
-less-requires : tie.Need-less-requires
-less-requires c κs = search needs
-
 returns : tie.Need-returns
 unfolding lesser
 returns c = rw (sym (c .before .less .ensures) ∙ c .if1 .taken)
@@ -16,4 +13,4 @@ unfolding lesser
 returns-2 c = rw (sym (c .before .less .ensures) ∙ c .if1 .left)
 
 pub minimum-spec : {M : Type 1} → statement M
-minimum-spec = tie.close (tie.spec less-requires returns returns-2)
+minimum-spec = tie.close (tie.spec (λ c κs. search needs) returns returns-2)

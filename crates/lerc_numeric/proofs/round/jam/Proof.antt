@@ -13,15 +13,6 @@ returns c = omega (arith, jam-wide (c .before .before .args .v) (c .before .befo
 returns-2 : tie.Need-returns-2
 returns-2 c = omega (arith, c .if2 .left, jam-wide (c .before .before .args .v) (c .before .before .args .n) (c .before .if1 .taken) (c .before .before .fits .v .fits))
 
-shr-q : tie.Need-shr-q
-shr-q c = search needs
-
-low-requires : tie.Need-low-requires
-low-requires c κs = search needs
-
-sub-result : tie.Need-sub-result
-sub-result c = search needs
-
 add-result : tie.Need-add-result
 add-result c =
     let k = c .before .before .before in
@@ -40,4 +31,4 @@ returns-4 c =
 pub jam-spec : {M : Type 1} → statement M
 jam-spec =
     tie.close
-    (tie.spec returns returns-2 shr-q low-requires sub-result add-result returns-3 returns-4)
+    (tie.spec returns returns-2 (λ c. search needs) (λ c κs. search needs) (λ c. search needs) add-result returns-3 returns-4)

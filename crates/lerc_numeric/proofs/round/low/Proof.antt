@@ -5,9 +5,6 @@ use borrow.Author.Needs.{needs}
 use Rattle.lerc_numeric.proofs.round.low.Statement.{statement}
 use Rattle.lerc_numeric.proofs.round.low.Tie as tie
 
-shl-result : tie.Need-shl-result
-shl-result c = search needs
-
 sub-result : tie.Need-sub-result
 sub-result c = rw (unit (c .args .d) (c .pre)) (pow-pos (c .args .d))
 
@@ -15,4 +12,4 @@ returns : tie.Need-returns
 returns c = mask (c .args .m) (c .args .d) (c .pre)
 
 pub low-spec : {M : Type 1} → statement M
-low-spec = tie.close (tie.spec shl-result sub-result returns)
+low-spec = tie.close (tie.spec (λ c. search needs) sub-result returns)

@@ -8,15 +8,6 @@ use borrow.Author.Needs.{needs}
 use Rattle.lerc_numeric.proofs.round.nearest.Statement.{statement}
 use Rattle.lerc_numeric.proofs.round.nearest.Tie as tie
 
-shl-unit : tie.Need-shl-unit
-shl-unit c = search needs
-
-shr-q : tie.Need-shr-q
-shr-q c = search needs
-
-low-requires : tie.Need-low-requires
-low-requires c κs = search needs
-
 mul-twice : tie.Need-mul-twice
 mul-twice c = record { fits = omega (arith, low-lt (c .before .args .m) (c .before .args .d) (c .before .pre)) }
 
@@ -45,9 +36,9 @@ pub nearest-spec : {M : Type 1} → statement M
 nearest-spec =
     tie.close
     (tie.spec
-    shl-unit
-    shr-q
-    low-requires
+    (λ c. search needs)
+    (λ c. search needs)
+    (λ c κs. search needs)
     mul-twice
     add-result
     add-result-2

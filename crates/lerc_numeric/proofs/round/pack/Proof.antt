@@ -8,41 +8,14 @@ use Rattle.lerc_numeric.proofs.round.pack.Tie as tie
 returns : tie.Need-returns
 returns c = pack-zero (c .before .args .m) (c .before .args .e) (c .if1 .taken)
 
-digits-requires : tie.Need-digits-requires
-digits-requires c κs = search needs
-
-sub-d : tie.Need-sub-d
-sub-d c = search needs
-
 add-if3 : tie.Need-add-if3
 add-if3 c = record { fits = omega (arith, digits-le _ (c .before .before .before .args .e) _ (c .before .digits .ensures) (c .before .before .before .fits .m .fits)) }
-
-add-result : tie.Need-add-result
-add-result c = search needs
-
-mul-result : tie.Need-mul-result
-mul-result c = search needs
 
 nearest-requires : tie.Need-nearest-requires
 nearest-requires c κs = omega (arith, digits-le _ (c .before .before .before .before .args .e) _ (c .before .before .digits .ensures) (c .before .before .before .before .fits .m .fits))
 
 add-result-2 : tie.Need-add-result-2
 add-result-2 c = record { fits = omega (arith, pack-fits _ (c .before .before .before .before .before .args .e) _ (c .before .before .before .digits .ensures) _ (c .nearest .ensures)) }
-
-shl-result : tie.Need-shl-result
-shl-result c = search needs
-
-sub-if5 : tie.Need-sub-if5
-sub-if5 c = search needs
-
-sub-result : tie.Need-sub-result
-sub-result c = search needs
-
-mul-result-2 : tie.Need-mul-result-2
-mul-result-2 c = search needs
-
-shl-result-2 : tie.Need-shl-result-2
-shl-result-2 c = search needs
 
 add-result-3 : tie.Need-add-result-3
 add-result-3 c =
@@ -79,18 +52,18 @@ pack-spec =
     tie.close
     (tie.spec
     returns
-    digits-requires
-    sub-d
+    (λ c κs. search needs)
+    (λ c. search needs)
     add-if3
-    add-result
-    mul-result
+    (λ c. search needs)
+    (λ c. search needs)
     nearest-requires
     add-result-2
-    shl-result
-    sub-if5
-    sub-result
-    mul-result-2
-    shl-result-2
+    (λ c. search needs)
+    (λ c. search needs)
+    (λ c. search needs)
+    (λ c. search needs)
+    (λ c. search needs)
     add-result-3
     returns-2
     returns-3

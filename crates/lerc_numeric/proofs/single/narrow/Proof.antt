@@ -4,12 +4,6 @@ use borrow.Author.Needs.{needs}
 use Rattle.lerc_numeric.proofs.single.narrow.Statement.{statement}
 use Rattle.lerc_numeric.proofs.single.narrow.Tie as tie
 
-mul-result : tie.Need-mul-result
-mul-result c = search needs
-
-unsigned-requires : tie.Need-unsigned-requires
-unsigned-requires c κs = search needs
-
 add-result : tie.Need-add-result
 add-result c = record { fits = omega (arith, c .unsigned .ensures, unsigned-lt (c .before .args .v)) }
 
@@ -20,4 +14,4 @@ returns : tie.Need-returns
 returns c = rw (c .unsigned .ensures) (narrow-is (c .before .args .v) (c .before .fits .v .fits))
 
 pub narrow-spec : {M : Type 1} → statement M
-narrow-spec = tie.close (tie.spec mul-result unsigned-requires add-result cast-result returns)
+narrow-spec = tie.close (tie.spec (λ c. search needs) (λ c κs. search needs) add-result cast-result returns)

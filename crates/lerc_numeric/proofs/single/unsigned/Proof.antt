@@ -4,34 +4,13 @@ use borrow.Author.Needs.{needs}
 use Rattle.lerc_numeric.proofs.single.unsigned.Statement.{statement}
 use Rattle.lerc_numeric.proofs.single.unsigned.Tie as tie
 
-add-result : tie.Need-add-result
-add-result c = search needs
-
 returns : tie.Need-returns
 returns c = narrow-top (c .before .args .v) (c .if1 .taken)
-
-significand-requires : tie.Need-significand-requires
-significand-requires c κs = search needs
-
-exponent-requires : tie.Need-exponent-requires
-exponent-requires c κs = search needs
-
-mul-result : tie.Need-mul-result
-mul-result c = search needs
-
-nearest-requires : tie.Need-nearest-requires
-nearest-requires c κs = search needs
 
 add-result-2 : tie.Need-add-result-2
 add-result-2 c =
     let k = c .before .before .before in
     record { fits = omega (arith, narrow-fits _ _ _ (k .before .significand .ensures) (k .exponent .ensures) (k .before .before .if1 .left) _ (c .before .before .if2 .taken) (c .nearest .ensures)) }
-
-sub-nearest : tie.Need-sub-nearest
-sub-nearest c = search needs
-
-nearest-requires-2 : tie.Need-nearest-requires-2
-nearest-requires-2 c κs = search needs
 
 returns-2 : tie.Need-returns-2
 returns-2 c =
@@ -57,15 +36,15 @@ pub unsigned-spec : {M : Type 1} → statement M
 unsigned-spec =
     tie.close
     (tie.spec
-    add-result
+    (λ c. search needs)
     returns
-    significand-requires
-    exponent-requires
-    mul-result
-    nearest-requires
+    (λ c κs. search needs)
+    (λ c κs. search needs)
+    (λ c. search needs)
+    (λ c κs. search needs)
     add-result-2
-    sub-nearest
-    nearest-requires-2
+    (λ c. search needs)
+    (λ c κs. search needs)
     returns-2
     returns-3
     returns-4

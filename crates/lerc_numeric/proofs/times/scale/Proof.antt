@@ -5,18 +5,6 @@ use borrow.Author.Needs.{needs}
 use Rattle.lerc_numeric.proofs.times.scale.Statement.{statement}
 use Rattle.lerc_numeric.proofs.times.scale.Tie as tie
 
-significand-requires : tie.Need-significand-requires
-significand-requires c κs = search needs
-
-exponent-requires : tie.Need-exponent-requires
-exponent-requires c κs = search needs
-
-digits-requires : tie.Need-digits-requires
-digits-requires c κs = search needs
-
-digits-requires-2 : tie.Need-digits-requires-2
-digits-requires-2 c κs = search needs
-
 add-s : tie.Need-add-s
 add-s c =
     let k = c .before in
@@ -24,23 +12,11 @@ add-s c =
     let t = count-digits _ _ (k .before .before .before .fits .q .fits) (c .digits2 .ensures) in
     record { fits = omega arith }
 
-sub-sign : tie.Need-sub-sign
-sub-sign c = search needs
-
 mul-pack : tie.Need-mul-pack
 mul-pack c = record { fits = digits-fit _ _ _ _ (c .before .before .digits .ensures) (c .before .digits2 .ensures) (c .if1 .taken) }
 
-add-pack : tie.Need-add-pack
-add-pack c = search needs
-
-pack-requires : tie.Need-pack-requires
-pack-requires c κs = search needs
-
 add-result : tie.Need-add-result
 add-result c = record { fits = weight-fits _ _ _ (c .before .before .before .before .before .before .fits .a .fits) (c .pack .ensures) }
-
-sub-i : tie.Need-sub-i
-sub-i c = search needs
 
 product-requires : tie.Need-product-requires
 product-requires c κs =
@@ -48,9 +24,6 @@ product-requires c κs =
     let s = sig-digits _ _ _ (k .before .before .significand .ensures) (k .digits .ensures) in
     let t = count-digits _ _ (k .before .before .before .fits .q .fits) (c .before .digits2 .ensures) in
     (digits-wide _ _ _ _ (k .digits .ensures) (c .before .digits2 .ensures) (c .if1 .left), k .before .before .before .fits .q .fits, omega arith)
-
-add-pack-2 : tie.Need-add-pack-2
-add-pack-2 c = search needs
 
 add-pack-3 : tie.Need-add-pack-3
 add-pack-3 c =
@@ -86,19 +59,19 @@ pub scale-spec : {M : Type 1} → statement M
 scale-spec =
     tie.close
     (tie.spec
-    significand-requires
-    exponent-requires
-    digits-requires
-    digits-requires-2
+    (λ c κs. search needs)
+    (λ c κs. search needs)
+    (λ c κs. search needs)
+    (λ c κs. search needs)
     add-s
-    sub-sign
+    (λ c. search needs)
     mul-pack
-    add-pack
-    pack-requires
+    (λ c. search needs)
+    (λ c κs. search needs)
     add-result
-    sub-i
+    (λ c. search needs)
     product-requires
-    add-pack-2
+    (λ c. search needs)
     add-pack-3
     pack-requires-2
     add-result-2

@@ -19,31 +19,13 @@ Inv-loop depth kind values n words₀ i₀ words i = Staged (stored kind) (take 
 abbrev μ-loop : tie.MeasureT-loop
 μ-loop depth kind values n words₀ i₀ words i = n - i
 
-within-requires : tie.Need-within-requires Inv-loop μ-loop
-within-requires c κs = search needs
-
 loop-holds : tie.Need-loop-holds Inv-loop μ-loop
 loop-holds c =
     let a = c .before .args in
     staged-none (stored (a .kind)) (take (a .depth) (a .t1)) (replicate depthLimit 0) (simp (length-take, length-replicate) (omega (arith, c .before .good)))
 
-mul-stored : tie.Need-mul-stored Inv-loop μ-loop
-mul-stored c = search needs
-
 array-read-stored : tie.Need-array-read-stored Inv-loop μ-loop
 array-read-stored c = omega (arith, c .before .before .within .ensures)
-
-stored-requires : tie.Need-stored-requires Inv-loop μ-loop
-stored-requires c κs = search needs
-
-enum-known-got : tie.Need-enum-known-got Inv-loop μ-loop
-enum-known-got c = search needs
-
-enum-told : tie.Need-enum-told Inv-loop μ-loop
-enum-told c = search needs
-
-refusal-requires : tie.Need-refusal-requires Inv-loop μ-loop
-refusal-requires c κs = search needs
 
 returns : tie.Need-returns Inv-loop μ-loop
 unfolding constantWords
@@ -59,17 +41,8 @@ returns c =
     let e : stored (a .kind) (getD xs i 0) ≡ fail (c .refusal .result) = rw (getD-take) (sym (p .stored .ensures) ∙ ap storedSaid w ∙ ap fail (sym (c .refusal .ensures ∙ ap storedRefused w))) in
     rw (staged-fails (stored (a .kind)) xs i (replicate depthLimit 0) (l .loop .words) (l .loop .inv) h e)
 
-mul-words : tie.Need-mul-words Inv-loop μ-loop
-mul-words c = search needs
-
 array-write-words : tie.Need-array-write-words Inv-loop μ-loop
 array-write-words c = omega (arith, c .before .before .before .before .before .before .within .ensures)
-
-add-i : tie.Need-add-i Inv-loop μ-loop
-add-i c = search needs
-
-loop-less : tie.Need-loop-less Inv-loop μ-loop
-loop-less c = search needs
 
 loop-again : tie.Need-loop-again Inv-loop μ-loop
 loop-again c =
@@ -98,18 +71,18 @@ convert-spec =
     (tie.spec
     Inv-loop
     μ-loop
-    within-requires
+    (λ c κs. search needs)
     loop-holds
-    mul-stored
+    (λ c. search needs)
     array-read-stored
-    stored-requires
-    enum-known-got
-    enum-told
-    refusal-requires
+    (λ c κs. search needs)
+    (λ c. search needs)
+    (λ c. search needs)
+    (λ c κs. search needs)
     returns
-    mul-words
+    (λ c. search needs)
     array-write-words
-    add-i
-    loop-less
+    (λ c. search needs)
+    (λ c. search needs)
     loop-again
     returns-2)

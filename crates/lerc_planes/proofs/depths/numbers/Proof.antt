@@ -17,9 +17,6 @@ Inv-loop s at kind depth rest out₀ step i₀ out i = (i ≤ depth) × (out ≡
 abbrev μ-loop : tie.MeasureT-loop
 μ-loop s at kind depth rest out₀ step i₀ out i = depth - i
 
-size-requires : tie.Need-size-requires Inv-loop μ-loop
-size-requires c κs = search needs
-
 loop-holds : tie.Need-loop-holds Inv-loop μ-loop
 loop-holds c = (omega arith, by-depth-none _ _)
 
@@ -34,24 +31,6 @@ add-peek c =
     let l = c .before in
     let m = steps-small (l .loop .i) (l .before .before .before .args .kind) (omega arith) in
     rw (l .before .size .ensures) (omega arith)
-
-peek-requires : tie.Need-peek-requires Inv-loop μ-loop
-peek-requires c κs = search needs
-
-number-requires : tie.Need-number-requires Inv-loop μ-loop
-number-requires c κs = search needs
-
-mul-out : tie.Need-mul-out Inv-loop μ-loop
-mul-out c = search needs
-
-array-write-out : tie.Need-array-write-out Inv-loop μ-loop
-array-write-out c = search needs
-
-add-i : tie.Need-add-i Inv-loop μ-loop
-add-i c = search needs
-
-loop-less : tie.Need-loop-less Inv-loop μ-loop
-loop-less c = search needs
 
 loop-again : tie.Need-loop-again Inv-loop μ-loop
 loop-again c =
@@ -74,15 +53,15 @@ numbers-spec =
     (tie.spec
     Inv-loop
     μ-loop
-    size-requires
+    (λ c κs. search needs)
     loop-holds
     mul-peek
     add-peek
-    peek-requires
-    number-requires
-    mul-out
-    array-write-out
-    add-i
-    loop-less
+    (λ c κs. search needs)
+    (λ c κs. search needs)
+    (λ c. search needs)
+    (λ c. search needs)
+    (λ c. search needs)
+    (λ c. search needs)
     loop-again
     returns)

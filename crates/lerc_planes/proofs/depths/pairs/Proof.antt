@@ -4,12 +4,6 @@ use borrow.Author.Needs.{needs}
 use Rattle.lerc_planes.proofs.depths.pairs.Statement.{statement}
 use Rattle.lerc_planes.proofs.depths.pairs.Tie as tie
 
-within-requires : tie.Need-within-requires
-within-requires c κs = search needs
-
-pairs-right-requires : tie.Need-pairs-right-requires
-pairs-right-requires c κs = search needs
-
 returns : tie.Need-returns
 unfolding pairsSays
 returns c = rw (← c .before .before .within .ensures, sym (c .before .pairs-right .ensures) ∙ c .if1 .taken)
@@ -19,4 +13,4 @@ unfolding pairsSays
 returns-2 c = rw (← c .before .before .within .ensures, sym (c .before .pairs-right .ensures) ∙ c .if1 .left)
 
 pub pairs-spec : {M : Type 1} → statement M
-pairs-spec = tie.close (tie.spec within-requires pairs-right-requires returns returns-2)
+pairs-spec = tie.close (tie.spec (λ c κs. search needs) (λ c κs. search needs) returns returns-2)

@@ -16,27 +16,6 @@ abbrev μ-loop : tie.MeasureT-loop
 loop-holds : tie.Need-loop-holds Inv-loop μ-loop
 loop-holds c = (omega arith, sym (pairs-none _))
 
-mul-pair-right : tie.Need-mul-pair-right Inv-loop μ-loop
-mul-pair-right c = search needs
-
-element-copy-out-pair-right : tie.Need-element-copy-out-pair-right Inv-loop μ-loop
-element-copy-out-pair-right c = search needs
-
-mul-pair-right-2 : tie.Need-mul-pair-right-2 Inv-loop μ-loop
-mul-pair-right-2 c = search needs
-
-element-copy-out-pair-right-2 : tie.Need-element-copy-out-pair-right-2 Inv-loop μ-loop
-element-copy-out-pair-right-2 c = search needs
-
-pair-right-requires : tie.Need-pair-right-requires Inv-loop μ-loop
-pair-right-requires c κs = search needs
-
-add-i : tie.Need-add-i Inv-loop μ-loop
-add-i c = search needs
-
-loop-less : tie.Need-loop-less Inv-loop μ-loop
-loop-less c = search needs
-
 loop-again : tie.Need-loop-again Inv-loop μ-loop
 loop-again c =
     let l = c .before .before .before .before in
@@ -54,12 +33,12 @@ pairs-right-spec =
     Inv-loop
     μ-loop
     loop-holds
-    mul-pair-right
-    element-copy-out-pair-right
-    mul-pair-right-2
-    element-copy-out-pair-right-2
-    pair-right-requires
-    add-i
-    loop-less
+    (λ c. search needs)
+    (λ c. search needs)
+    (λ c. search needs)
+    (λ c. search needs)
+    (λ c κs. search needs)
+    (λ c. search needs)
+    (λ c. search needs)
     loop-again
     returns)

@@ -5,33 +5,9 @@ use borrow.Author.Needs.{needs}
 use Rattle.lerc_planes.proofs.depths.ranges_in.Statement.{statement}
 use Rattle.lerc_planes.proofs.depths.ranges_in.Tie as tie
 
-same-requires : tie.Need-same-requires
-same-requires c κs = search needs
-
-uniform-requires : tie.Need-uniform-requires
-uniform-requires c κs = search needs
-
 returns : tie.Need-returns
 unfolding rangesSays
 returns c = rw (c .uniform .ensures, sym (c .before .before .same .ensures) ∙ c .before .if1 .taken)
-
-width-requires : tie.Need-width-requires
-width-requires c κs = search needs
-
-cast-if2 : tie.Need-cast-if2
-cast-if2 c = search needs
-
-add-if2 : tie.Need-add-if2
-add-if2 c = search needs
-
-add-if2-2 : tie.Need-add-if2-2
-add-if2-2 c = search needs
-
-add-if2-3 : tie.Need-add-if2-3
-add-if2-3 c = search needs
-
-refused-requires : tie.Need-refused-requires
-refused-requires c κs = search needs
 
 returns-2 : tie.Need-returns-2
 unfolding rangesSays
@@ -42,18 +18,6 @@ returns-2 c =
       sym (d .before .same .ensures) ∙ d .if1 .left,
       lt-leb _ _ (rw (c .before .before .before .width .ensures .0) at (c .before .if2 .taken)),
     )
-
-coded-requires : tie.Need-coded-requires
-coded-requires c κs = search needs
-
-cast-pairs-right : tie.Need-cast-pairs-right
-cast-pairs-right c = search needs
-
-pairs-right-requires : tie.Need-pairs-right-requires
-pairs-right-requires c κs = search needs
-
-refused-requires-2 : tie.Need-refused-requires-2
-refused-requires-2 c κs = search needs
 
 returns-3 : tie.Need-returns-3
 unfolding rangesSays
@@ -84,19 +48,19 @@ pub ranges-in-spec : {M : Type 1} → statement M
 ranges-in-spec =
     tie.close
     (tie.spec
-    same-requires
-    uniform-requires
+    (λ c κs. search needs)
+    (λ c κs. search needs)
     returns
-    width-requires
-    cast-if2
-    add-if2
-    add-if2-2
-    add-if2-3
-    refused-requires
+    (λ c κs. search needs)
+    (λ c. search needs)
+    (λ c. search needs)
+    (λ c. search needs)
+    (λ c. search needs)
+    (λ c κs. search needs)
     returns-2
-    coded-requires
-    cast-pairs-right
-    pairs-right-requires
-    refused-requires-2
+    (λ c κs. search needs)
+    (λ c. search needs)
+    (λ c κs. search needs)
+    (λ c κs. search needs)
     returns-3
     returns-4)

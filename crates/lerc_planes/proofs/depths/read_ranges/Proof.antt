@@ -10,21 +10,6 @@ use borrow.Author.Needs.{needs}
 use Rattle.lerc_planes.proofs.depths.read_ranges.Statement.{statement}
 use Rattle.lerc_planes.proofs.depths.read_ranges.Tie as tie
 
-held-requires : tie.Need-held-requires
-held-requires c κs = search needs
-
-enum-known-held : tie.Need-enum-known-held
-enum-known-held c = search needs
-
-enum-told : tie.Need-enum-told
-enum-told c = search needs
-
-refusal-requires : tie.Need-refusal-requires
-refusal-requires c κs = search needs
-
-refused-requires : tie.Need-refused-requires
-refused-requires c κs = search needs
-
 returns : tie.Need-returns
 unfolding readRangesSays
 returns c =
@@ -33,9 +18,6 @@ returns c =
       c .refused .ensures,
       sym (c .before .before .before .before .held .ensures) ∙ ap heldSaid w ∙ ap fail (sym (c .before .refusal .ensures ∙ ap heldRefused w)),
     )
-
-cast-size : tie.Need-cast-size
-cast-size c = search needs
 
 slice-aggregate-ranges-in : tie.Need-slice-aggregate-ranges-in
 slice-aggregate-ranges-in c =
@@ -60,13 +42,13 @@ pub read-ranges-spec : {M : Type 1} → statement M
 read-ranges-spec =
     tie.close
     (tie.spec
-    held-requires
-    enum-known-held
-    enum-told
-    refusal-requires
-    refused-requires
+    (λ c κs. search needs)
+    (λ c. search needs)
+    (λ c. search needs)
+    (λ c κs. search needs)
+    (λ c κs. search needs)
     returns
-    cast-size
+    (λ c. search needs)
     slice-aggregate-ranges-in
     ranges-in-requires
     returns-2)

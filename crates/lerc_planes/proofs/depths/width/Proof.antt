@@ -5,17 +5,13 @@ use borrow.Author.Needs.{needs}
 use Rattle.lerc_planes.proofs.depths.width.Statement.{statement}
 use Rattle.lerc_planes.proofs.depths.width.Tie as tie
 
-cast-result : tie.Need-cast-result
-cast-result c = search needs
-
-size-requires : tie.Need-size-requires
-size-requires c κs = search needs
-
 mul-result : tie.Need-mul-result
-mul-result c = let a = c .before .before .args in rw (c .size .ensures) (omega (arith, steps-small (a .h .depth) (a .h .kind) (c .before .before .pre)))
+mul-result c =
+    let a = c .before .before .args in
+    rw (c .size .ensures) (omega (arith, steps-small (a .h .depth) (a .h .kind) (c .before .before .pre)))
 
 returns : tie.Need-returns
 returns c = let a = c .before .before .args in rw (c .size .ensures) (refl, steps-small (a .h .depth) (a .h .kind) (c .before .before .pre))
 
 pub width-spec : {M : Type 1} → statement M
-width-spec = tie.close (tie.spec cast-result size-requires mul-result returns)
+width-spec = tie.close (tie.spec (λ c. search needs) (λ c κs. search needs) mul-result returns)

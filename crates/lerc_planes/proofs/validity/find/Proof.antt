@@ -14,16 +14,10 @@ put-uniform-requires c κs =
     let d : a .e .mask ≡ maskLength (shapeOf (a .h)) = ap (λ (e : Extent). e .mask) (c .before .before .before .before .before .before .pre .0) in
     (d, rw (d) (c .before .before .before .before .before .before .pre .3))
 
-same-length : tie.Need-same-length
-same-length c = search needs
-
 returns : tie.Need-returns
 returns c =
     let a = c .before .before .before .before .before .before .before .before .before .args in
     rw (says-none (now (a .s)) (a .h) (a .reuse) (now (a .kept)) (c .before .before .before .before .if1 .taken)) (c .before .before .put-uniform .ensures)
-
-cast-if2 : tie.Need-cast-if2
-cast-if2 c = search needs
 
 put-uniform-requires-2 : tie.Need-put-uniform-requires-2
 put-uniform-requires-2 c κs =
@@ -31,29 +25,17 @@ put-uniform-requires-2 c κs =
     let d : a .e .mask ≡ maskLength (shapeOf (a .h)) = ap (λ (e : Extent). e .mask) (c .before .before .before .before .before .before .before .before .before .pre .0) in
     (d, rw (d) (c .before .before .before .before .before .before .before .before .before .pre .3))
 
-same-length-2 : tie.Need-same-length-2
-same-length-2 c = search needs
-
 returns-2 : tie.Need-returns-2
 returns-2 c =
     let a = c .before .before .before .before .before .before .before .before .before .before .before .before .args in
     let p : a .e .pixels ≡ pixels (shapeOf (a .h)) = ap (λ (e : Extent). e .pixels) (c .before .before .before .before .before .before .before .before .before .before .before .before .pre .0) in
     rw (says-all (now (a .s)) (a .h) (a .reuse) (now (a .kept)) (c .before .before .before .before .before .before .before .if1 .left) (c .before .before .before .before .if2 .taken ∙ p)) (c .before .before .put-uniform2 .ensures)
 
-take-kept-requires : tie.Need-take-kept-requires
-take-kept-requires c κs = search needs
-
 returns-3 : tie.Need-returns-3
 returns-3 c =
     let a = c .before .before .before .before .before .before .before .before .before .before .before .args in
     let p : a .e .pixels ≡ pixels (shapeOf (a .h)) = ap (λ (e : Extent). e .pixels) (c .before .before .before .before .before .before .before .before .before .before .before .pre .0) in
     rw (says-kept (now (a .s)) (a .h) (a .reuse) (now (a .kept)) (c .before .before .before .before .before .before .if1 .left) (λ z. c .before .before .before .if2 .left (z ∙ sym p)) (c .before .if3 .taken)) (c .take-kept .ensures (now (a .spare)))
-
-unroll-requires : tie.Need-unroll-requires
-unroll-requires c κs = search needs
-
-same-length-3 : tie.Need-same-length-3
-same-length-3 c = search needs
 
 returns-4 : tie.Need-returns-4
 returns-4 c =
@@ -66,14 +48,14 @@ find-spec =
     tie.close
     (tie.spec
     put-uniform-requires
-    same-length
+    (λ c. search needs)
     returns
-    cast-if2
+    (λ c. search needs)
     put-uniform-requires-2
-    same-length-2
+    (λ c. search needs)
     returns-2
-    take-kept-requires
+    (λ c κs. search needs)
     returns-3
-    unroll-requires
-    same-length-3
+    (λ c κs. search needs)
+    (λ c. search needs)
     returns-4)

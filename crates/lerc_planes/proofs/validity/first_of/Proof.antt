@@ -9,9 +9,6 @@ use Rattle.lerc_planes.proofs.validity.first_of.Tie as tie
 slice-aggregate-result : tie.Need-slice-aggregate-result
 slice-aggregate-result c = simp length-take (omega arith)
 
-slice-aggregate-result-2 : tie.Need-slice-aggregate-result-2
-slice-aggregate-result-2 c = search needs
-
 returns : tie.Need-returns
 returns c = let a = c .before .before .args in rw (le-leb (a .n) (length (now (a .s))) (omega arith))
 
@@ -20,4 +17,4 @@ returns-2 c = let a = c .before .before .args in rw (lt-leb (a .n) (length (now 
 
 pub first-of-spec : {M : Type 1} → statement M
 first-of-spec =
-    tie.close (tie.spec slice-aggregate-result slice-aggregate-result-2 returns returns-2)
+    tie.close (tie.spec slice-aggregate-result (λ c. search needs) returns returns-2)

@@ -3,24 +3,6 @@ use Rattle.lerc_planes.specs.Validity.{inForce}
 use Rattle.lerc_planes.proofs.validity.mask_in_force.Statement.{statement}
 use Rattle.lerc_planes.proofs.validity.mask_in_force.Tie as tie
 
-enum-known-said : tie.Need-enum-known-said
-enum-known-said c = search needs
-
-first-of-requires : tie.Need-first-of-requires
-first-of-requires c κs = search needs
-
-enum-known-said-2 : tie.Need-enum-known-said-2
-enum-known-said-2 c = search needs
-
-first-of-requires-2 : tie.Need-first-of-requires-2
-first-of-requires-2 c κs = search needs
-
-enum-known-said-3 : tie.Need-enum-known-said-3
-enum-known-said-3 c = search needs
-
-slice-aggregate-result : tie.Need-slice-aggregate-result
-slice-aggregate-result c = search needs
-
 returns : tie.Need-returns
 unfolding inForce
 returns c = rw (c .before .before .said .given .1) (c .first-of .ensures)
@@ -37,12 +19,12 @@ pub mask-in-force-spec : {M : Type 1} → statement M
 mask-in-force-spec =
     tie.close
     (tie.spec
-    enum-known-said
-    first-of-requires
-    enum-known-said-2
-    first-of-requires-2
-    enum-known-said-3
-    slice-aggregate-result
+    (λ c. search needs)
+    (λ c κs. search needs)
+    (λ c. search needs)
+    (λ c κs. search needs)
+    (λ c. search needs)
+    (λ c. search needs)
     returns
     returns-2
     returns-3)

@@ -15,18 +15,6 @@ use Rattle.lerc_planes.proofs.validity.prepare_mask.Tie as tie
 holds : (c : tie.After-known-told) → held (c .before .before .before .before .before .before .before .args .h) (length (now (c .before .before .before .before .before .before .before .args .blob))) ≡ ok (c .before .answer .given .0 .0)
 holds c = sym (c .before .before .before .held .ensures) ∙ ap heldSaid (c .before .answer .given .1)
 
-held-requires : tie.Need-held-requires
-held-requires c κs = search needs
-
-enum-known-answer : tie.Need-enum-known-answer
-enum-known-answer c = search needs
-
-enum-told : tie.Need-enum-told
-enum-told c = search needs
-
-refusal-requires : tie.Need-refusal-requires
-refusal-requires c κs = search needs
-
 returns : tie.Need-returns
 returns c =
     let a = c .before .before .before .before .before .before .before .args in
@@ -61,9 +49,6 @@ find-requires c κs =
     let n = ap (λ (e : Extent). e .size) i in
     (i, simp length-take (omega arith), rw (i) at (c .before .before .before .before .if1 .left), rw (i) at (c .before .before .if2 .left))
 
-same-length : tie.Need-same-length
-same-length c = search needs
-
 returns-4 : tie.Need-returns-4
 returns-4 c =
     let a = c .before .before .before .before .before .before .before .before .before .before .before .before .before .before .before .before .args in
@@ -75,14 +60,14 @@ pub prepare-mask-spec : {M : Type 1} → statement M
 prepare-mask-spec =
     tie.close
     (tie.spec
-    held-requires
-    enum-known-answer
-    enum-told
-    refusal-requires
+    (λ c κs. search needs)
+    (λ c. search needs)
+    (λ c. search needs)
+    (λ c κs. search needs)
     returns
     returns-2
     returns-3
     slice-aggregate-find
     find-requires
-    same-length
+    (λ c. search needs)
     returns-4)

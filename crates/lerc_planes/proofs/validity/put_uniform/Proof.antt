@@ -12,12 +12,6 @@ returns c =
     let a = c .before .before .before .args in
     refused (uniform-no (a .h) (a .byte) (c .if1 .taken))
 
-fill-requires : tie.Need-fill-requires
-fill-requires c κs = search needs
-
-same-length : tie.Need-same-length
-same-length c = search needs
-
 returns-2 : tie.Need-returns-2
 returns-2 c =
     let a = c .before .before .before .before .before .before .before .args in
@@ -25,4 +19,4 @@ returns-2 c =
     spared (replicate (maskLength (shapeOf (a .h))) (a .byte)) (a .n) (uniform-ok (a .h) (a .byte) (c .before .before .before .before .if1 .left)) (length-replicate _ _ ∙ sym n) (rw (n) at (c .before .before .fill .ensures))
 
 pub put-uniform-spec : {M : Type 1} → statement M
-put-uniform-spec = tie.close (tie.spec returns fill-requires same-length returns-2)
+put-uniform-spec = tie.close (tie.spec returns (λ c κs. search needs) (λ c. search needs) returns-2)

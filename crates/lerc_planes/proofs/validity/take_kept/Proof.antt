@@ -16,12 +16,6 @@ returns c =
     let a = c .before .before .args in
     λ spare. refused (kept-no (a .h) (a .reuse) (now (a .kept)) (not-true (a .reuse) (c .if1 .taken)))
 
-count-requires : tie.Need-count-requires
-count-requires c κs = search needs
-
-cast-if2 : tie.Need-cast-if2
-cast-if2 c = search needs
-
 returns-2 : tie.Need-returns-2
 returns-2 c =
     let a = c .before .before .before .before .before .args in
@@ -37,4 +31,4 @@ returns-3 c =
     λ spare. reuses _ _ (kept-ok (a .h) (a .reuse) (now (a .kept)) (not-false (a .reuse) (c .before .before .before .if1 .left)) (rw (same) at (c .if2 .left))) (n ∙ d)
 
 pub take-kept-spec : {M : Type 1} → statement M
-take-kept-spec = tie.close (tie.spec returns count-requires cast-if2 returns-2 returns-3)
+take-kept-spec = tie.close (tie.spec returns (λ c κs. search needs) (λ c. search needs) returns-2 returns-3)

@@ -17,46 +17,10 @@ told c =
     let d : 70 + a .h .mask - 70 ≡ a .h .mask = omega arith in
     unroll-told (now (a .s)) (a .h) (length (now (a .spare))) (c .decode .result) (c .before .before .before .before .before .before .before .pre .2) (rw (c .before .before .before .before .before .before .before .pre .0, d) at (c .decode .ensures))
 
-cast-end : tie.Need-cast-end
-cast-end c = search needs
-
-add-end : tie.Need-add-end
-add-end c = search needs
-
-sub-decode : tie.Need-sub-decode
-sub-decode c = search needs
-
-part-decode-start : tie.Need-part-decode-start
-part-decode-start c = search needs
-
-part-decode-end : tie.Need-part-decode-end
-part-decode-end c = search needs
-
-cast-decode : tie.Need-cast-decode
-cast-decode c = search needs
-
-decode-requires : tie.Need-decode-requires
-decode-requires c κs = search needs
-
-enum-known-answer : tie.Need-enum-known-answer
-enum-known-answer c = search needs
-
-enum-told : tie.Need-enum-told
-enum-told c = search needs
-
-refusal-requires : tie.Need-refusal-requires
-refusal-requires c κs = search needs
-
-same-length : tie.Need-same-length
-same-length c = search needs
-
 returns : tie.Need-returns
 returns c =
     let q = c .refusal .ensures ∙ ap runsRefused (c .before .enum-told .given .1) in
     rw (q) (rw (c .before .enum-told .given .1) at (told (c .before .before .before .before .before)))
-
-same-length-2 : tie.Need-same-length-2
-same-length-2 c = search needs
 
 returns-2 : tie.Need-returns-2
 returns-2 c = rw (c .before .answer .given .1) at (told (c .before .before .before .before .before))
@@ -65,17 +29,17 @@ pub unroll-spec : {M : Type 1} → statement M
 unroll-spec =
     tie.close
     (tie.spec
-    cast-end
-    add-end
-    sub-decode
-    part-decode-start
-    part-decode-end
-    cast-decode
-    decode-requires
-    enum-known-answer
-    enum-told
-    refusal-requires
-    same-length
+    (λ c. search needs)
+    (λ c. search needs)
+    (λ c. search needs)
+    (λ c. search needs)
+    (λ c. search needs)
+    (λ c. search needs)
+    (λ c κs. search needs)
+    (λ c. search needs)
+    (λ c. search needs)
+    (λ c κs. search needs)
+    (λ c. search needs)
     returns
-    same-length-2
+    (λ c. search needs)
     returns-2)
