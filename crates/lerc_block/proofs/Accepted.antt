@@ -2,22 +2,22 @@
 -- Assumes nothing.
 use mathlib.Core.Path.{_≡_, _∙_}
 use mathlib.Core.List.{List}
-use Prim.Native.Nat.{ℕ, _+_, _*_, _/_, _%_, _≤_, _<_}
+use Prim.Native.Nat.{ℕ, _+_, _*_, _%_, _≤_, _<_}
 use native.Mathlib.Omega.{arith}
 use borrow.Author.Tests.{leb-true, eqb-true}
 use lib.Dec.{leb, eqb}
 use lib.ListN.{length, replicate, length-replicate}
-use Rattle.lerc_words.specs.Res.{Res, ok, require, wordAt, each}
+use Rattle.lerc_words.specs.Res.{Res, ok, require, each}
 use Rattle.lerc_words.proofs.Laws.{bind-is, require-is, ok-is, cond-elim, each-length, wordAt-is}
 use Rattle.lerc_words.proofs.Tables.{length-tabulate}
-use Rattle.lerc_numeric.specs.Numeric.{finite}
 use Rattle.lerc_numeric.specs.Kinds.{typeSize}
-use Rattle.lerc_samples.specs.Samples.{sampleAt, stored, offsetKind}
+use Rattle.lerc_samples.specs.Samples.{stored}
+use Rattle.lerc_samples.proofs.Reading.{sample-is}
 use Rattle.lerc_bits.specs.Bits.{counts}
 use Rattle.lerc_bits.proofs.Values.{counts-ends}
-use Rattle.lerc_block.specs.Block.{Block, rawWords, levelBlock, steppedBlock, offsetBlock, formed, blockSays}
+use Rattle.lerc_block.specs.Block.{Block, rawWords, levelBlock, steppedBlock, finiteOffset, offsetBlock, formed, flagAt, blockSays}
 use Rattle.lerc_block.specs.Steps.{stepWord}
-use Rattle.lerc_block.proofs.Answers.{sample-inside}
+use Rattle.lerc_block.proofs.Answers.{offset-is, finite-is, flag-is}
 
 -- a word for each pixel, out of bytes that lie in s from `at` on
 pub record Lies (s : List ℕ) (at n : ℕ) (b : Block) : Type 0 where
@@ -58,14 +58,13 @@ stepped-lies s at kind error top offset n e =
 offset-lies : (s : List ℕ) (at kind error top flag n : ℕ) {b : Block} → offsetBlock s at kind error top flag n ≡ ok b → Lies s at n b
 unfolding offsetBlock
 offset-lies s at kind error top flag n {b} e =
-    let (k, p, e) = bind-is (offsetKind kind (flag / 64)) _ e in
-    let (offset, q, e) = bind-is (sampleAt k s at) _ e in
-    let (t, r, e) = bind-is (require (finite offset) 8) _ e in
-    let to = at + typeSize k in
-    let l = cond-elim (λ (m : Res Block). m ≡ ok b → Lies s to n b) (eqb (flag % 4) 3)
-    (λ z. level-lies s to kind offset n (sample-inside k s at q))
-    (λ z. stepped-lies s to kind error top offset n) e in
-    lies-before (omega arith) l
+    let (o, p, e) = bind-is (finiteOffset s at kind flag) _ e in
+    let f = offset-is s at kind flag (finite-is s at kind flag p .0) in
+    let h : o .next ≤ length s = rw (f .ends) (sample-is (f .k) s at (o .value) (f .sampled) .inside) in
+    let l = cond-elim (λ (m : Res Block). m ≡ ok b → Lies s (o .next) n b) (eqb (flag % 4) 3)
+    (λ z. level-lies s (o .next) kind (o .value) n h)
+    (λ z. stepped-lies s (o .next) kind error top (o .value) n) e in
+    lies-before (omega (arith, f .ends)) l
 
 -- ---- the block
 
@@ -82,9 +81,8 @@ module _ (s : List ℕ) (at kind error top x n : ℕ) {b : Block} (e : blockSays
   pub block-lies : Lies s (at + 1) n b
   unfolding blockSays
   block-lies =
-      let (flag, p, e) = bind-is (wordAt 1 s at) _ e in
-      let (t, q, e) = bind-is (require (eqb (flag / 4 % 16) (x / 8 % 16)) 8) _ e in
-      formed-lies s (at + 1) kind error top flag n (wordAt-is 1 s at flag p .inside) e
+      let (flag, p, e) = bind-is (flagAt s at x) _ e in
+      formed-lies s (at + 1) kind error top flag n (wordAt-is 1 s at flag (flag-is s at x p .0) .inside) e
 
   -- a word for each valid pixel
   pub block-words : length (b .words) ≡ n

@@ -1,24 +1,25 @@
 -- What each way of reading gives: one law for each place where the code returns.
 -- Assumes nothing.
 use mathlib.Core.Path.{_≡_, refl, sym, ap, _∙_}
-use mathlib.Core.Bool.{true, false}
+use mathlib.Core.Bool.{Bool, true, false}
 use mathlib.Core.List.{List, [], _++_}
 use Prim.Native.Nat.{ℕ, zero, suc, _+_, _*_, _/_, _%_, _≤_, _<_}
 use native.Mathlib.Omega.{arith}
 use native.Mathlib.Nat.{not-suc-le-zero}
-use borrow.Author.Tests.{le-leb, lt-leb, eq-eqb, ne-eqb}
+use borrow.Author.Tests.{le-leb, lt-leb, leb-true, eq-eqb, ne-eqb}
+use lib.Dec.{leb, eqb}
 use lib.ListN.{length, drop, replicate}
 use Rattle.lerc_words.specs.declared.Refusal.{Refusal}
-use Rattle.lerc_words.specs.Res.{Res, ok, fail, refuse, wordAt, little, each}
+use Rattle.lerc_words.specs.Res.{Res, ok, fail, _>>=_, refuse, require, wordAt, little, each}
 use Rattle.lerc_words.specs.Lists.{tabulate}
 use Rattle.lerc_words.proofs.Each.{each-none}
-use Rattle.lerc_words.proofs.Laws.{bind-is, ok-is, wordAt-is}
+use Rattle.lerc_words.proofs.Laws.{Bytes, bind-is, bind-ok, bind-no, require-is, ok-is, wordAt-is, byte-lt}
 use Rattle.lerc_numeric.specs.Numeric.{finite}
 use Rattle.lerc_numeric.specs.Kinds.{typeSize}
 use Rattle.lerc_samples.specs.Samples.{sampleAt, stored, offsetKind}
 use Rattle.lerc_block.specs.declared.BlockAnswer.{BlockAnswer}
 use Rattle.lerc_block.specs.declared.BlockAnswer.the-variants as answer
-use Rattle.lerc_block.specs.Block.{Block, rawWords, levelBlock, steppedBlock, offsetBlock, formed, blockSays, readBlockSays, blockSaid, BlockRead}
+use Rattle.lerc_block.specs.Block.{Block, Offset, rawWords, levelBlock, steppedBlock, offsetAt, finiteOffset, offsetBlock, formed, flagAt, blockSays, tileLimit, readFlag, readBlockSays, blockSaid, BlockRead}
 
 -- ---- an answer that was taken apart, and what it says
 
@@ -82,60 +83,131 @@ level-none at kind offset n e = rw (e, each-none (stored kind))
 
 -- ---- an offset
 
--- an offset that was read lies within
-pub sample-inside : (k : ℕ) (s : List ℕ) (at : ℕ) {v : ℕ} → sampleAt k s at ≡ ok v → at + typeSize k ≤ length s
-unfolding sampleAt
-sample-inside k s at e =
-    let (w, p, q) = bind-is (wordAt (typeSize k) s at) _ e in
-    wordAt-is (typeSize k) s at w p .inside
-
-module _ (s : List ℕ) (at kind error top flag n : ℕ) where
-  pub offset-none : {r : Refusal} → offsetKind kind (flag / 64) ≡ fail r → offsetBlock s at kind error top flag n ≡ fail r
-  unfolding offsetBlock
+module _ (s : List ℕ) (at kind flag : ℕ) where
+  pub offset-none : {r : Refusal} → offsetKind kind (flag / 64) ≡ fail r → fail r ≡ offsetAt s at kind flag
+  unfolding offsetAt
   offset-none e = rw e
 
   module _ (k : ℕ) (e : offsetKind kind (flag / 64) ≡ ok k) where
-    pub offset-no : {r : Refusal} → sampleAt k s at ≡ fail r → offsetBlock s at kind error top flag n ≡ fail r
-    unfolding offsetBlock
+    pub offset-no : {r : Refusal} → sampleAt k s at ≡ fail r → fail r ≡ offsetAt s at kind flag
+    unfolding offsetAt
     offset-no d = rw (e, d)
 
-    module _ (offset : ℕ) (d : sampleAt k s at ≡ ok offset) where
-      pub offset-endless : finite offset ≡ false → offsetBlock s at kind error top flag n ≡ fail (refuse 8)
-      unfolding offsetBlock
-      offset-endless f = rw (e, d, f)
+    pub offset-ok : (v size : ℕ) → sampleAt k s at ≡ ok v → size ≡ typeSize k → ok (record { value = v; next = at + size }) ≡ offsetAt s at kind flag
+    unfolding offsetAt
+    offset-ok v size d z = rw (e, d, z)
 
-      module _ (size : ℕ) (z : size ≡ typeSize k) (f : finite offset ≡ true) where
-        pub offset-level : flag % 4 ≡ 3 → offsetBlock s at kind error top flag n ≡ levelBlock (at + size) kind offset n
-        unfolding offsetBlock
-        offset-level g = rw (e, d, f, eq-eqb _ _ g, z)
+  pub finite-no : {r : Refusal} → offsetAt s at kind flag ≡ fail r → fail r ≡ finiteOffset s at kind flag
+  unfolding finiteOffset
+  finite-no e = rw e
 
-        pub offset-stepped : (flag % 4 ≡ 3 → ⊥) → offsetBlock s at kind error top flag n ≡ steppedBlock s (at + size) kind error top offset n
-        unfolding offsetBlock
-        offset-stepped g = rw (e, d, f, ne-eqb _ _ g, z)
+  module _ {o : Offset} (e : offsetAt s at kind flag ≡ ok o) where
+    pub finite-endless : finite (o .value) ≡ false → fail (refuse 8) ≡ finiteOffset s at kind flag
+    unfolding finiteOffset
+    finite-endless f = rw (e, f)
+
+    pub finite-ok : finite (o .value) ≡ true → ok o ≡ finiteOffset s at kind flag
+    unfolding finiteOffset
+    finite-ok f = rw (e, f)
+
+-- an offset that was read
+pub record Found (s : List ℕ) (at kind flag : ℕ) (o : Offset) : Type 0 where
+  pub k : ℕ
+  pub named : offsetKind kind (flag / 64) ≡ ok k
+  pub sampled : sampleAt k s at ≡ ok (o .value)
+  pub ends : o .next ≡ at + typeSize k
+
+module _ (s : List ℕ) (at kind flag : ℕ) {o : Offset} where
+  pub offset-is : offsetAt s at kind flag ≡ ok o → Found s at kind flag o
+  unfolding offsetAt
+  offset-is e =
+      let (k, p, e) = bind-is (offsetKind kind (flag / 64)) _ e in
+      let (v, q, e) = bind-is (sampleAt k s at) _ e in
+      let z = ok-is e in
+      record { k = k; named = p; sampled = q ∙ ap (λ (o : Offset). ok (o .value)) z; ends = ap (λ (o : Offset). o .next) (sym z) }
+
+  pub finite-is : finiteOffset s at kind flag ≡ ok o → (offsetAt s at kind flag ≡ ok o) × (finite (o .value) ≡ true)
+  unfolding finiteOffset
+  finite-is e =
+      let (u, p, e) = bind-is (offsetAt s at kind flag) _ e in
+      let (t, q, e) = bind-is (require (finite (u .value)) 8) _ e in
+      rw (← ok-is e) (p, require-is _ 8 q)
+
+module _ (s : List ℕ) (at kind error top flag n : ℕ) where
+  pub offset-refused : {r : Refusal} → finiteOffset s at kind flag ≡ fail r → offsetBlock s at kind error top flag n ≡ fail r
+  unfolding offsetBlock
+  offset-refused e = rw e
+
+  module _ {o : Offset} (e : finiteOffset s at kind flag ≡ ok o) where
+    pub offset-level : flag % 4 ≡ 3 → offsetBlock s at kind error top flag n ≡ levelBlock (o .next) kind (o .value) n
+    unfolding offsetBlock
+    offset-level g = rw (e, eq-eqb _ _ g)
+
+    pub offset-stepped : (flag % 4 ≡ 3 → ⊥) → offsetBlock s at kind error top flag n ≡ steppedBlock s (o .next) kind error top (o .value) n
+    unfolding offsetBlock
+    offset-stepped g = rw (e, ne-eqb _ _ g)
+
+-- ---- the flag
+
+module _ (s : List ℕ) (at x n : ℕ) where
+  pub flag-many : 256 < n → fail (refuse 8) ≡ readFlag s at x n
+  unfolding readFlag
+  flag-many h = rw (lt-leb _ _ h)
+
+  module _ (h : n ≤ 256) where
+    pub flag-no : {r : Refusal} → wordAt 1 s at ≡ fail r → fail r ≡ readFlag s at x n
+    unfolding readFlag flagAt
+    flag-no e = rw (le-leb _ _ h, e)
+
+    module _ (flag : ℕ) (e : wordAt 1 s at ≡ ok flag) where
+      pub flag-strange : (flag / 4 % 16 ≡ x / 8 % 16 → ⊥) → fail (refuse 8) ≡ readFlag s at x n
+      unfolding readFlag flagAt
+      flag-strange d = rw (le-leb _ _ h, e, ne-eqb _ _ d)
+
+      pub flag-ok : flag / 4 % 16 ≡ x / 8 % 16 → ok flag ≡ readFlag s at x n
+      unfolding readFlag flagAt
+      flag-ok d = rw (le-leb _ _ h, e, eq-eqb _ _ d)
+
+-- a flag that was accepted
+module _ (s : List ℕ) (at x : ℕ) {flag : ℕ} where
+  pub flag-is : flagAt s at x ≡ ok flag → (wordAt 1 s at ≡ ok flag) × (eqb (flag / 4 % 16) (x / 8 % 16) ≡ true)
+  unfolding flagAt
+  flag-is e =
+      let (v, p, e) = bind-is (wordAt 1 s at) _ e in
+      let (t, q, e) = bind-is (require (eqb (v / 4 % 16) (x / 8 % 16)) 8) _ e in
+      rw (← ok-is e) (p, require-is _ 8 q)
+
+-- what was read for a tile of n pixels
+pub record Flagged (s : List ℕ) (at n flag : ℕ) : Type 0 where
+  pub few : n ≤ 256
+  pub inside : at + 1 ≤ length s
+  pub byte : Bytes s → flag < 256
+
+pub read-flag-is : (s : List ℕ) (at x n : ℕ) {flag : ℕ} → readFlag s at x n ≡ ok flag → Flagged s at n flag
+unfolding readFlag
+read-flag-is s at x n {flag} e =
+    let (t, p, e) = bind-is (require (leb n tileLimit) 8) _ e in
+    let w = flag-is s at x e .0 in
+    record { few = leb-true _ _ (require-is _ 8 p); inside = wordAt-is 1 s at flag w .inside; byte = λ y. byte-lt s at flag y w }
 
 -- ---- the block
 
 module _ (s : List ℕ) (at kind error top x n : ℕ) where
-  pub read-many : 256 < n → readBlockSays s at kind error top x n ≡ fail (refuse 8)
-  unfolding readBlockSays
-  read-many h = rw (lt-leb _ _ h)
+  read-flagged : readBlockSays s at kind error top x n ≡ (readFlag s at x n >>= λ flag. formed s (at + 1) kind error top flag n)
+  unfolding readBlockSays blockSays readFlag
+  read-flagged = go (leb n tileLimit)
+    where
+      go : (t : Bool)
+          → (require t 8 >>= λ _. flagAt s at x >>= λ flag. formed s (at + 1) kind error top flag n)
+          ≡ ((require t 8 >>= λ _. flagAt s at x) >>= λ flag. formed s (at + 1) kind error top flag n)
+      go true = refl
+      go false = refl
 
-  pub block-read : n ≤ 256 → readBlockSays s at kind error top x n ≡ blockSays s at kind error top x n
-  unfolding readBlockSays
-  block-read h = rw (le-leb _ _ h)
+  pub read-no : {r : Refusal} → readFlag s at x n ≡ fail r → readBlockSays s at kind error top x n ≡ fail r
+  read-no e = read-flagged ∙ bind-no _ e
 
-  pub block-no : {r : Refusal} → wordAt 1 s at ≡ fail r → blockSays s at kind error top x n ≡ fail r
-  unfolding blockSays
-  block-no e = rw e
-
-  module _ (flag : ℕ) (e : wordAt 1 s at ≡ ok flag) where
-    pub block-strange : (flag / 4 % 16 ≡ x / 8 % 16 → ⊥) → blockSays s at kind error top x n ≡ fail (refuse 8)
-    unfolding blockSays
-    block-strange d = rw (e, ne-eqb _ _ d)
-
-    pub block-formed : flag / 4 % 16 ≡ x / 8 % 16 → blockSays s at kind error top x n ≡ formed s (at + 1) kind error top flag n
-    unfolding blockSays
-    block-formed d = rw (e, eq-eqb _ _ d)
+  pub read-formed : (flag : ℕ) → readFlag s at x n ≡ ok flag → readBlockSays s at kind error top x n ≡ formed s (at + 1) kind error top flag n
+  read-formed flag e = read-flagged ∙ bind-ok _ e
 
 module _ (s : List ℕ) (at kind error top flag n : ℕ) where
   pub formed-raw : flag % 4 ≡ 0 → formed s at kind error top flag n ≡ rawWords s at kind n

@@ -18,7 +18,7 @@ pub filling-none : (f : ℕ → ℕ) (n : ℕ) (old : List ℕ) → n ≤ length
 unfolding from
 filling-none f n old h = record { few = omega arith; room = h; is = refl }
 
-module _ (f : ℕ → ℕ) (n k : ℕ) (old now : List ℕ) (t : Filling f n k old now) where
+module _ {f : ℕ → ℕ} {n k : ℕ} {old now : List ℕ} (t : Filling f n k old now) where
   pub filling-length : length now ≡ length old
   filling-length = rw (t .is) (length-table k f old (omega (arith, t .few, t .room)))
 

@@ -1,24 +1,24 @@
 -- Where a block ends: what each way of reading gives, and that an accepted block ends there.
 -- Assumes nothing.
-use mathlib.Core.Path.{_≡_, sym, ap, _∙_}
+use mathlib.Core.Path.{_≡_, sym, ap, _∙_, refl}
 use mathlib.Core.Bool.{Bool, true, false, cond}
 use mathlib.Core.List.{List}
-use Prim.Native.Nat.{ℕ, _+_, _*_, _/_, _%_, _≤_, _<_}
+use Prim.Native.Nat.{ℕ, _+_, _*_, _%_, _≤_, _<_}
 use borrow.Author.Tests.{le-leb, lt-leb, eq-eqb, ne-eqb}
 use lib.Dec.{leb, eqb}
 use lib.ListN.{length, replicate}
 use Rattle.lerc_words.specs.declared.Refusal.{Refusal}
-use Rattle.lerc_words.specs.Res.{Res, ok, fail, _>>=_, refuse, require, wordAt, each}
-use Rattle.lerc_words.proofs.Laws.{bind-is, ok-is}
-use Rattle.lerc_numeric.specs.Numeric.{finite}
+use Rattle.lerc_words.specs.Res.{Res, ok, fail, _>>=_, refuse, require, little, wordAt, each}
+use Rattle.lerc_words.proofs.Laws.{bind-is, ok-is, wordAt-is}
 use Rattle.lerc_numeric.specs.Kinds.{typeSize}
-use Rattle.lerc_samples.specs.Samples.{sampleAt, stored, offsetKind}
+use Rattle.lerc_samples.specs.Samples.{stored}
 use Rattle.lerc_bits.specs.declared.Plan.{Plan}
 use Rattle.lerc_bits.specs.Bits.{counts, plan}
 use Rattle.lerc_bits.proofs.Values.{counts-planned}
-use Rattle.lerc_block.specs.Block.{Block, rawWords, levelBlock, steppedBlock, offsetBlock, formed, blockSays}
+use Rattle.lerc_block.specs.Block.{Block, Offset, rawWords, levelBlock, steppedBlock, offsetAt, finiteOffset, offsetBlock, formed, flagAt, blockSays}
 use Rattle.lerc_block.specs.End.{rawEnd, countsEnd, offsetEnd, formEnd, endSays}
 use Rattle.lerc_block.specs.Steps.{stepWord}
+use Rattle.lerc_block.proofs.Answers.{finite-is, flag-is}
 
 -- ---- what each way of reading gives
 
@@ -41,23 +41,18 @@ unfolding countsEnd
 counts-end-no s at e = rw e
 
 module _ (s : List ℕ) (at kind flag : ℕ) where
-  pub offset-end-none : {r : Refusal} → offsetKind kind (flag / 64) ≡ fail r → fail r ≡ offsetEnd s at kind flag
+  pub offset-end-no : {r : Refusal} → offsetAt s at kind flag ≡ fail r → fail r ≡ offsetEnd s at kind flag
   unfolding offsetEnd
-  offset-end-none e = rw e
+  offset-end-no e = rw e
 
-  module _ (k size : ℕ) (e : offsetKind kind (flag / 64) ≡ ok k) (z : size ≡ typeSize k) where
-    pub offset-end-no : {r : Refusal} → wordAt size s at ≡ fail r → fail r ≡ offsetEnd s at kind flag
+  module _ {o : Offset} (e : offsetAt s at kind flag ≡ ok o) where
+    pub offset-end-level : flag % 4 ≡ 3 → ok (o .next) ≡ offsetEnd s at kind flag
     unfolding offsetEnd
-    offset-end-no d = rw (e, ← z, d)
+    offset-end-level f = rw (e, eq-eqb _ _ f)
 
-    module _ (w : ℕ) (d : wordAt size s at ≡ ok w) where
-      pub offset-end-level : flag % 4 ≡ 3 → ok (at + size) ≡ offsetEnd s at kind flag
-      unfolding offsetEnd
-      offset-end-level f = rw (e, ← z, d, eq-eqb _ _ f)
-
-      pub offset-end-counts : (flag % 4 ≡ 3 → ⊥) → countsEnd s (at + size) ≡ offsetEnd s at kind flag
-      unfolding offsetEnd
-      offset-end-counts f = rw (e, ← z, d, ne-eqb _ _ f)
+    pub offset-end-counts : (flag % 4 ≡ 3 → ⊥) → countsEnd s (o .next) ≡ offsetEnd s at kind flag
+    unfolding offsetEnd
+    offset-end-counts f = rw (e, ne-eqb _ _ f)
 
 module _ (s : List ℕ) (at kind n : ℕ) where
   pub end-no : {r : Refusal} → wordAt 1 s at ≡ fail r → fail r ≡ endSays s at kind n
@@ -112,14 +107,10 @@ stepped-ends s at kind error top offset n b e =
     sym (counts-end-ok s at (f .1)) ∙ ap ok (f .3) ∙ given-ends e
 
 offset-ends : (s : List ℕ) (at kind error top flag n : ℕ) (b : Block) → Ends b (offsetBlock s at kind error top flag n) (offsetEnd s at kind flag)
-unfolding offsetBlock offsetEnd sampleAt
+unfolding offsetBlock offsetEnd
 offset-ends s at kind error top flag n b e =
-    let (k, p, e) = bind-is (offsetKind kind (flag / 64)) _ e in
-    let (offset, q, e) = bind-is (sampleAt k s at) _ e in
-    let (w, y, q) = bind-is (wordAt (typeSize k) s at) _ q in
-    let (t, r, e) = bind-is (require (finite offset) 8) _ e in
-    let to = at + typeSize k in
-    rw (p, y) (cond-ends b (eqb (flag % 4) 3) (level-ends to kind offset n b) (stepped-ends s to kind error top offset n b) e)
+    let (o, p, e) = bind-is (finiteOffset s at kind flag) _ e in
+    rw (finite-is s at kind flag p .0) (cond-ends b (eqb (flag % 4) 3) (level-ends (o .next) kind (o .value) n b) (stepped-ends s (o .next) kind error top (o .value) n b) e)
 
 formed-ends : (s : List ℕ) (at kind error top flag n : ℕ) (b : Block) → Ends b (formed s at kind error top flag n) (formEnd s at kind flag n)
 unfolding formed formEnd
@@ -128,9 +119,19 @@ formed-ends s at kind error top flag n b =
     (cond-ends b (eqb (flag % 4) 2) given-ends
     (offset-ends s at kind error top flag n b))
 
+-- a block that is not raw ends in one place, however many pixels of its tile are valid
+pub end-any : (s : List ℕ) (at kind n m : ℕ) → (little 1 s at % 4 ≡ 0 → ⊥) → endSays s at kind n ≡ endSays s at kind m
+unfolding endSays formEnd
+end-any s at kind n m h = go (wordAt 1 s at) refl
+  where
+    go : (w : Res ℕ) → wordAt 1 s at ≡ w → (w >>= λ flag. formEnd s (at + 1) kind flag n) ≡ (w >>= λ flag. formEnd s (at + 1) kind flag m)
+    go (fail r) e = refl
+    go (ok flag) e =
+        let v : flag ≡ little 1 s at = wordAt-is 1 s at flag e .value in
+        rw (v, ne-eqb (little 1 s at % 4) 0 h)
+
 pub end-is : (s : List ℕ) (at kind error top x n : ℕ) {b : Block} → blockSays s at kind error top x n ≡ ok b → endSays s at kind n ≡ ok (b .next)
 unfolding blockSays endSays
 end-is s at kind error top x n {b} e =
-    let (flag, p, e) = bind-is (wordAt 1 s at) _ e in
-    let (t, q, e) = bind-is (require (eqb (flag / 4 % 16) (x / 8 % 16)) 8) _ e in
-    rw (p) (formed-ends s (at + 1) kind error top flag n b e)
+    let (flag, p, e) = bind-is (flagAt s at x) _ e in
+    rw (flag-is s at x p .0) (formed-ends s (at + 1) kind error top flag n b e)

@@ -3,7 +3,7 @@
 use mathlib.Core.Path.{_≡_, refl, ap}
 use mathlib.Core.Bool.{Bool, true, false, not, _&&_, _||_}
 use mathlib.Core.List.{List, [], _∷_}
-use Prim.Native.Nat.{ℕ, _+_, _*_, _≤_, _<_}
+use Prim.Native.Nat.{ℕ, _+_, _*_, _/_, _≤_, _<_}
 use native.Mathlib.Omega.{arith}
 use borrow.Author.Tests.{leb-true, le-leb, lt-leb, eq-eqb, ne-eqb}
 use lib.Dec.{leb, eqb}
@@ -13,15 +13,15 @@ use Rattle.lerc_words.specs.Res.{Res, ok, fail, _>>=_, refuse, require, each, a
 use Rattle.lerc_words.proofs.Laws.{and-is, accepts-is}
 use Rattle.lerc_numeric.specs.Numeric.{negative}
 use Rattle.lerc_numeric.specs.Kinds.{typeSize}
-use Rattle.lerc_samples.specs.Samples.{sampleAt, stored, offsetKind}
+use Rattle.lerc_samples.specs.Samples.{stored}
 use Rattle.lerc_samples.proofs.Storable.{Storable, storable-float, storable-clamped, offset-storable}
 use Rattle.lerc_samples.proofs.Reading.{sample-is}
 use Rattle.lerc_bits.specs.Bits.{Counts, counts}
-use Rattle.lerc_block.specs.Block.{Block, rawWords, levelBlock, stepValue, steppedBlock, nextBlock}
+use Rattle.lerc_block.specs.Block.{Block, Offset, rawWords, levelBlock, stepValue, steppedBlock, finiteOffset, nextBlock}
 use Rattle.lerc_block.specs.Steps.{stepWord}
 use Rattle.lerc_block.specs.End.{rawEnd}
 use Rattle.lerc_block.specs.Check.{stepsFit, countedEnd}
-use Rattle.lerc_block.proofs.Answers.{level-ok}
+use Rattle.lerc_block.proofs.Answers.{level-ok, offset-is, finite-is}
 
 -- ---- when every step fits
 
@@ -63,8 +63,10 @@ module _ (kind error top : ℕ) where
             storable-clamped kind offset error q top held (accepts-is (stored kind top) (b .1)) (minus (negative error) (b .0))
 
 -- an offset that was read can be stored
-pub offset-held : (kind code k : ℕ) (s : List ℕ) (at v : ℕ) → offsetKind kind code ≡ ok k → sampleAt k s at ≡ ok v → Storable kind v
-offset-held kind code k s at v o e = rw (sample-is k s at v e .value) (offset-storable kind code k (little (typeSize k) s at) o)
+pub offset-held : (s : List ℕ) (at kind flag : ℕ) {o : Offset} → finiteOffset s at kind flag ≡ ok o → Storable kind (o .value)
+offset-held s at kind flag {o} e =
+    let f = offset-is s at kind flag (finite-is s at kind flag e .0) in
+    rw (sample-is (f .k) s at (o .value) (f .sampled) .value) (offset-storable kind (flag / 64) (f .k) (little (typeSize (f .k)) s at) (f .named))
 
 -- ---- the forms of a block
 

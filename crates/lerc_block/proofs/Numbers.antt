@@ -16,7 +16,7 @@ use Rattle.lerc_bits.specs.declared.Plan.{Plan}
 use Rattle.lerc_bits.specs.Bits.{countBytes, plainPlan, tablePlan, fits, tabled, plan, counts}
 use Rattle.lerc_bits.proofs.Answers.{counts-no}
 use Rattle.lerc_bits.proofs.Values.{counts-eight}
-use Rattle.lerc_block.specs.Block.{rawWords, levelBlock, steppedBlock, offsetBlock, formed, blockSays}
+use Rattle.lerc_block.specs.Block.{rawWords, levelBlock, steppedBlock, offsetAt, finiteOffset, offsetBlock, formed, flagAt, blockSays}
 use Rattle.lerc_block.specs.Steps.{stepWord}
 
 pub data BlockNumber : Refusal → Type 0 where
@@ -120,14 +120,18 @@ stepped-only s at kind error top offset n =
     bind-only (require (eqb (length (c .values)) n) 8) _ (require-only (eqb (length (c .values)) n) eight) (λ t.
     bind-only (each (stepWord kind error top offset) (c .values)) _ (each-only (stepWord kind error top offset) (λ q. stored-only kind _) (c .values)) (λ ws. given-only _)))
 
+finite-only : (s : List ℕ) (at kind flag : ℕ) → Only (finiteOffset s at kind flag)
+unfolding finiteOffset offsetAt
+finite-only s at kind flag =
+    bind-only (offsetAt s at kind flag) _
+    (bind-only (offsetKind kind (flag / 64)) _ (kind-only kind (flag / 64)) (λ k. bind-only (sampleAt k s at) _ (sample-only k s at) (λ v. given-only _)))
+    (λ o. bind-only (require (finite (o .value)) 8) _ (require-only (finite (o .value)) eight) (λ t. given-only o))
+
 offset-only : (s : List ℕ) (at kind error top flag n : ℕ) → Only (offsetBlock s at kind error top flag n)
 unfolding offsetBlock
 offset-only s at kind error top flag n =
-    bind-only (offsetKind kind (flag / 64)) _ (kind-only kind (flag / 64)) (λ k.
-    bind-only (sampleAt k s at) _ (sample-only k s at) (λ offset.
-    bind-only (require (finite offset) 8) _ (require-only (finite offset) eight) (λ t.
-    let to = at + typeSize k in
-    cond-only (eqb (flag % 4) 3) (level-only to kind offset n) (stepped-only s to kind error top offset n))))
+    bind-only (finiteOffset s at kind flag) _ (finite-only s at kind flag)
+    (λ o. cond-only (eqb (flag % 4) 3) (level-only (o .next) kind (o .value) n) (stepped-only s (o .next) kind error top (o .value) n))
 
 formed-only : (s : List ℕ) (at kind error top flag n : ℕ) → Only (formed s at kind error top flag n)
 unfolding formed
@@ -136,13 +140,14 @@ formed-only s at kind error top flag n =
     (cond-only (eqb (flag % 4) 2) (given-only _)
     (offset-only s at kind error top flag n))
 
+flag-only : (s : List ℕ) (at x : ℕ) → Only (flagAt s at x)
+unfolding flagAt
+flag-only s at x =
+    bind-only (wordAt 1 s at) _ (word-only 1 s at) (λ flag.
+    let t = eqb (flag / 4 % 16) (x / 8 % 16) in
+    bind-only (require t 8) _ (require-only t eight) (λ u. given-only flag))
+
 pub block-numbers : (s : List ℕ) (at kind error top x n : ℕ) {r : Refusal} → blockSays s at kind error top x n ≡ fail r → BlockNumber r
 unfolding blockSays
-block-numbers s at kind error top x n {r} e = all r e
-  where
-    all : Only (blockSays s at kind error top x n)
-    all =
-        bind-only (wordAt 1 s at) _ (word-only 1 s at) (λ flag.
-        let t = eqb (flag / 4 % 16) (x / 8 % 16) in
-        bind-only (require t 8) _ (require-only t eight) (λ u.
-        formed-only s (at + 1) kind error top flag n))
+block-numbers s at kind error top x n {r} e =
+    bind-only (flagAt s at x) _ (flag-only s at x) (λ flag. formed-only s (at + 1) kind error top flag n) r e

@@ -17,7 +17,7 @@ use Rattle.lerc_samples.specs.Samples.{sampleAt, stored, offsetKinds, noKind, o
 use Rattle.lerc_samples.proofs.Storable.{Storable}
 use Rattle.lerc_bits.specs.declared.Plan.{Plan}
 use Rattle.lerc_bits.specs.Bits.{countBytes, fits, plainPlan, tablePlan, tabled, plan, run, allBelow, lookedUp, valuesOf, unpacked, counts}
-use Rattle.lerc_block.specs.Block.{rawWords, levelBlock, stepValue, steppedBlock, offsetBlock, formed, blockSays}
+use Rattle.lerc_block.specs.Block.{Block, rawWords, levelBlock, stepValue, steppedBlock, offsetAt, finiteOffset, offsetBlock, formed, flagAt, blockSays}
 use Rattle.lerc_block.specs.Steps.{stepWord}
 use Rattle.lerc_block.proofs.Fitting.{fit-storable, step-fits, offset-held}
 
@@ -132,25 +132,34 @@ module _ (s : List ℕ) (kind error top : ℕ) (high : Storable kind top) (plus 
         (λ _. spared-bind (each (stepWord kind error top offset) (c .values)) _
         (spared-each _ (λ q. storable-spared kind (stepValue error top offset q) (step-fits kind error top (fit-storable kind error top high plus) offset held q)) (c .values)) (λ ws _. spared-ok _)))
 
+  finite-spared : (at flag : ℕ) → Spared (finiteOffset s at kind flag)
+  unfolding finiteOffset offsetAt
+  finite-spared at flag =
+      spared-bind (offsetAt s at kind flag) _
+      (spared-bind (offsetKind kind (flag / 64)) _ (offset-spared kind (flag / 64)) (λ k _. spared-bind (sampleAt k s at) _ (sample-spared s k at) (λ v _. spared-ok _)))
+      (λ o _. spared-if (finite (o .value)) 8 _ refl (λ _. spared-ok o))
+
   offset-block : (at flag n : ℕ) → Spared (offsetBlock s at kind error top flag n)
   unfolding offsetBlock
   offset-block at flag n =
-      spared-bind (offsetKind kind (flag / 64)) _ (offset-spared kind (flag / 64))
-      (λ k o. spared-bind (sampleAt k s at) _ (sample-spared s k at)
-      (λ v e. spared-if (finite v) 8 _ refl
-      (λ _.
-      let held = offset-held kind (flag / 64) k s at v o e in
-      let to = at + typeSize k in
-      spared-cond (eqb (flag % 4) 3) (levelBlock to kind v n) (steppedBlock s to kind error top v n) (λ _. level-spared v held to n) (λ _. stepped-spared v held to n))))
+      spared-bind (finiteOffset s at kind flag) _ (finite-spared at flag)
+      (λ o e.
+      let held = offset-held s at kind flag e in
+      spared-cond (eqb (flag % 4) 3) (levelBlock (o .next) kind (o .value) n) (steppedBlock s (o .next) kind error top (o .value) n)
+      (λ _. level-spared (o .value) held (o .next) n) (λ _. stepped-spared (o .value) held (o .next) n))
+
+  formed-spared : (at flag n : ℕ) → Spared (formed s at kind error top flag n)
+  unfolding formed
+  formed-spared at flag n =
+      let zeros : Res Block = ok (record { words = replicate n 0; next = at }) in
+      let offset = offsetBlock s at kind error top flag n in
+      spared-cond (eqb (flag % 4) 0) (rawWords s at kind n) (cond (eqb (flag % 4) 2) zeros offset)
+      (λ _. raw-spared s kind at n)
+      (λ _. spared-cond (eqb (flag % 4) 2) zeros offset (λ _. spared-ok _) (λ _. offset-block at flag n))
 
   pub block-spared : (at x n : ℕ) → Spared (blockSays s at kind error top x n)
-  unfolding blockSays formed
+  unfolding blockSays flagAt
   block-spared at x n =
-      spared-bind (wordAt 1 s at) _ (word-spared s 1 at)
-      (λ flag _. spared-if (eqb (flag / 4 % 16) (x / 8 % 16)) 8 _ refl
-      (λ _.
-      let zeros = ok (record { words = replicate n 0; next = at + 1 }) in
-      let offset = offsetBlock s (at + 1) kind error top flag n in
-      spared-cond (eqb (flag % 4) 0) (rawWords s (at + 1) kind n) (cond (eqb (flag % 4) 2) zeros offset)
-      (λ _. raw-spared s kind (at + 1) n)
-      (λ _. spared-cond (eqb (flag % 4) 2) zeros offset (λ _. spared-ok _) (λ _. offset-block (at + 1) flag n))))
+      spared-bind (flagAt s at x) _
+      (spared-bind (wordAt 1 s at) _ (word-spared s 1 at) (λ flag _. spared-if (eqb (flag / 4 % 16) (x / 8 % 16)) 8 _ refl (λ _. spared-ok flag)))
+      (λ flag _. formed-spared (at + 1) flag n)

@@ -15,6 +15,8 @@ use Rattle.lerc_samples.specs.Samples.{sampleAt, stored, offsetKind}
 use Rattle.lerc_bits.specs.Bits.{counts}
 use Rattle.lerc_block.specs.declared.BlockAnswer.{BlockAnswer}
 use Rattle.lerc_block.specs.declared.BlockAnswer.the-variants as answer
+use Rattle.lerc_block.specs.declared.fields.FieldAnswer.{FieldAnswer}
+use Rattle.lerc_block.specs.declared.fields.FieldAnswer.the-variants as field
 
 -- the word of each valid pixel of the tile, in order, and where the next block begins
 pub record Block : Type 0 where
@@ -45,13 +47,30 @@ steppedBlock s at kind error top offset n = do
   words ← each (λ q. stored kind (stepValue error top offset q)) (c .values)
   ok (record { words = words; next = c .next })
 
--- low bits 1 and 3: an offset of the kind that the table names; "A non-finite offset is 8."
+-- an offset's value, and where it ends
+pub record Offset : Type 0 where
+  pub value : ℕ
+  pub next : ℕ
+
+-- the offset at `at`, of the kind that the table names
+unfoldable pub offsetAt : List ℕ → ℕ → ℕ → ℕ → Res Offset
+offsetAt s at kind flag = do
+  k ← offsetKind kind (flag / 64)
+  value ← sampleAt k s at
+  ok (record { value = value; next = at + typeSize k })
+
+-- "A non-finite offset is 8."
+unfoldable pub finiteOffset : List ℕ → ℕ → ℕ → ℕ → Res Offset
+finiteOffset s at kind flag = do
+  o ← offsetAt s at kind flag
+  _ ← require (finite (o .value)) 8
+  ok o
+
+-- low bits 1 and 3
 unfoldable pub offsetBlock : List ℕ → ℕ → ℕ → ℕ → ℕ → ℕ → ℕ → Res Block
 offsetBlock s at kind error top flag n = do
-  k ← offsetKind kind (flag / 64)
-  offset ← sampleAt k s at
-  _ ← require (finite offset) 8
-  cond (eqb (flag % 4) 3) (levelBlock (at + typeSize k) kind offset n) (steppedBlock s (at + typeSize k) kind error top offset n)
+  o ← finiteOffset s at kind flag
+  cond (eqb (flag % 4) 3) (levelBlock (o .next) kind (o .value) n) (steppedBlock s (o .next) kind error top (o .value) n)
 
 -- "Low two bits: 0 raw words of valid pixels; 2 zero words; 3 one offset; 1 offset and packed counts."
 unfoldable pub formed : List ℕ → ℕ → ℕ → ℕ → ℕ → ℕ → ℕ → Res Block
@@ -60,18 +79,29 @@ formed s at kind error top flag n =
     (cond (eqb (flag % 4) 2) (ok (record { words = replicate n 0; next = at }))
     (offsetBlock s at kind error top flag n))
 
--- the block at `at`, of a tile that begins in column x and has n valid pixels; `top` is its depth's maximum.
 -- "Flag byte: (flag/4)%16 must equal (x/8)%16."
-unfoldable pub blockSays : List ℕ → ℕ → ℕ → ℕ → ℕ → ℕ → ℕ → Res Block
-blockSays s at kind error top x n = do
+unfoldable pub flagAt : List ℕ → ℕ → ℕ → Res ℕ
+flagAt s at x = do
   flag ← wordAt 1 s at
   _ ← require (eqb (flag / 4 % 16) (x / 8 % 16)) 8
+  ok flag
+
+-- the block at `at`, of a tile that begins in column x and has n valid pixels; `top` is its depth's maximum
+unfoldable pub blockSays : List ℕ → ℕ → ℕ → ℕ → ℕ → ℕ → ℕ → Res Block
+blockSays s at kind error top x n = do
+  flag ← flagAt s at x
   formed s (at + 1) kind error top flag n
 
 -- ---- reading a block: a tile has at most 256 pixels, so more are 8
 
 abbrev pub tileLimit : ℕ
 tileLimit = 256
+
+-- its flag
+unfoldable pub readFlag : List ℕ → ℕ → ℕ → ℕ → Res ℕ
+readFlag s at x n = do
+  _ ← require (leb n tileLimit) 8
+  flagAt s at x
 
 unfoldable pub readBlockSays : List ℕ → ℕ → ℕ → ℕ → ℕ → ℕ → ℕ → Res Block
 readBlockSays s at kind error top x n = do
@@ -81,6 +111,14 @@ readBlockSays s at kind error top x n = do
 abbrev pub blockSaid : BlockAnswer → Res ℕ
 blockSaid (answer.Block next) = ok next
 blockSaid (answer.Refused r) = fail r
+
+abbrev pub fieldSaid : FieldAnswer → Res Offset
+fieldSaid (field.Offset v next) = ok (record { value = v; next = next })
+fieldSaid (field.Refused r) = fail r
+
+abbrev pub fieldRefused : FieldAnswer → Refusal
+fieldRefused (field.Offset v next) = refuse 0
+fieldRefused (field.Refused r) = r
 
 -- where the next block begins
 abbrev pub nextBlock : Res Block → Res ℕ

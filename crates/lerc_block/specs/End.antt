@@ -1,14 +1,14 @@
 -- Where a block ends, read without its values: for an accepted block this is the block's own end (end-is).
 -- Assumes nothing.
-use Prim.Native.Nat.{ℕ, _+_, _*_, _/_, _%_}
+use Prim.Native.Nat.{ℕ, _+_, _*_, _%_}
 use mathlib.Core.Bool.{cond}
 use mathlib.Core.List.{List}
 use lib.ListN.{length}
 use lib.Dec.{leb, eqb}
 use Rattle.lerc_words.specs.Res.{Res, ok, _>>=_, require, wordAt}
 use Rattle.lerc_numeric.specs.Kinds.{typeSize}
-use Rattle.lerc_samples.specs.Samples.{offsetKind}
 use Rattle.lerc_bits.specs.Bits.{plan}
+use Rattle.lerc_block.specs.Block.{offsetAt}
 
 -- "0 raw words of valid pixels"
 unfoldable pub rawEnd : List ℕ → ℕ → ℕ → ℕ → Res ℕ
@@ -25,9 +25,8 @@ countsEnd s at = do
 -- "3 one offset; 1 offset and packed counts"
 unfoldable pub offsetEnd : List ℕ → ℕ → ℕ → ℕ → Res ℕ
 offsetEnd s at kind flag = do
-  k ← offsetKind kind (flag / 64)
-  _ ← wordAt (typeSize k) s at
-  cond (eqb (flag % 4) 3) (ok (at + typeSize k)) (countsEnd s (at + typeSize k))
+  o ← offsetAt s at kind flag
+  cond (eqb (flag % 4) 3) (ok (o .next)) (countsEnd s (o .next))
 
 -- "Low two bits: 0 raw words of valid pixels; 2 zero words; .."
 unfoldable pub formEnd : List ℕ → ℕ → ℕ → ℕ → ℕ → Res ℕ

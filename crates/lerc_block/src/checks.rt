@@ -8,10 +8,10 @@ ghost use Rattle.lerc_block.specs.Block.{blockSaid, nextBlock, steppedBl
 ghost use Rattle.lerc_block.specs.Check.{stepsFit, countedEnd};
 use super::BlockAnswer;
 use super::ends;
+use super::fields;
+use super::fields::FieldAnswer;
 use super::read_stepped;
 use lerc_bits::CountsAnswer;
-use lerc_samples::OffsetAnswer;
-use lerc_samples::SampleAnswer;
 use lerc_samples::StoredAnswer;
 use lerc_words::Refusal;
 use lerc_words::WordAnswer;
@@ -80,24 +80,15 @@ fn check_offset(
     requires { ⌜ n ≤ 256 ⌝ }
     ensures { λ r. ⌜ blockSaid r ≡ nextBlock (offsetBlock (now (s .entry)) at kind error top flag n) ⌝ }
 {
-    let a = lerc_samples::offset_kind(kind, flag / 64);
-    let OffsetAnswer::Kind(k) = a else {
+    let a = fields::finite_offset(s, at, kind, flag);
+    let FieldAnswer::Offset(offset, next) = a else {
         let why = a.refusal();
         return BlockAnswer::Refused(why);
     };
-    let b = lerc_samples::read(s, at, k);
-    let SampleAnswer::Value(offset) = b else {
-        let why = b.refusal();
-        return BlockAnswer::Refused(why);
-    };
-    if lerc_numeric::is_finite(offset) {
-        let next = at + lerc_numeric::size(k);
-        if flag % 4 == 3 {
-            return BlockAnswer::Block(next);
-        }
-        return check_stepped(s, next, kind, error, top, offset, n);
+    if flag % 4 == 3 {
+        return BlockAnswer::Block(next);
     }
-    BlockAnswer::Refused(Refusal { number: 8 })
+    check_stepped(s, next, kind, error, top, offset, n)
 }
 
 // what `read_block` answers, without the words
@@ -112,17 +103,11 @@ pub fn check_block(
 ) -> BlockAnswer
     ensures { λ r. ⌜ blockSaid r ≡ nextBlock (readBlockSays (now (s .entry)) at kind error maximum x n) ⌝ }
 {
-    if 256 < n {
-        return BlockAnswer::Refused(Refusal { number: 8 });
-    }
-    let a = lerc_words::word(s, at, 1);
+    let a = fields::flag_at(s, at, x, n);
     let WordAnswer::Word(flag) = a else {
         let why = a.refusal();
         return BlockAnswer::Refused(why);
     };
-    if flag / 4 % 16 != x as u64 / 8 % 16 {
-        return BlockAnswer::Refused(Refusal { number: 8 });
-    }
     if flag % 4 == 0 {
         return ends::raw_end(s, at + 1, kind, n);
     }

@@ -5,8 +5,9 @@ ghost use lib.ListN.{length};
 ghost use Rattle.lerc_block.specs.Block.{blockSaid};
 ghost use Rattle.lerc_block.specs.End.{rawEnd, countsEnd, offsetEnd, endSays};
 use super::BlockAnswer;
+use super::fields;
+use super::fields::FieldAnswer;
 use lerc_bits::PlanAnswer;
-use lerc_samples::OffsetAnswer;
 use lerc_words::Refusal;
 use lerc_words::WordAnswer;
 
@@ -35,21 +36,15 @@ fn counts_end(s: &[u8], at: usize) -> BlockAnswer
 fn offset_end(s: &[u8], at: usize, kind: u32, flag: u32) -> BlockAnswer
     ensures { λ r. ⌜ blockSaid r ≡ offsetEnd (now (s .entry)) at kind flag ⌝ }
 {
-    let a = lerc_samples::offset_kind(kind, flag / 64);
-    let OffsetAnswer::Kind(k) = a else {
+    let a = fields::offset_at(s, at, kind, flag);
+    let FieldAnswer::Offset(_value, next) = a else {
         let why = a.refusal();
         return BlockAnswer::Refused(why);
     };
-    let size = lerc_numeric::size(k);
-    let b = lerc_words::word(s, at, size);
-    let WordAnswer::Word(_w) = b else {
-        let why = b.refusal();
-        return BlockAnswer::Refused(why);
-    };
     if flag % 4 == 3 {
-        return BlockAnswer::Block(at + size);
+        return BlockAnswer::Block(next);
     }
-    counts_end(s, at + size)
+    counts_end(s, next)
 }
 
 // where the block at `at` ends, if it is accepted; its check bits and values are not looked at

@@ -8,15 +8,15 @@ ghost use Rattle.lerc_words.specs.Lists.{tabulate};
 ghost use Rattle.lerc_samples.specs.Samples.{storedSaid};
 ghost use Rattle.lerc_block.specs.Block.{rawWords, levelBlock, steppedBlock, offsetBlock, readBlockSays, blockRefused, BlockRead};
 ghost use Rattle.lerc_block.specs.Steps.{stepWord, Converted};
+use fields::FieldAnswer;
 use lerc_bits::CountsAnswer;
-use lerc_samples::OffsetAnswer;
-use lerc_samples::SampleAnswer;
 use lerc_samples::StoredAnswer;
 use lerc_words::Refusal;
 use lerc_words::WordAnswer;
 
 mod checks;
 mod ends;
+mod fields;
 
 pub use checks::check_block;
 pub use ends::block_end;
@@ -187,24 +187,15 @@ fn read_offset(
     requires { ⌜ n ≤ 256 ⌝ }
     ensures { λ r. ⌜ BlockRead (offsetBlock (now (s .entry)) at kind error top flag n) r (now (words .entry)) (now (words .exit)) ⌝ }
 {
-    let a = lerc_samples::offset_kind(kind, flag / 64);
-    let OffsetAnswer::Kind(k) = a else {
+    let a = fields::finite_offset(s, at, kind, flag);
+    let FieldAnswer::Offset(offset, next) = a else {
         let why = a.refusal();
         return BlockAnswer::Refused(why);
     };
-    let b = lerc_samples::read(s, at, k);
-    let SampleAnswer::Value(offset) = b else {
-        let why = b.refusal();
-        return BlockAnswer::Refused(why);
-    };
-    if lerc_numeric::is_finite(offset) {
-        let next = at + lerc_numeric::size(k);
-        if flag % 4 == 3 {
-            return read_level(next, kind, offset, n, words);
-        }
-        return read_stepped(s, next, kind, error, top, offset, n, words);
+    if flag % 4 == 3 {
+        return read_level(next, kind, offset, n, words);
     }
-    BlockAnswer::Refused(Refusal { number: 8 })
+    read_stepped(s, next, kind, error, top, offset, n, words)
 }
 
 // the words of the block at `at` to the front of `words`, or a refusal, which leaves them
@@ -220,17 +211,11 @@ pub fn read_block(
 ) -> BlockAnswer
     ensures { λ r. ⌜ BlockRead (readBlockSays (now (s .entry)) at kind error maximum x n) r (now (words .entry)) (now (words .exit)) ⌝ }
 {
-    if 256 < n {
-        return BlockAnswer::Refused(Refusal { number: 8 });
-    }
-    let a = lerc_words::word(s, at, 1);
+    let a = fields::flag_at(s, at, x, n);
     let WordAnswer::Word(flag) = a else {
         let why = a.refusal();
         return BlockAnswer::Refused(why);
     };
-    if flag / 4 % 16 != x as u64 / 8 % 16 {
-        return BlockAnswer::Refused(Refusal { number: 8 });
-    }
     if flag % 4 == 0 {
         return read_raw(s, at + 1, kind, n, words);
     }

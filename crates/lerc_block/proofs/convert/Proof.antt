@@ -23,24 +23,6 @@ loop-holds c =
     let a = c .before .before .args in
     staged-none (stepWord (a .kind) (a .error) (a .top) (a .offset)) (now (a .counts)) (now (a .out)) (omega arith)
 
-mul-step : tie.Need-mul-step Inv-loop μ-loop
-mul-step c = search needs
-
-shared-slice-read-step : tie.Need-shared-slice-read-step Inv-loop μ-loop
-shared-slice-read-step c = search needs
-
-step-requires : tie.Need-step-requires Inv-loop μ-loop
-step-requires c κs = search needs
-
-enum-known-a : tie.Need-enum-known-a Inv-loop μ-loop
-enum-known-a c = search needs
-
-enum-told : tie.Need-enum-told Inv-loop μ-loop
-enum-told c = search needs
-
-refusal-requires : tie.Need-refusal-requires Inv-loop μ-loop
-refusal-requires c κs = search needs
-
 same-length : tie.Need-same-length Inv-loop μ-loop
 same-length c =
     let l = c .before .before .before .before .before .before in
@@ -53,20 +35,11 @@ returns c =
     let a = l .before .before .before .args in
     converted-no (staged-fails (stepWord (a .kind) (a .error) (a .top) (a .offset)) (now (a .counts)) (l .loop .k) (now (a .out)) (l .loop .out) (l .loop .inv) (c .before .before .before .before .before .loop-test .taken) (said-no storedSaid (c .before .before .before .step .ensures) (c .before .enum-told .given .1) storedRefused (c .refusal .ensures) refl))
 
-mul-out : tie.Need-mul-out Inv-loop μ-loop
-mul-out c = search needs
-
 slice-write-out : tie.Need-slice-write-out Inv-loop μ-loop
 slice-write-out c =
     let l = c .before .before .before .before .before .before in
     let a = l .before .before .before .args in
     omega (arith, staged-length (stepWord (a .kind) (a .error) (a .top) (a .offset)) (now (a .counts)) (l .loop .k) (now (a .out)) (l .loop .out) (l .loop .inv))
-
-add-k : tie.Need-add-k Inv-loop μ-loop
-add-k c = search needs
-
-loop-less : tie.Need-loop-less Inv-loop μ-loop
-loop-less c = search needs
 
 loop-again : tie.Need-loop-again Inv-loop μ-loop
 loop-again c =
@@ -93,18 +66,18 @@ convert-spec =
     Inv-loop
     μ-loop
     loop-holds
-    mul-step
-    shared-slice-read-step
-    step-requires
-    enum-known-a
-    enum-told
-    refusal-requires
+    (λ c. search needs)
+    (λ c. search needs)
+    (λ c κs. search needs)
+    (λ c. search needs)
+    (λ c. search needs)
+    (λ c κs. search needs)
     same-length
     returns
-    mul-out
+    (λ c. search needs)
     slice-write-out
-    add-k
-    loop-less
+    (λ c. search needs)
+    (λ c. search needs)
     loop-again
     same-length-2
     returns-2)

@@ -20,48 +20,20 @@ loop-holds c =
     let a = c .args in
     filling-none (λ j. getD (now (a .from)) j 0) (a .n) (now (a .out)) (omega arith)
 
-mul-out : tie.Need-mul-out Inv-loop μ-loop
-mul-out c = search needs
-
-shared-slice-read-out : tie.Need-shared-slice-read-out Inv-loop μ-loop
-shared-slice-read-out c = search needs
-
-mul-out-2 : tie.Need-mul-out-2 Inv-loop μ-loop
-mul-out-2 c = search needs
-
 slice-write-out : tie.Need-slice-write-out Inv-loop μ-loop
-slice-write-out c =
-    let l = c .before .before in
-    let a = l .before .args in
-    let f : ℕ → ℕ = λ j. getD (now (a .from)) j 0 in
-    omega (arith, filling-length f (a .n) (l .loop .k) (now (a .out)) (l .loop .out) (l .loop .inv))
-
-add-k : tie.Need-add-k Inv-loop μ-loop
-add-k c = search needs
-
-loop-less : tie.Need-loop-less Inv-loop μ-loop
-loop-less c = search needs
+slice-write-out c = omega (arith, filling-length (c .before .before .loop .inv))
 
 loop-again : tie.Need-loop-again Inv-loop μ-loop
-loop-again c =
-    let l = c .before .before in
-    let a = l .before .args in
-    let f : ℕ → ℕ = λ j. getD (now (a .from)) j 0 in
-    filling-more f (a .n) (l .loop .k) (now (a .out)) (l .loop .out) (l .loop .inv) _ (c .before .loop-test .taken) refl
+loop-again c = filling-more (c .before .before .loop .inv) _ (c .before .loop-test .taken) refl
 
 same-length : tie.Need-same-length Inv-loop μ-loop
-same-length c =
-    let l = c .before in
-    let a = l .before .args in
-    let f : ℕ → ℕ = λ j. getD (now (a .from)) j 0 in
-    filling-length f (a .n) (l .loop .k) (now (a .out)) (l .loop .out) (l .loop .inv)
+same-length c = filling-length (c .before .loop .inv)
 
 returns : tie.Need-returns Inv-loop μ-loop
 returns c =
     let l = c .before in
     let a = l .before .args in
-    let f : ℕ → ℕ = λ j. getD (now (a .from)) j 0 in
-    filling-done f (a .n) (l .loop .k) (now (a .out)) (l .loop .out) (l .loop .inv) (c .loop-test .left) ∙ ap (λ (t : List ℕ). t ++ drop (a .n) (now (a .out))) (tabulate-front (a .n) (now (a .from)) (omega arith))
+    filling-done (l .loop .inv) (c .loop-test .left) ∙ ap (λ (t : List ℕ). t ++ drop (a .n) (now (a .out))) (tabulate-front (a .n) (now (a .from)) (omega arith))
 
 pub copy-spec : {M : Type 1} → statement M
 copy-spec =
@@ -70,12 +42,12 @@ copy-spec =
     Inv-loop
     μ-loop
     loop-holds
-    mul-out
-    shared-slice-read-out
-    mul-out-2
+    (λ c. search needs)
+    (λ c. search needs)
+    (λ c. search needs)
     slice-write-out
-    add-k
-    loop-less
+    (λ c. search needs)
+    (λ c. search needs)
     loop-again
     same-length
     returns)

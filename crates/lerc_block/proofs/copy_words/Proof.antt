@@ -1,5 +1,5 @@
 use borrow.Author.Needs.{needs}
-use Prim.Native.Nat.{ℕ, _-_, _+_, _*_, min}
+use Prim.Native.Nat.{_-_, _+_, _*_, min}
 use mathlib.Core.Path.{_≡_}
 use native.Mathlib.Omega.{arith}
 use native.Mathlib.Nat.{suc-mul, mul-le-mul-right, zero-mul, add-zero}
@@ -21,18 +21,8 @@ loop-holds c =
     let a = c .before .before .args in
     (rw (zero-mul (a .size), add-zero), filling-none (λ j. little (a .size) (now (a .s)) (a .at + j * a .size)) (a .n) (now (a .out)) (omega arith))
 
-bytes-requires : tie.Need-bytes-requires Inv-loop μ-loop
-bytes-requires c κs = search needs
-
-mul-out : tie.Need-mul-out Inv-loop μ-loop
-mul-out c = search needs
-
 slice-write-out : tie.Need-slice-write-out Inv-loop μ-loop
-slice-write-out c =
-    let l = c .before .before in
-    let a = l .before .before .before .args in
-    let f : ℕ → ℕ = λ j. little (a .size) (now (a .s)) (a .at + j * a .size) in
-    omega (arith, filling-length f (a .n) (l .loop .k) (now (a .out)) (l .loop .out) (l .loop .inv .1))
+slice-write-out c = omega (arith, filling-length (c .before .before .loop .inv .1))
 
 add-place : tie.Need-add-place Inv-loop μ-loop
 add-place c =
@@ -40,33 +30,18 @@ add-place c =
     let a = l .before .before .before .args in
     omega (arith, l .before .before .before .good, suc-mul (l .loop .k) (a .size), mul-le-mul-right (a .size) (c .before .loop-test .taken))
 
-add-k : tie.Need-add-k Inv-loop μ-loop
-add-k c = search needs
-
-loop-less : tie.Need-loop-less Inv-loop μ-loop
-loop-less c = search needs
-
 loop-again : tie.Need-loop-again Inv-loop μ-loop
 loop-again c =
     let l = c .before .before in
     let a = l .before .before .before .args in
-    let f : ℕ → ℕ = λ j. little (a .size) (now (a .s)) (a .at + j * a .size) in
     let h : min (a .size) 8 ≡ a .size = omega arith in
-    (rw (l .loop .inv .0, add-one) (omega (arith, suc-mul (l .loop .k) (a .size))), filling-more f (a .n) (l .loop .k) (now (a .out)) (l .loop .out) (l .loop .inv .1) _ (c .before .loop-test .taken) (rw (c .bytes .ensures, h, l .loop .inv .0)))
+    (rw (l .loop .inv .0, add-one) (omega (arith, suc-mul (l .loop .k) (a .size))), filling-more (l .loop .inv .1) _ (c .before .loop-test .taken) (rw (c .bytes .ensures, h, l .loop .inv .0)))
 
 same-length : tie.Need-same-length Inv-loop μ-loop
-same-length c =
-    let l = c .before in
-    let a = l .before .before .before .args in
-    let f : ℕ → ℕ = λ j. little (a .size) (now (a .s)) (a .at + j * a .size) in
-    filling-length f (a .n) (l .loop .k) (now (a .out)) (l .loop .out) (l .loop .inv .1)
+same-length c = filling-length (c .before .loop .inv .1)
 
 returns : tie.Need-returns Inv-loop μ-loop
-returns c =
-    let l = c .before in
-    let a = l .before .before .before .args in
-    let f : ℕ → ℕ = λ j. little (a .size) (now (a .s)) (a .at + j * a .size) in
-    filling-done f (a .n) (l .loop .k) (now (a .out)) (l .loop .out) (l .loop .inv .1) (c .loop-test .left)
+returns c = filling-done (c .before .loop .inv .1) (c .loop-test .left)
 
 pub copy-words-spec : {M : Type 1} → statement M
 copy-words-spec =
@@ -75,12 +50,12 @@ copy-words-spec =
     Inv-loop
     μ-loop
     loop-holds
-    bytes-requires
-    mul-out
+    (λ c κs. search needs)
+    (λ c. search needs)
     slice-write-out
     add-place
-    add-k
-    loop-less
+    (λ c. search needs)
+    (λ c. search needs)
     loop-again
     same-length
     returns)

@@ -20,42 +20,20 @@ loop-holds c =
     let a = c .args in
     filling-none (λ j. a .v) (a .n) (now (a .out)) (omega arith)
 
-mul-out : tie.Need-mul-out Inv-loop μ-loop
-mul-out c = search needs
-
 slice-write-out : tie.Need-slice-write-out Inv-loop μ-loop
-slice-write-out c =
-    let l = c .before in
-    let a = l .before .args in
-    let f : ℕ → ℕ = λ j. a .v in
-    omega (arith, filling-length f (a .n) (l .loop .k) (now (a .out)) (l .loop .out) (l .loop .inv))
-
-add-k : tie.Need-add-k Inv-loop μ-loop
-add-k c = search needs
-
-loop-less : tie.Need-loop-less Inv-loop μ-loop
-loop-less c = search needs
+slice-write-out c = omega (arith, filling-length (c .before .loop .inv))
 
 loop-again : tie.Need-loop-again Inv-loop μ-loop
-loop-again c =
-    let l = c .before in
-    let a = l .before .args in
-    let f : ℕ → ℕ = λ j. a .v in
-    filling-more f (a .n) (l .loop .k) (now (a .out)) (l .loop .out) (l .loop .inv) (a .v) (c .loop-test .taken) refl
+loop-again c = filling-more (c .before .loop .inv) _ (c .loop-test .taken) refl
 
 same-length : tie.Need-same-length Inv-loop μ-loop
-same-length c =
-    let l = c .before in
-    let a = l .before .args in
-    let f : ℕ → ℕ = λ j. a .v in
-    filling-length f (a .n) (l .loop .k) (now (a .out)) (l .loop .out) (l .loop .inv)
+same-length c = filling-length (c .before .loop .inv)
 
 returns : tie.Need-returns Inv-loop μ-loop
 returns c =
     let l = c .before in
     let a = l .before .args in
-    let f : ℕ → ℕ = λ j. a .v in
-    filling-done f (a .n) (l .loop .k) (now (a .out)) (l .loop .out) (l .loop .inv) (c .loop-test .left) ∙ ap (λ (t : List ℕ). t ++ drop (a .n) (now (a .out))) (tabulate-constant (a .n) (a .v))
+    filling-done (l .loop .inv) (c .loop-test .left) ∙ ap (λ (t : List ℕ). t ++ drop (a .n) (now (a .out))) (tabulate-constant (a .n) (a .v))
 
 pub fill-spec : {M : Type 1} → statement M
 fill-spec =
@@ -64,10 +42,10 @@ fill-spec =
     Inv-loop
     μ-loop
     loop-holds
-    mul-out
+    (λ c. search needs)
     slice-write-out
-    add-k
-    loop-less
+    (λ c. search needs)
+    (λ c. search needs)
     loop-again
     same-length
     returns)

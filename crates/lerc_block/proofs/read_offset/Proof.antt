@@ -1,60 +1,30 @@
 use borrow.Author.Needs.{needs}
-use Prim.Native.Nat.{_≤_, _+_, _/_}
-use mathlib.Core.Path.{_≡_, _∙_, sym, refl}
-use native.Mathlib.Omega.{arith}
+use mathlib.Core.Path.{refl}
 use denote.Ref.{now}
-use lib.ListN.{length}
-use Rattle.lerc_words.specs.Res.{ok}
-use Rattle.lerc_samples.specs.Samples.{sampleAt, offsetKind, offsetSaid, offsetRefused, sampleSaid, sampleRefused}
-use Rattle.lerc_block.proofs.Answers.{said-ok, said-no, refused, likewise, sample-inside, offset-none, offset-no, offset-endless, offset-level, offset-stepped}
+use Rattle.lerc_block.specs.Block.{fieldSaid, fieldRefused}
+use Rattle.lerc_block.proofs.Answers.{said-ok, said-no, refused, likewise, offset-refused, offset-level, offset-stepped}
 use Rattle.lerc_block.proofs.read_offset.Statement.{statement}
 use Rattle.lerc_block.proofs.read_offset.Tie as tie
-
-named : (k : tie.After-a) → offsetKind (k .before .before .before .before .args .kind) (k .before .before .before .before .args .flag / 64) ≡ ok (k .a .given .0 .0)
-named k = said-ok offsetSaid (k .before .before .offset-kind .ensures) (k .a .given .1) refl
-
-read : (k : tie.After-b) → sampleAt (k .before .before .before .before .a .given .0 .0) (now (k .before .before .before .before .before .before .before .before .args .s)) (k .before .before .before .before .before .before .before .before .args .at) ≡ ok (k .b .given .0 .0)
-read k = said-ok sampleSaid (k .before .before .read .ensures) (k .b .given .1) refl
 
 returns : tie.Need-returns
 returns c =
     let k = c .before .before .before in
     let a = k .before .before .args in
-    refused (offset-none (now (a .s)) (a .at) (a .kind) (a .error) (a .top) (a .flag) (a .n) (said-no offsetSaid (k .offset-kind .ensures) (c .before .enum-told .given .1) offsetRefused (c .refusal .ensures) refl))
+    refused (offset-refused (now (a .s)) (a .at) (a .kind) (a .error) (a .top) (a .flag) (a .n) (said-no fieldSaid (k .finite-offset .ensures) (c .before .enum-told .given .1) fieldRefused (c .refusal .ensures) refl))
 
 returns-2 : tie.Need-returns-2
 returns-2 c =
-    let k = c .before .before .before .before .before in
-    let a = k .before .before .before .before .args in
-    let w = said-no sampleSaid (c .before .before .before .read .ensures) (c .before .enum-told2 .given .1) sampleRefused (c .refusal2 .ensures) refl in
-    refused (offset-no (now (a .s)) (a .at) (a .kind) (a .error) (a .top) (a .flag) (a .n) (k .a .given .0 .0) (named k) w)
-
-add-next : tie.Need-add-next
-add-next c =
     let k = c .before .before .before .before in
-    let i = k .before .before .before .before .before .before .before .before in
-    let h : i .args .at + c .size .result ≤ length (now (i .args .s)) = rw (c .size .ensures) (sample-inside (k .before .before .before .before .a .given .0 .0) (now (i .args .s)) (i .args .at) (read k)) in
-    omega (arith, i .good, h)
+    let a = k .before .before .before .before .args in
+    let e = said-ok fieldSaid (k .before .before .finite-offset .ensures) (k .a .given .1) refl in
+    likewise (offset-level (now (a .s)) (a .at) (a .kind) (a .error) (a .top) (a .flag) (a .n) e (c .before .before .if1 .taken)) (c .read-level .ensures)
 
 returns-3 : tie.Need-returns-3
 returns-3 c =
-    let k = c .before .before .before .before .before .before .before in
-    let a = k .before .before .before .before .before .before .before .before .args in
-    let f = sym (c .before .before .before .before .before .is-finite .ensures) ∙ c .before .before .before .before .if1 .taken in
-    likewise (offset-level (now (a .s)) (a .at) (a .kind) (a .error) (a .top) (a .flag) (a .n) (k .before .before .before .before .a .given .0 .0) (named (k .before .before .before .before)) (k .b .given .0 .0) (read k) (c .before .before .before .size .result) (c .before .before .before .size .ensures) f (c .before .before .if2 .taken)) (c .read-level .ensures)
-
-returns-4 : tie.Need-returns-4
-returns-4 c =
-    let k = c .before .before .before .before .before .before .before in
-    let a = k .before .before .before .before .before .before .before .before .args in
-    let f = sym (c .before .before .before .before .before .is-finite .ensures) ∙ c .before .before .before .before .if1 .taken in
-    likewise (offset-stepped (now (a .s)) (a .at) (a .kind) (a .error) (a .top) (a .flag) (a .n) (k .before .before .before .before .a .given .0 .0) (named (k .before .before .before .before)) (k .b .given .0 .0) (read k) (c .before .before .before .size .result) (c .before .before .before .size .ensures) f (c .before .before .if2 .left)) (c .read-stepped .ensures)
-
-returns-5 : tie.Need-returns-5
-returns-5 c =
-    let k = c .before .before .before in
-    let a = k .before .before .before .before .before .before .before .before .args in
-    refused (offset-endless (now (a .s)) (a .at) (a .kind) (a .error) (a .top) (a .flag) (a .n) (k .before .before .before .before .a .given .0 .0) (named (k .before .before .before .before)) (k .b .given .0 .0) (read k) (sym (c .before .is-finite .ensures) ∙ c .if1 .left))
+    let k = c .before .before .before .before in
+    let a = k .before .before .before .before .args in
+    let e = said-ok fieldSaid (k .before .before .finite-offset .ensures) (k .a .given .1) refl in
+    likewise (offset-stepped (now (a .s)) (a .at) (a .kind) (a .error) (a .top) (a .flag) (a .n) e (c .before .before .if1 .left)) (c .read-stepped .ensures)
 
 pub read-offset-spec : {M : Type 1} → statement M
 read-offset-spec =
@@ -66,15 +36,6 @@ read-offset-spec =
     (λ c κs. search needs)
     returns
     (λ c κs. search needs)
-    (λ c. search needs)
-    (λ c. search needs)
-    (λ c κs. search needs)
     returns-2
     (λ c κs. search needs)
-    (λ c κs. search needs)
-    add-next
-    (λ c κs. search needs)
-    returns-3
-    (λ c κs. search needs)
-    returns-4
-    returns-5)
+    returns-3)

@@ -14,7 +14,9 @@ abbrev flag : tie.After-a → ℕ
 flag k = k .a .given .0 .0
 
 read : (k : tie.After-a) → wordAt 1 (now (k .before .before .before .before .args .s)) (k .before .before .before .before .args .at) ≡ ok (flag k)
-read k = let a = k .before .before .before .before .args in read-ok (now (a .s)) (a .at) 1 (omega arith) (k .before .before .word .ensures) (k .a .given .1)
+read k =
+    let a = k .before .before .before .before .args in
+    read-ok (now (a .s)) (a .at) 1 (omega arith) (k .before .before .word .ensures) (k .a .given .1)
 
 inside : (k : tie.After-a) → k .before .before .before .before .args .at + 1 ≤ length (now (k .before .before .before .before .args .s))
 inside k = let a = k .before .before .before .before .args in wordAt-is 1 (now (a .s)) (a .at) (flag k) (read k) .inside
