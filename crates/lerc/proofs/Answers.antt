@@ -1,14 +1,14 @@
 -- One law for each return of the functions that read a body.
 -- Assumes nothing.
-use mathlib.Core.Path.{_≡_, _∙_, sym, ap, refl}
-use mathlib.Core.List.{List, [], _∷_, _++_}
-use Prim.Native.Nat.{ℕ, zero, suc, _+_, _*_, _≤_, _<_}
+use mathlib.Core.Path.{_≡_, _∙_, ap, refl}
+use mathlib.Core.List.{List}
+use Prim.Native.Nat.{ℕ, _+_, _*_, _≤_, _<_}
 use native.Mathlib.Omega.{arith}
-use lib.ListN.{length, getD, take, drop, replicate}
+use lib.ListN.{length, drop, replicate}
 use borrow.Author.Tests.{le-leb, lt-leb}
 use Rattle.lerc_words.specs.declared.Refusal.{Refusal}
-use Rattle.lerc_words.specs.Res.{Res, ok, fail, _>>=_, refuse, little}
-use Rattle.lerc_words.specs.Lists.{tabulate, over}
+use Rattle.lerc_words.specs.Res.{Res, ok, fail, refuse}
+use Rattle.lerc_words.specs.Lists.{over}
 use Rattle.lerc_numeric.specs.Kinds.{typeSize}
 use Rattle.lerc_header.specs.declared.Header.{Header}
 use Rattle.lerc_header.specs.Header.{shapeOf}
@@ -17,13 +17,11 @@ use Rattle.lerc_header.specs.Shape.{pixels}
 use Rattle.lerc_mask.specs.Mask.{validBelow}
 use Rattle.lerc_planes.specs.declared.Ranges.{Ranges}
 use Rattle.lerc_planes.specs.declared.Constants.{Constants}
-use Rattle.lerc_planes.specs.declared.ConstantsAnswer.{ConstantsAnswer}
 use Rattle.lerc_planes.specs.declared.ConstantsAnswer.the-variants as constants
 use Rattle.lerc_planes.specs.Ranges.{constantWords, constantsSaid}
 use Rattle.lerc_block.specs.Block.{rawWords}
 use Rattle.lerc_image.specs.Geometry.{isValidCell}
 use Rattle.lerc_image.specs.Paint.{painted}
-use Rattle.lerc.specs.declared.ReadAnswer.{ReadAnswer}
 use Rattle.lerc.specs.declared.ReadAnswer.the-variants as answer
 use Rattle.lerc.specs.Meaning.{Body, constantBody, rawBody}
 use Rattle.lerc.specs.Linear.{depthWord, rawWord}

@@ -1,10 +1,9 @@
 -- The images of bodies without blocks: what the code paints is the meaning's word at each valid cell.
 -- Assumes nothing.
-use mathlib.Core.Path.{_≡_, _∙_, sym, ap, refl}
-use mathlib.Core.Bool.{Bool, true, false, cond, _&&_, and-eq-true-iff}
-use mathlib.Core.List.{List, [], _∷_, _++_}
-use Prim.Native.Nat.{ℕ, zero, suc, _+_, _-_, _*_, _/_, _%_, _≤_, _<_}
-use native.Mathlib.Decide.{decLt}
+use mathlib.Core.Path.{_≡_, sym, refl}
+use mathlib.Core.Bool.{Bool, true, false, and-eq-true-iff}
+use mathlib.Core.List.{List, _++_}
+use Prim.Native.Nat.{ℕ, _+_, _-_, _*_, _/_, _%_, _≤_, _<_}
 use native.Mathlib.Omega.{arith}
 use native.Mathlib.Nat.{div-lt-iff-lt-mul, mod-lt, mul-le-mul, mul-le-mul-right, suc-mul}
 use Rattle.lerc_words.specs.Res.{ok}
@@ -14,14 +13,12 @@ use Rattle.lerc_header.specs.Limits.{cellLimit}
 use Rattle.lerc_header.specs.Header.{held}
 use Rattle.lerc_header.proofs.Kept.{held-shaped, held-valid}
 use Rattle.lerc_numeric.proofs.Integers.{size-le}
-use native.Mathlib.Numerals.{add-one}
-use lib.ListN.{length, getD, take, drop, List·getD-append, take-append-drop, length-take}
-use lib.Dec.{ltb}
+use lib.ListN.{length, take, List·getD-append, take-append-drop, length-take}
 use borrow.Author.Tests.{ltb-true}
 use Rattle.lerc_words.specs.Res.{little}
-use Rattle.lerc_words.specs.Lists.{tabulate, over, count}
+use Rattle.lerc_words.specs.Lists.{tabulate, over}
 use Rattle.lerc_words.proofs.Tables.{getD-tabulate}
-use Rattle.lerc_words.proofs.Counts.{count-more, count-mono}
+use Rattle.lerc_words.proofs.Counts.{count-mono}
 use Rattle.lerc_header.specs.declared.Header.{Header}
 use Rattle.lerc_header.specs.declared.Shape.{Shape}
 use Rattle.lerc_header.specs.Header.{shapeOf}
@@ -30,7 +27,7 @@ use Rattle.lerc_mask.specs.Mask.{pixelValid, validBelow}
 use Rattle.lerc_image.specs.Geometry.{isValidCell}
 use Rattle.lerc_image.specs.Paint.{painted}
 use Rattle.lerc_image.proofs.Painting.{painted-none, painted-words}
-use Rattle.lerc.specs.Meaning.{Body, empty, constant, raw, blocks, cellWord}
+use Rattle.lerc.specs.Meaning.{constant, raw, cellWord}
 use Rattle.lerc.specs.Linear.{depthWord, rawWord}
 use Rattle.lerc.proofs.Pixels.{valid-more}
 

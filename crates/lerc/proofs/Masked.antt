@@ -2,19 +2,19 @@
 -- Assumes nothing.
 use mathlib.Core.Path.{_≡_, _∙_, sym, ap, refl}
 use mathlib.Core.Bool.{Bool, true, false, cond, _&&_}
-use mathlib.Core.List.{List, [], _∷_}
+use mathlib.Core.List.{List, []}
 use Prim.Native.Nat.{ℕ, _≤_}
 use native.Mathlib.Omega.{arith}
-use lib.ListN.{length, take, length-take, length-append, length-drop}
+use lib.ListN.{length, take, length-append}
 use lib.Dec.{leb}
 use borrow.Author.Tests.{le-leb, leb-true}
 use Rattle.lerc_words.specs.declared.Refusal.{Refusal}
-use Rattle.lerc_words.specs.Res.{Res, ok, fail, _>>=_, refuse, after}
+use Rattle.lerc_words.specs.Res.{Res, ok, fail, _>>=_, after}
 use Rattle.lerc_words.specs.Lists.{over}
 use Rattle.lerc_words.proofs.Laws.{and-is}
 use Rattle.lerc_header.specs.declared.Header.{Header}
 use Rattle.lerc_header.specs.declared.Extent.{Extent}
-use Rattle.lerc_header.specs.Header.{shapeOf, extentOf, held, headerSays}
+use Rattle.lerc_header.specs.Header.{shapeOf, held, headerSays}
 use Rattle.lerc_header.specs.Shape.{cells, maskLength, blockCount}
 use Rattle.lerc_header.proofs.Kept.{held-is, header-held}
 use Rattle.lerc_planes.specs.declared.MaskAnswer.{MaskAnswer}
@@ -24,8 +24,8 @@ use Rattle.lerc_planes.proofs.ValidityLaws.{prepared-right, in-force}
 use Rattle.lerc.specs.declared.ReadAnswer.{ReadAnswer}
 use Rattle.lerc.specs.declared.ReadAnswer.the-variants as answer
 use Rattle.lerc.specs.Meaning.{Body, bodySays}
-use Rattle.lerc.specs.Read.{Lent, room, masked, WholeRead}
-use Rattle.lerc.specs.Parts.{Ready, BodyRead, Fits, Behind, KeptRead}
+use Rattle.lerc.specs.Read.{Lent, room, WholeRead}
+use Rattle.lerc.specs.Parts.{BodyRead, Fits, Behind, KeptRead}
 use Rattle.lerc.proofs.Bodies.{over-itself}
 use Rattle.lerc.proofs.Whole.{read-refused, read-body, body-refused, body-read, mask-no, mask-yes}
 

@@ -1,15 +1,15 @@
 -- Cells pixel by pixel: what one cell, and what one pixel, adds to a painted image.
 -- Assumes nothing.
-use mathlib.Core.Path.{_≡_, _∙_, sym, ap, refl}
-use mathlib.Core.Bool.{Bool, true, false, cond, _&&_, _||_, and-false, and-eq-true-iff}
+use mathlib.Core.Path.{_≡_, _∙_, refl}
+use mathlib.Core.Bool.{Bool, true, false, _&&_, _||_, and-false, and-eq-true-iff}
 use mathlib.Core.Logic.{_≢_}
 use mathlib.Core.List.{List}
-use Prim.Native.Nat.{ℕ, zero, suc, _+_, _-_, _*_, _/_, _%_, _≤_, _<_}
+use Prim.Native.Nat.{ℕ, _+_, _-_, _*_, _/_, _%_, _≤_, _<_}
 use native.Mathlib.Decide.{decLt, decLe}
 use native.Mathlib.Omega.{arith}
 use lib.Arith.{digits-div, digits-mod, digits-lt}
 use lib.Dec.{ltb, leb}
-use lib.ListN.{length, getD, set}
+use lib.ListN.{length, set}
 use borrow.Author.Tests.{lt-ltb, le-ltb, le-leb, lt-leb, ltb-true, leb-true}
 use Rattle.lerc_header.specs.declared.Shape.{Shape}
 use native.Mathlib.Nat.{mul-le-mul, mul-le-mul-right, suc-mul, add-mul, add-zero, add-assoc}
@@ -20,7 +20,7 @@ use Rattle.lerc_header.specs.Shape.{cells, Shaped}
 use Rattle.lerc_mask.specs.Mask.{pixelValid, validBelow}
 use Rattle.lerc_image.specs.Geometry.{isValidCell}
 use Rattle.lerc_image.specs.Paint.{painted}
-use Rattle.lerc_image.proofs.Painting.{length-painted, painted-none, painted-same, painted-set, painted-twice, painted-words}
+use Rattle.lerc_image.proofs.Painting.{painted-none, painted-same, painted-set, painted-twice, painted-words}
 use Rattle.lerc.specs.Linear.{within, validUpto, rawWord}
 
 -- ---- the cells of one pixel

@@ -1,22 +1,20 @@
 -- The body, and the whole read: one law for each way they end.
 -- Assumes nothing.
 use mathlib.Core.Path.{_≡_, _∙_, sym, ap, refl}
-use mathlib.Core.Bool.{Bool, true, false, cond, _&&_}
-use mathlib.Core.List.{List, [], _∷_, _++_}
-use Prim.Native.Nat.{ℕ, zero, suc, _+_, _*_, _≤_, _<_}
+use mathlib.Core.Bool.{Bool, true, false, cond}
+use mathlib.Core.List.{List, []}
+use Prim.Native.Nat.{ℕ, _*_, _≤_}
 use native.Mathlib.Omega.{arith}
-use lib.ListN.{length, getD, take, drop}
-use lib.Dec.{leb, eqb}
-use borrow.Author.Tests.{le-leb, lt-leb, eq-eqb, ne-eqb}
+use lib.ListN.{length, take}
+use borrow.Author.Tests.{le-leb, eq-eqb, ne-eqb}
 use Rattle.lerc_words.specs.declared.Refusal.{Refusal}
 use Rattle.lerc_words.specs.Res.{Res, ok, fail, _>>=_, refuse, after}
 use Rattle.lerc_words.specs.Lists.{over}
 use Rattle.lerc_words.proofs.Laws.{ok-is, bind-is}
 use Rattle.lerc_header.specs.declared.Header.{Header}
 use Rattle.lerc_header.specs.Header.{shapeOf, extentOf, held, headerSays}
-use Rattle.lerc_header.specs.Shape.{pixels, cells, maskLength, blockCount}
+use Rattle.lerc_header.specs.Shape.{blockCount}
 use Rattle.lerc_header.proofs.Kept.{held-shaped}
-use Rattle.lerc_mask.specs.Mask.{validBelow}
 use Rattle.lerc_planes.specs.declared.Ranges.{Ranges}
 use Rattle.lerc_planes.specs.declared.RangesRead.{RangesRead}
 use Rattle.lerc_planes.specs.declared.RangesAnswer.the-variants as ranges
@@ -24,19 +22,17 @@ use Rattle.lerc_planes.specs.Ranges.{rangesSays, readRangesSays, rangesSaid, co
 use Rattle.lerc_block.specs.Block.{rawWords}
 use Rattle.lerc_image.specs.declared.WalkAnswer.{WalkAnswer}
 use Rattle.lerc_image.specs.declared.WalkAnswer.the-variants as walk
-use Rattle.lerc_image.specs.Geometry.{isValidCell}
-use Rattle.lerc_image.specs.Paint.{painted}
-use Rattle.lerc_image.specs.Sweep.{Way, rawFrom, blocksFrom, swept}
-use Rattle.lerc_image.specs.Blocks.{Chain, chain, allBlocks}
-use Rattle.lerc_image.specs.Walk.{Walk, walkSaid, walkCount}
-use Rattle.lerc_image.specs.Tiles.{tilesSays, tilesImage, Tiled}
+use Rattle.lerc_image.specs.Sweep.{Way, swept}
+use Rattle.lerc_image.specs.Blocks.{Chain, allBlocks}
+use Rattle.lerc_image.specs.Walk.{Walk, walkSaid}
+use Rattle.lerc_image.specs.Tiles.{tilesSays, Tiled}
 use Rattle.lerc_image.proofs.Chain.{chain-lengths}
 use Rattle.lerc.specs.declared.ReadAnswer.{ReadAnswer}
 use Rattle.lerc.specs.declared.ReadAnswer.the-variants as answer
-use Rattle.lerc.specs.Meaning.{Body, empty, constant, raw, blocks, rawBody, blockBody, constantBody, bodyFrom, sweptBody, bodySays, cellWord, startsOf, meaningFrom}
+use Rattle.lerc.specs.Meaning.{Body, empty, constant, blocks, rawBody, blockBody, constantBody, bodyFrom, sweptBody, bodySays, cellWord, startsOf, meaningFrom}
 use Rattle.lerc_planes.specs.Validity.{InForce, bytesOf, maskSays, spareWith}
 use Rattle.lerc.specs.Read.{Lent, room, Masked, masked, readSays, published, refusedAfter, Whole, readSaid, WholeRead}
-use Rattle.lerc.specs.Parts.{Ready, LinearRead, BodyRead, bodyCount, bodyImage}
+use Rattle.lerc.specs.Parts.{Ready, LinearRead, BodyRead, bodyCount}
 use Rattle.lerc.proofs.Bodies.{image-empty}
 
 -- ---- a body without blocks leaves the list

@@ -1,7 +1,7 @@
 -- What the code that writes a constant or raw body pixel by pixel does; not part of the rules.
 -- Assumes nothing.
-use Prim.Native.Nat.{ℕ, _+_, _*_, _-_, _/_, _%_, _≤_, _<_}
-use mathlib.Core.Bool.{Bool, true, false, _&&_}
+use Prim.Native.Nat.{ℕ, _+_, _*_, _/_, _%_, _≤_}
+use mathlib.Core.Bool.{Bool, _&&_}
 use mathlib.Core.List.{List}
 use lib.ListN.{length, getD}
 use lib.Dec.{leb, ltb}
@@ -10,7 +10,6 @@ use Rattle.lerc_header.specs.declared.Shape.{Shape}
 use Rattle.lerc_header.specs.Shape.{pixels, cells, Shaped}
 use Rattle.lerc_mask.specs.Mask.{validBelow}
 use Rattle.lerc_image.specs.Geometry.{isValidCell}
-use Rattle.lerc_image.specs.Paint.{painted}
 
 -- the n cells from `base` on
 unfoldable pub within : ℕ → ℕ → ℕ → Bool

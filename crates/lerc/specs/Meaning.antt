@@ -1,18 +1,18 @@
 -- The meaning of a blob. It mentions no buffer: the kept mask is an input, and what the words are put into is not spoken of.
 -- Assumes nothing.
-use Prim.Native.Nat.{ℕ, _+_, _*_, _-_, _/_, _%_}
-use mathlib.Core.Bool.{Bool, true, false, cond}
-use mathlib.Core.List.{List, [], _∷_}
-use lib.ListN.{length, getD, take}
+use Prim.Native.Nat.{ℕ, _+_, _*_, _/_, _%_}
+use mathlib.Core.Bool.{Bool, cond}
+use mathlib.Core.List.{List, []}
+use lib.ListN.{getD, take}
 use lib.Dec.{eqb}
-use Rattle.lerc_words.specs.Res.{Res, ok, fail, _>>=_, require, little}
+use Rattle.lerc_words.specs.Res.{Res, ok, _>>=_}
 use Rattle.lerc_header.specs.declared.Header.{Header}
 use Rattle.lerc_header.specs.Header.{shapeOf, headerBytes, headerSays}
 use Rattle.lerc_mask.specs.Mask.{validBelow}
 use Rattle.lerc_planes.specs.declared.Ranges.{Ranges}
 use Rattle.lerc_planes.specs.Validity.{InForce, bytesOf, maskSays}
 use Rattle.lerc_planes.specs.Ranges.{rangesSays, constantWords}
-use Rattle.lerc_block.specs.Block.{Block, rawWords}
+use Rattle.lerc_block.specs.Block.{rawWords}
 use Rattle.lerc_image.specs.Sweep.{Way, rawFrom, blocksFrom, swept}
 use Rattle.lerc_image.specs.Blocks.{Chain, allBlocks}
 use Rattle.lerc_image.specs.Paint.{wordOf}
@@ -93,6 +93,7 @@ meaningFrom b h m = do
   y ← bodySays (take (h .size) b) h (bytesOf m)
   ok (record { header = h; mask = m; body = y })
 
+-- What a blob means, "header, validity mask, ranges per depth, then a constant, raw or block body", with or without reuse of a kept mask; no buffer is mentioned.
 unfoldable pub meaning : List ℕ → Bool → List ℕ → Res Meaning
 meaning b reuse old = do
   h ← headerSays b

@@ -4,7 +4,7 @@ use Prim.Native.Nat.{ℕ, _≤_}
 use mathlib.Core.Path.{_≡_}
 use mathlib.Core.List.{List}
 use lib.ListN.{length}
-use Rattle.lerc_words.specs.Res.{Res, ok, fail, _>>=_, after}
+use Rattle.lerc_words.specs.Res.{Res, ok, _>>=_, after}
 use Rattle.lerc_words.specs.Lists.{over}
 use Rattle.lerc_header.specs.declared.Header.{Header}
 use Rattle.lerc_header.specs.Header.{shapeOf, extentOf, held}

@@ -1,9 +1,9 @@
 -- Whole read: its answer, and every lent slice afterwards.
 -- Assumes nothing.
-use Prim.Native.Nat.{ℕ, _+_, _*_}
+use Prim.Native.Nat.{ℕ}
 use mathlib.Core.Path.{_≡_}
-use mathlib.Core.Bool.{Bool, true, false, _&&_}
-use mathlib.Core.List.{List, [], _∷_}
+use mathlib.Core.Bool.{Bool, _&&_}
+use mathlib.Core.List.{List}
 use lib.ListN.{length, take}
 use lib.Dec.{leb}
 use Rattle.lerc_words.specs.declared.Refusal.{Refusal}
@@ -45,6 +45,7 @@ masked b reuse l = do
   m ← maskSays (take (h .size) b) h reuse (l .kept)
   ok (record { header = h; mask = m })
 
+-- "whole read": the meaning, once there is room
 unfoldable pub readSays : List ℕ → Bool → Lent → Res Meaning
 readSays b reuse l = do
   m ← masked b reuse l
@@ -69,6 +70,7 @@ unfoldable pub refusedAfter : Res Masked → Lent → Lent
 refusedAfter (ok m) l = record { kept = l .kept; spare = spareWith (m .mask) (l .spare); list = l .list; image = l .image }
 refusedAfter (fail r) l = l
 
+-- every lent slice afterwards
 abbrev pub readAfter : Res Meaning → Res Masked → Lent → Lent
 readAfter (ok m) k l = published m l
 readAfter (fail r) k l = refusedAfter k l
@@ -87,9 +89,11 @@ abbrev pub readRefused : ReadAnswer → Refusal
 readRefused (answer.Whole blocks end) = refuse 0
 readRefused (answer.Refused r) = r
 
+-- what is reported of a meaning
 abbrev pub readCount : Meaning → Res Whole
 readCount m = ok (record { blocks = length (startsOf (m .body)); end = endOf (m .body) })
 
+-- "answer, number, and every lent byte afterwards"
 pub record WholeRead (b : List ℕ) (reuse : Bool) (r : ReadAnswer) (old new : Lent) : Type 0 where
   pub says : readSaid r ≡ (readSays b reuse old >>= readCount)
   pub lent : new ≡ readAfter (readSays b reuse old) (masked b reuse old) old

@@ -87,10 +87,10 @@ fn read_blocks(
     ensures { λ a. ⌜ BodyRead (blockBody (take (h .size) (now (blob .entry))) h (now (maxima .entry)) (now (mask .entry)) at) h (now (mask .entry)) a (now (list .entry)) (now (list .exit)) (now (image .entry)) (now (image .exit)) ⌝ }
 {
     let walked = lerc_image::decode_tiles(blob, h, mask, maxima, at, &mut list[..], &mut image[..]);
-    match walked {
-        WalkAnswer::Walked { blocks, end } => ReadAnswer::Whole { blocks, end },
-        WalkAnswer::Refused(why) => ReadAnswer::Refused(why),
-    }
+    let WalkAnswer::Walked { blocks, end } = walked else {
+        return ReadAnswer::Refused(walked.refusal());
+    };
+    ReadAnswer::Whole { blocks, end }
 }
 
 // the body that a sweep byte announces

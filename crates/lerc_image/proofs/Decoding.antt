@@ -1,7 +1,7 @@
 -- All blocks at once: a pass that fills each listed block, and what the two passes together leave.
 -- Assumes nothing.
 use mathlib.Core.Path.{_≡_, _∙_, sym, ap, refl}
-use mathlib.Core.Bool.{Bool, true, false, cond, _&&_, and-eq-true-iff}
+use mathlib.Core.Bool.{true, false, _&&_, and-eq-true-iff}
 use borrow.Author.Tests.{leb-true}
 use mathlib.Core.List.{List, [], _∷_}
 use Prim.Native.Nat.{ℕ, zero, suc, _+_, _≤_, _<_}
@@ -14,7 +14,6 @@ use Rattle.lerc_words.specs.Res.{Res, ok, fail, _>>=_, refuse, after}
 use Rattle.lerc_words.specs.Lists.{over}
 use Rattle.lerc_header.specs.declared.Extent.{Extent}
 use Rattle.lerc_header.specs.declared.Header.{Header}
-use Rattle.lerc_header.specs.declared.Shape.{Shape}
 use Rattle.lerc_header.specs.Header.{shapeOf, extentOf, held}
 use Rattle.lerc_header.proofs.Kept.{held-is, held-shaped, held-size}
 use Rattle.lerc_header.specs.Shape.{blockCount, cells, Shaped}

@@ -3,13 +3,12 @@
 use mathlib.Core.Path.{_≡_, _∙_, sym, ap, refl}
 use mathlib.Core.List.{List}
 use Prim.Native.Nat.{ℕ, _≤_, _<_}
-use native.Mathlib.Omega.{arith}
 use lib.ListN.{length, drop}
 use borrow.Author.Tests.{le-leb}
 use Rattle.lerc_words.specs.declared.Refusal.{Refusal}
-use Rattle.lerc_words.specs.Res.{Res, ok, fail, _>>=_}
+use Rattle.lerc_words.specs.Res.{Res, ok, fail}
 use Rattle.lerc_words.specs.Lists.{over}
-use Rattle.lerc_words.proofs.Laws.{bind-is}
+use Rattle.lerc_words.proofs.Laws.{bind-is, bind-fail}
 use Rattle.lerc_header.specs.declared.Shape.{Shape}
 use Rattle.lerc_header.specs.Shape.{Shaped, blockCount}
 use Rattle.lerc_block.specs.declared.BlockAnswer.{BlockAnswer}
@@ -25,11 +24,6 @@ use Rattle.lerc_image.proofs.Front.{scattered-front}
 pub read-block : (s : List ℕ) (at kind error top x n : ℕ) → n ≤ tileLimit → readBlockSays s at kind error top x n ≡ blockSays s at kind error top x n
 unfolding readBlockSays
 read-block s at kind error top x n l = rw (le-leb n tileLimit l)
-
--- an answer that only names another's refusal has it too
-pub bind-fail : {A B : Type 0} (m : Res A) (f : A → B) {r : Refusal} → (m >>= λ a. ok (f a)) ≡ fail r → m ≡ fail r
-bind-fail (ok a) f e = absurd (let z : _≡_ {A = ℕ} 0 1 = cc in omega arith)
-bind-fail (fail q) f e = cc
 
 module _ {b : Res Block} {got : BlockAnswer} (e : blockSaid got ≡ nextBlock b) where
   pub said-refused : {why : Refusal} → got ≡ block.Refused why → b ≡ fail why

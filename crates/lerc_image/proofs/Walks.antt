@@ -9,7 +9,7 @@ use lib.Dec.{leb, ltb}
 use borrow.Author.Tests.{leb-true}
 use Rattle.lerc_words.specs.declared.Refusal.{Refusal}
 use Rattle.lerc_words.specs.Res.{Res, ok, fail, refuse}
-use Rattle.lerc_words.proofs.Laws.{bind-is, ok-is}
+use Rattle.lerc_words.proofs.Laws.{bind-is, ok-is, bind-fail}
 use Rattle.lerc_header.specs.declared.Header.{Header}
 use Rattle.lerc_header.specs.declared.Extent.{Extent}
 use Rattle.lerc_header.specs.Shape.{blockCount}
@@ -22,7 +22,6 @@ use Rattle.lerc_image.specs.declared.WalkAnswer.the-variants as answer
 use Rattle.lerc_image.specs.Sweep.{rawFrom, blocksFrom, swept}
 use Rattle.lerc_image.specs.Blocks.{Chain, chainEnd, allBlocks, BodyAsked}
 use Rattle.lerc_image.specs.Walk.{walked, bodyWalked, walkSays, walkList, BodyListed, Listed, Walked}
-use Rattle.lerc_image.proofs.Reading.{bind-fail}
 use Rattle.lerc_image.proofs.Filling.{pairs-are}
 
 -- ---- the two passes

@@ -4,7 +4,7 @@ use Prim.Native.Nat.{ℕ, zero, suc, _<_}
 use mathlib.Core.Path.{_≡_}
 use mathlib.Core.List.{List, [], _∷_}
 use lib.ListN.{getD}
-use Rattle.lerc_words.specs.Res.{Res, ok, fail, _>>=_}
+use Rattle.lerc_words.specs.Res.{Res, ok, _>>=_}
 use Rattle.lerc_header.specs.declared.Header.{Header}
 use Rattle.lerc_header.specs.declared.Shape.{Shape}
 use Rattle.lerc_header.specs.declared.Extent.{Extent}

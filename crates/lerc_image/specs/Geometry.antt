@@ -1,12 +1,12 @@
 -- The tiles of an image: which cell lies in which block, and at which place of its tile.
 -- Assumes nothing.
-use Prim.Native.Nat.{ℕ, zero, suc, _+_, _-_, _*_, _/_, _%_, _^_, _≤_, _<_, min}
-use mathlib.Core.Bool.{Bool, true, false, cond, _&&_}
+use Prim.Native.Nat.{ℕ, _+_, _-_, _*_, _/_, _%_, _≤_, _<_, min}
+use mathlib.Core.Bool.{Bool, cond, _&&_}
 use mathlib.Core.List.{List}
-use lib.Dec.{ltb, eqb}
+use lib.Dec.{ltb}
 use Rattle.lerc_words.specs.Lists.{count}
 use Rattle.lerc_header.specs.declared.Shape.{Shape}
-use Rattle.lerc_header.specs.Shape.{strips, tilesAcross, tilesDown, pixels, cells, blockCount, Shaped}
+use Rattle.lerc_header.specs.Shape.{tilesAcross, cells, Shaped}
 use Rattle.lerc_mask.specs.Mask.{pixelValid}
 use Rattle.lerc_block.specs.Block.{tileLimit}
 use Rattle.lerc_image.specs.declared.Tile.{Tile}

@@ -1,14 +1,14 @@
 -- An image with the cells of a set put to their words. Images are stated pointwise: which cells, which word, and every other cell as it was.
 -- Assumes nothing.
 use mathlib.Core.Path.{_≡_}
-use Prim.Native.Nat.{ℕ, zero, suc, _+_, _*_, _≤_, _<_}
-use mathlib.Core.Bool.{Bool, true, false, cond, _&&_, _||_}
+use Prim.Native.Nat.{ℕ, _≤_, _<_}
+use mathlib.Core.Bool.{Bool, false, cond, _&&_, _||_}
 use mathlib.Core.List.{List, [], _∷_}
 use lib.ListN.{length, getD}
 use lib.Dec.{ltb, eqb}
 use Rattle.lerc_words.specs.Lists.{tabulate}
 use Rattle.lerc_header.specs.declared.Shape.{Shape}
-use Rattle.lerc_header.specs.Shape.{Shaped, pixels, cells, blockCount}
+use Rattle.lerc_header.specs.Shape.{Shaped, cells, blockCount}
 use Rattle.lerc_image.specs.declared.Tile.{Tile}
 use Rattle.lerc_image.specs.Geometry.{tileValid, tileOf, rank, blockOf, placeIn, isValidCell}
 

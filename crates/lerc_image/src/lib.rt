@@ -9,6 +9,7 @@ ghost use Rattle.lerc_image.specs.Fill.{BlockFilled, FillAsked, Filled, 
 ghost use Rattle.lerc_image.specs.Blocks.{BlockHere, BodyAsked, blockAt, chainEnd, allBlocks};
 ghost use Rattle.lerc_image.specs.Walk.{Walked, BodyListed, Listed, bodyWalked, walkRefused};
 ghost use Rattle.lerc_block.specs.Block.{BlockRead, blockSaid, blockSays, nextBlock};
+ghost use Rattle.lerc_block.specs.End.{endSays};
 use lerc_block::BlockAnswer;
 use lerc_header::DEPTHS;
 use lerc_header::Extent;
@@ -404,6 +405,18 @@ fn check_blocks(
     BlockAnswer::Block(next)
 }
 
+// Where the block of tile `t` at a place ends. Only a raw block is as long as its tile has valid pixels, so only for one are they counted.
+fn end_at(s: &[u8], at: usize, kind: u32, h: Shape, t: Tile, mask: &[u8]) -> BlockAnswer
+    requires { ⌜ TileIn h t ⌝ }
+    ensures { λ r. ⌜ blockSaid r ≡ endSays (now (s .entry)) at kind (tileValid h (now (mask .entry)) t) ⌝ }
+{
+    if lerc_words::bytes(s, at, 1) % 4 != 0 {
+        return lerc_block::block_end(s, at, kind, 0);
+    }
+    let valid = count_valid(h, t, mask);
+    lerc_block::block_end(s, at, kind, valid)
+}
+
 // The start of each of the blocks, which are known to be right: only their ends are read.
 fn list_starts(s: &[u8], at: usize, h: Header, e: Extent, mask: &[u8], list: &mut [usize])
     requires { ⌜ (BodyAsked h e) × (e .blocks ≤ length (now list)) ⌝ }
@@ -416,8 +429,7 @@ fn list_starts(s: &[u8], at: usize, h: Header, e: Extent, mask: &[u8], list: &mu
     while k < e.blocks {
         list[k] = start;
         let t = p.current(shape);
-        let valid = count_valid(shape, t, mask);
-        let got = lerc_block::block_end(s, start, h.kind, valid);
+        let got = end_at(s, start, h.kind, shape, t, mask);
         let BlockAnswer::Block(end) = got else {
             return;
         };

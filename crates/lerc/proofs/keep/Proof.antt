@@ -1,45 +1,38 @@
 use Rattle.lerc.proofs.Masked.{keep-new, keep-old, keep-none}
-use lib.ListN.{length}
 use denote.Ref.{now}
-use native.Mathlib.Omega.{arith}
-use mathlib.Core.Path.{_≡_, _∙_, sym, ap, refl}
+use mathlib.Core.Path.{_∙_}
 use borrow.Author.Needs.{needs}
 use Rattle.lerc.proofs.keep.Statement.{statement}
 use Rattle.lerc.proofs.keep.Tie as tie
 
-enum-known-said : tie.Need-enum-known-said
-enum-known-said c = search needs
-
 copy-mask-requires : tie.Need-copy-mask-requires
 copy-mask-requires c κs = let s = c .before .before .before .before .before .before in s .pre _ (c .before .before .said .given .1)
 
-enum-known-said-2 : tie.Need-enum-known-said-2
-enum-known-said-2 c = search needs
-
-enum-known-said-3 : tie.Need-enum-known-said-3
-enum-known-said-3 c = search needs
-
-same-length : tie.Need-same-length
-same-length c = search needs
-
 returns : tie.Need-returns
-returns c = let s = c .before .before .before .before .before .before .before .before .before in let e = c .before .before .before .before .before .said .given .1 in c .before .before .copy-mask .ensures ∙ keep-new (now (s .args .kept)) (now (s .args .spare)) _ e (s .pre _ e .1)
+returns c =
+    let s = c .before .before .before .before .before .before .before .before .before in
+    let e = c .before .before .before .before .before .said .given .1 in
+    c .before .before .copy-mask .ensures ∙ keep-new (now (s .args .kept)) (now (s .args .spare)) _ e (s .pre _ e .1)
 
 returns-2 : tie.Need-returns-2
-returns-2 c = let s = c .before .before .before .before .before in keep-old (now (s .args .kept)) (now (s .args .spare)) _ (c .before .said2 .given .1)
+returns-2 c =
+    let s = c .before .before .before .before .before in
+    keep-old (now (s .args .kept)) (now (s .args .spare)) _ (c .before .said2 .given .1)
 
 returns-3 : tie.Need-returns-3
-returns-3 c = let s = c .before .before .before .before .before in keep-none (now (s .args .kept)) (now (s .args .spare)) _ (c .before .said3 .given .1)
+returns-3 c =
+    let s = c .before .before .before .before .before in
+    keep-none (now (s .args .kept)) (now (s .args .spare)) _ (c .before .said3 .given .1)
 
 pub keep-spec : {M : Type 1} → statement M
 keep-spec =
     tie.close
     (tie.spec
-    enum-known-said
+    (λ c. search needs)
     copy-mask-requires
-    enum-known-said-2
-    enum-known-said-3
-    same-length
+    (λ c. search needs)
+    (λ c. search needs)
+    (λ c. search needs)
     returns
     returns-2
     returns-3)

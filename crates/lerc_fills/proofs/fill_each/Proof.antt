@@ -19,28 +19,10 @@ abbrev μ-loop : tie.MeasureT-loop
 loop-holds : tie.Need-loop-holds Inv-loop μ-loop
 loop-holds c = turn-none _ _ _ _ _ _ _
 
-mul-number : tie.Need-mul-number Inv-loop μ-loop
-mul-number c = search needs
-
-shared-slice-read-number : tie.Need-shared-slice-read-number Inv-loop μ-loop
-shared-slice-read-number c = search needs
-
-fill-requires : tie.Need-fill-requires Inv-loop μ-loop
-fill-requires c κs = search needs
-
-one-requires : tie.Need-one-requires Inv-loop μ-loop
-one-requires c κs = search needs
-
 add-filled : tie.Need-add-filled Inv-loop μ-loop
 add-filled c =
     let l = c .before .before .before .before .before .before in
     omega (arith, l .before .loop .inv .least, one-le (accepts (fillSaid (c .before .before .before .fill .result))) (c .one .ensures), l .loop-test .taken)
-
-add-k : tie.Need-add-k Inv-loop μ-loop
-add-k c = search needs
-
-loop-less : tie.Need-loop-less Inv-loop μ-loop
-loop-less c = search needs
 
 loop-again : tie.Need-loop-again Inv-loop μ-loop
 loop-again c =
@@ -60,13 +42,13 @@ fill-each-spec =
     Inv-loop
     μ-loop
     loop-holds
-    mul-number
-    shared-slice-read-number
-    fill-requires
-    one-requires
+    (λ c. search needs)
+    (λ c. search needs)
+    (λ c κs. search needs)
+    (λ c κs. search needs)
     add-filled
-    add-k
-    loop-less
+    (λ c. search needs)
+    (λ c. search needs)
     loop-again
     same-length
     returns)

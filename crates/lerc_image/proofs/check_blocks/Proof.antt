@@ -1,4 +1,4 @@
-use mathlib.Core.Path.{_≡_, _∙_, sym, ap}
+use mathlib.Core.Path.{_∙_, sym, ap}
 use Prim.Native.Nat.{_-_}
 use native.Mathlib.Omega.{arith}
 use Rattle.lerc_block.specs.Block.{blockSaid}
@@ -14,20 +14,11 @@ Inv-loop s at h e maxima mask shape p₀ n₀ next₀ p n next = Walking s h max
 abbrev μ-loop : tie.MeasureT-loop
 μ-loop s at h e maxima mask shape p₀ n₀ next₀ p n next = e .blocks - n
 
-start-requires : tie.Need-start-requires Inv-loop μ-loop
-start-requires c κs = search needs
-
 loop-holds : tie.Need-loop-holds Inv-loop μ-loop
 loop-holds c = rw (c .start .ensures) (walking-none _ _ _ _ (c .before .before .before .before .pre))
 
 check-at-requires : tie.Need-check-at-requires Inv-loop μ-loop
 check-at-requires c κs = standing-here (c .before .before .loop .inv .stands) (c .if1 .taken)
-
-enum-known-got : tie.Need-enum-known-got Inv-loop μ-loop
-enum-known-got c = search needs
-
-enum-told : tie.Need-enum-told Inv-loop μ-loop
-enum-told c = search needs
 
 returns : tie.Need-returns Inv-loop μ-loop
 returns c =
@@ -35,13 +26,12 @@ returns c =
     ap blockSaid told ∙ sym (walking-no (c .before .before .before .before .before .loop .inv) (c .before .before .before .if1 .taken) (said-refused (c .before .before .check-at .ensures) told))
 
 advance-requires : tie.Need-advance-requires Inv-loop μ-loop
-advance-requires c κs = let w = c .before .before .before .before .before .before .loop .inv .stands in (w .asked .shaped, standing-within w (c .before .before .before .before .if1 .taken))
+advance-requires c κs =
+    let w = c .before .before .before .before .before .before .loop .inv .stands in
+    (w .asked .shaped, standing-within w (c .before .before .before .before .if1 .taken))
 
 add-n : tie.Need-add-n Inv-loop μ-loop
 add-n c = omega (arith, standing-few (c .before .before .before .before .before .before .before .loop .inv .stands) (c .before .before .before .before .before .if1 .taken))
-
-loop-less : tie.Need-loop-less Inv-loop μ-loop
-loop-less c = search needs
 
 loop-again : tie.Need-loop-again Inv-loop μ-loop
 loop-again c = rw (c .advance .ensures) (walking-next (c .before .before .before .before .before .before .before .loop .inv) (c .before .before .before .before .before .if1 .taken) (c .before .before .before .before .check-at .ensures) (c .before .before .got .given .1))
@@ -55,14 +45,14 @@ check-blocks-spec =
     (tie.spec
     Inv-loop
     μ-loop
-    start-requires
+    (λ c κs. search needs)
     loop-holds
     check-at-requires
-    enum-known-got
-    enum-told
+    (λ c. search needs)
+    (λ c. search needs)
     returns
     advance-requires
     add-n
-    loop-less
+    (λ c. search needs)
     loop-again
     returns-2)

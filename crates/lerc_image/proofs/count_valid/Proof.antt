@@ -19,14 +19,8 @@ abbrev μ-loop : tie.MeasureT-loop
 mul-pixels : tie.Need-mul-pixels Inv-loop μ-loop
 mul-pixels c = let b = c .before .before in omega (arith, size-le (b .args .h) (b .args .t) (b .pre), pixels-few (b .args .h) (b .pre .shaped))
 
-first-requires : tie.Need-first-requires Inv-loop μ-loop
-first-requires c κs = search needs
-
 loop-holds : tie.Need-loop-holds Inv-loop μ-loop
 loop-holds c = rw (c .first .ensures) (stepped-none _ (c .before .before .before .pre))
-
-is-valid-requires : tie.Need-is-valid-requires Inv-loop μ-loop
-is-valid-requires c κs = search needs
 
 add-found : tie.Need-add-found Inv-loop μ-loop
 add-found c = let s = c .before .before .before .loop .inv in omega (arith, stepped-used s, stepped-few s (c .before .before .loop-test .taken))
@@ -36,9 +30,6 @@ step-requires c κs = stepped-fits (c .before .before .before .loop .inv) (c .be
 
 add-place : tie.Need-add-place Inv-loop μ-loop
 add-place c = omega (arith, stepped-few (c .before .before .before .before .loop .inv) (c .before .before .before .loop-test .taken))
-
-loop-less : tie.Need-loop-less Inv-loop μ-loop
-loop-less c = search needs
 
 loop-again : tie.Need-loop-again Inv-loop μ-loop
 loop-again c =
@@ -58,12 +49,12 @@ count-valid-spec =
     Inv-loop
     μ-loop
     mul-pixels
-    first-requires
+    (λ c κs. search needs)
     loop-holds
-    is-valid-requires
+    (λ c κs. search needs)
     add-found
     step-requires
     add-place
-    loop-less
+    (λ c. search needs)
     loop-again
     returns)

@@ -25,18 +25,6 @@ passed : (c : tie.Else2) →
 passed c =
     record { kept = kept (c .before .before .before .before .before .before .before); below = c .before .before .before .before .if1 .left; room = not-false _ (c .if2 .left) }
 
-held-requires : tie.Need-held-requires
-held-requires c κs = search needs
-
-enum-known-held : tie.Need-enum-known-held
-enum-known-held c = search needs
-
-enum-told : tie.Need-enum-told
-enum-told c = search needs
-
-refusal-requires : tie.Need-refusal-requires
-refusal-requires c κs = search needs
-
 returns : tie.Need-returns
 returns c =
     let told = c .before .enum-told .given .1 in
@@ -49,18 +37,6 @@ returns-2 c = no-block (kept (c .before .before .before)) (omega (arith, c .if1 
 returns-3 : tie.Need-returns-3
 returns-3 c = no-room (kept (c .before .before .before .before .before .before .before)) (c .before .before .before .before .if1 .left) (not-true _ (c .if2 .taken))
 
-pairs-requires : tie.Need-pairs-requires
-pairs-requires c κs = search needs
-
-enum-told-2 : tie.Need-enum-told-2
-enum-told-2 c = search needs
-
-enum-told-3 : tie.Need-enum-told-3
-enum-told-3 c = search needs
-
-refusal-requires-2 : tie.Need-refusal-requires-2
-refusal-requires-2 c κs = search needs
-
 returns-4 : tie.Need-returns-4
 returns-4 c =
     let told = c .before .enum-told3 .given .1 in
@@ -69,9 +45,6 @@ returns-4 c =
 
 fill-number-requires : tie.Need-fill-number-requires
 fill-number-requires c κs = passed-asked (passed (c .before .before .before .before .before .before))
-
-same-length : tie.Need-same-length
-same-length c = search needs
 
 returns-5 : tie.Need-returns-5
 returns-5 c =
@@ -82,18 +55,18 @@ pub fill-spec : {M : Type 1} → statement M
 fill-spec =
     tie.close
     (tie.spec
-    held-requires
-    enum-known-held
-    enum-told
-    refusal-requires
+    (λ c κs. search needs)
+    (λ c. search needs)
+    (λ c. search needs)
+    (λ c κs. search needs)
     returns
     returns-2
     returns-3
-    pairs-requires
-    enum-told-2
-    enum-told-3
-    refusal-requires-2
+    (λ c κs. search needs)
+    (λ c. search needs)
+    (λ c. search needs)
+    (λ c κs. search needs)
     returns-4
     fill-number-requires
-    same-length
+    (λ c. search needs)
     returns-5)

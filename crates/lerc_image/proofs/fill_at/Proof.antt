@@ -14,10 +14,9 @@ element-copy-out-t16 : tie.Need-element-copy-out-t16
 element-copy-out-t16 c = omega (arith, here-depth (c .before .before .before .before .pre .0) (c .current .ensures))
 
 fill-tile-requires : tie.Need-fill-tile-requires
-fill-tile-requires c κs = let b = c .before .before .before .before .before .before .pre in here-asked (b .0) (c .before .before .current .ensures) (b .1)
-
-same-length : tie.Need-same-length
-same-length c = search needs
+fill-tile-requires c κs =
+    let b = c .before .before .before .before .before .before .pre in
+    here-asked (b .0) (c .before .before .current .ensures) (b .1)
 
 returns : tie.Need-returns
 returns c = rw (here-block (c .before .before .before .before .before .before .before .before .before .pre .0) (c .before .before .before .before .before .current .ensures) _ _ _ _) at (c .before .before .fill-tile .ensures)
@@ -25,4 +24,4 @@ returns c = rw (here-block (c .before .before .before .before .before .before .b
 pub fill-at-spec : {M : Type 1} → statement M
 fill-at-spec =
     tie.close
-    (tie.spec current-requires mul-t13 element-copy-out-t16 fill-tile-requires same-length returns)
+    (tie.spec current-requires mul-t13 element-copy-out-t16 fill-tile-requires (λ c. search needs) returns)

@@ -8,32 +8,22 @@ use Rattle.lerc_image.proofs.fill_number.Tie as tie
 slice-aggregate-s : tie.Need-slice-aggregate-s
 slice-aggregate-s c = let l = c .before .before .before .before .before .pre .size in simp length-take (omega (arith, l))
 
-mul-at : tie.Need-mul-at
-mul-at c = search needs
-
-shared-slice-read-at : tie.Need-shared-slice-read-at
-shared-slice-read-at c = search needs
-
 of-requires : tie.Need-of-requires
 of-requires c κs = let a = c .before .before .before .before .before .before .before .pre in (a .body .shaped, number-below a)
 
 fill-at-requires : tie.Need-fill-at-requires
-fill-at-requires c κs = let a = c .before .before .before .before .before .before .before .before .before .pre in (number-here a (c .before .of .ensures), number-room a)
-
-same-length : tie.Need-same-length
-same-length c = search needs
-
-returns : tie.Need-returns
-returns c = search needs
+fill-at-requires c κs =
+    let a = c .before .before .before .before .before .before .before .before .before .pre in
+    (number-here a (c .before .of .ensures), number-room a)
 
 pub fill-number-spec : {M : Type 1} → statement M
 fill-number-spec =
     tie.close
     (tie.spec
     slice-aggregate-s
-    mul-at
-    shared-slice-read-at
+    (λ c. search needs)
+    (λ c. search needs)
     of-requires
     fill-at-requires
-    same-length
-    returns)
+    (λ c. search needs)
+    (λ c. search needs))

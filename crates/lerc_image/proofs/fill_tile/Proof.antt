@@ -12,25 +12,10 @@ use Rattle.lerc_image.proofs.fill_tile.Tie as tie
 read-tile-requires : tie.Need-read-tile-requires
 read-tile-requires c κs = asked-in (c .before .before .before .before .pre)
 
-enum-known-got : tie.Need-enum-known-got
-enum-known-got c = search needs
-
-enum-told : tie.Need-enum-told
-enum-told c = search needs
-
-refusal-requires : tie.Need-refusal-requires
-refusal-requires c κs = search needs
-
 returns : tie.Need-returns
 returns c =
     let told = c .before .enum-told .given .1 in
     rw (c .refusal .ensures ∙ ap blockRefused told) (fill-refused (c .before .before .before .read-tile .ensures) _ _ _ told)
-
-scatter-requires : tie.Need-scatter-requires
-scatter-requires c κs = search needs
-
-same-length : tie.Need-same-length
-same-length c = search needs
 
 returns-2 : tie.Need-returns-2
 returns-2 c =
@@ -45,10 +30,10 @@ fill-tile-spec =
     tie.close
     (tie.spec
     read-tile-requires
-    enum-known-got
-    enum-told
-    refusal-requires
+    (λ c. search needs)
+    (λ c. search needs)
+    (λ c κs. search needs)
     returns
-    scatter-requires
-    same-length
+    (λ c κs. search needs)
+    (λ c. search needs)
     returns-2)

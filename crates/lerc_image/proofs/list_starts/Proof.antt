@@ -1,5 +1,5 @@
-use mathlib.Core.Path.{_≡_, _∙_}
-use Prim.Native.Nat.{ℕ, _-_}
+use mathlib.Core.Path.{_≡_}
+use Prim.Native.Nat.{_-_}
 use native.Mathlib.Omega.{arith}
 use denote.Ref.{now}
 use lib.ListN.{length-set}
@@ -16,17 +16,16 @@ Inv-loop s at h e mask list₀ shape p₀ k₀ start₀ list p k start = Standin
 abbrev μ-loop : tie.MeasureT-loop
 μ-loop s at h e mask list₀ shape p₀ k₀ start₀ list p k start = e .blocks - k
 
--- the count is block k's own
-counted : (c : tie.After-count-valid Inv-loop μ-loop) →
-    let a = c .before .before .before .before .before .before .before .before .before .before .args in
-    c .count-valid .result ≡ tileValid (shapeOf (a .h)) (now (a .mask)) (tileOf (shapeOf (a .h)) (c .before .before .before .before .loop .k))
-counted c = c .count-valid .ensures ∙ here-valid (standing-here (c .before .before .before .before .loop .inv .0) (c .before .before .if1 .taken)) (c .before .current .ensures) _
-
-start-requires : tie.Need-start-requires Inv-loop μ-loop
-start-requires c κs = search needs
+-- the valid pixels are block k's own
+counted : (c : tie.After-current Inv-loop μ-loop) →
+    let a = c .before .before .before .before .before .before .before .before .before .args in
+    tileValid (a .e .shape) (now (a .mask)) (c .current .result) ≡ tileValid (shapeOf (a .h)) (now (a .mask)) (tileOf (shapeOf (a .h)) (c .before .before .before .loop .k))
+counted c = here-valid (standing-here (c .before .before .before .loop .inv .0) (c .before .if1 .taken)) (c .current .ensures) _
 
 loop-holds : tie.Need-loop-holds Inv-loop μ-loop
-loop-holds c = let b = c .before .before .before .before .before in (rw (c .start .ensures) (standing-none (b .pre .0)), listing-none _ _ _ _ _ _ (b .pre .1))
+loop-holds c =
+    let b = c .before .before .before .before .before in
+    (rw (c .start .ensures) (standing-none (b .pre .0)), listing-none _ _ _ _ _ _ (b .pre .1))
 
 mul-list : tie.Need-mul-list Inv-loop μ-loop
 mul-list c = omega (arith, standing-few (c .before .before .loop .inv .0) (c .if1 .taken))
@@ -37,38 +36,28 @@ slice-write-list c = let i = c .before .before .loop .inv .1 in omega (arith, i 
 current-requires : tie.Need-current-requires Inv-loop μ-loop
 current-requires c κs = let w = c .before .before .loop .inv .0 in (w .asked .shaped, standing-within w (c .if1 .taken))
 
-count-valid-requires : tie.Need-count-valid-requires Inv-loop μ-loop
-count-valid-requires c κs = here-in (standing-here (c .before .before .before .loop .inv .0) (c .before .if1 .taken)) (c .current .ensures)
-
-block-end-requires : tie.Need-block-end-requires Inv-loop μ-loop
-block-end-requires c κs = search needs
-
-enum-known-got : tie.Need-enum-known-got Inv-loop μ-loop
-enum-known-got c = search needs
-
-enum-told : tie.Need-enum-told Inv-loop μ-loop
-enum-told c = search needs
+end-at-requires : tie.Need-end-at-requires Inv-loop μ-loop
+end-at-requires c κs = here-in (standing-here (c .before .before .before .loop .inv .0) (c .before .if1 .taken)) (c .current .ensures)
 
 same-length : tie.Need-same-length Inv-loop μ-loop
-same-length c = simp length-set (c .before .before .before .before .before .before .before .loop .inv .1 .long)
+same-length c = simp length-set (c .before .before .before .before .before .before .loop .inv .1 .long)
 
 returns : tie.Need-returns Inv-loop μ-loop
-returns c = listing-no (c .before .before .before .before .before .before .before .loop .inv .1) (c .before .before .before .before .before .if1 .taken) (counted (c .before .before .before)) (c .before .before .block-end .ensures) (c .enum-told .given .1)
+returns c = listing-no (c .before .before .before .before .before .before .loop .inv .1) (c .before .before .before .before .if1 .taken) (counted (c .before .before .before)) (c .before .before .end-at .ensures) (c .enum-told .given .1)
 
 advance-requires : tie.Need-advance-requires Inv-loop μ-loop
-advance-requires c κs = let w = c .before .before .before .before .before .before .before .before .loop .inv .0 in (w .asked .shaped, standing-within w (c .before .before .before .before .before .before .if1 .taken))
+advance-requires c κs =
+    let w = c .before .before .before .before .before .before .before .loop .inv .0 in
+    (w .asked .shaped, standing-within w (c .before .before .before .before .before .if1 .taken))
 
 add-k : tie.Need-add-k Inv-loop μ-loop
-add-k c = omega (arith, standing-few (c .before .before .before .before .before .before .before .before .before .loop .inv .0) (c .before .before .before .before .before .before .before .if1 .taken))
-
-loop-less : tie.Need-loop-less Inv-loop μ-loop
-loop-less c = search needs
+add-k c = omega (arith, standing-few (c .before .before .before .before .before .before .before .before .loop .inv .0) (c .before .before .before .before .before .before .if1 .taken))
 
 loop-again : tie.Need-loop-again Inv-loop μ-loop
 loop-again c =
-    let i = c .before .before .before .before .before .before .before .before .before .loop .inv in
-    let l = c .before .before .before .before .before .before .before .if1 .taken in
-    (rw (c .advance .ensures) (standing-next (i .0) l), listing-next (i .1) l (counted (c .before .before .before .before .before)) (c .before .before .before .before .block-end .ensures) (c .before .before .got .given .1))
+    let i = c .before .before .before .before .before .before .before .before .loop .inv in
+    let l = c .before .before .before .before .before .before .if1 .taken in
+    (rw (c .advance .ensures) (standing-next (i .0) l), listing-next (i .1) l (counted (c .before .before .before .before .before)) (c .before .before .before .before .end-at .ensures) (c .before .before .got .given .1))
 
 same-length-2 : tie.Need-same-length-2 Inv-loop μ-loop
 same-length-2 c = c .before .before .loop .inv .1 .long
@@ -82,20 +71,19 @@ list-starts-spec =
     (tie.spec
     Inv-loop
     μ-loop
-    start-requires
+    (λ c κs. search needs)
     loop-holds
     mul-list
     slice-write-list
     current-requires
-    count-valid-requires
-    block-end-requires
-    enum-known-got
-    enum-told
+    end-at-requires
+    (λ c. search needs)
+    (λ c. search needs)
     same-length
     returns
     advance-requires
     add-k
-    loop-less
+    (λ c. search needs)
     loop-again
     same-length-2
     returns-2)

@@ -5,12 +5,6 @@ use borrow.Author.Needs.{needs}
 use Rattle.lerc_image.proofs.read_tile.Statement.{statement}
 use Rattle.lerc_image.proofs.read_tile.Tie as tie
 
-count-valid-requires : tie.Need-count-valid-requires
-count-valid-requires c κs = search needs
-
-read-block-requires : tie.Need-read-block-requires
-read-block-requires c κs = search needs
-
 returns : tie.Need-returns
 returns c =
     let b = c .before .before .before .before .before in
@@ -19,4 +13,4 @@ returns c =
     rw (n, read-block _ _ _ _ _ _ _ few) at (c .read-block .ensures)
 
 pub read-tile-spec : {M : Type 1} → statement M
-read-tile-spec = tie.close (tie.spec count-valid-requires read-block-requires returns)
+read-tile-spec = tie.close (tie.spec (λ c κs. search needs) (λ c κs. search needs) returns)

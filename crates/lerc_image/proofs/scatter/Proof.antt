@@ -17,16 +17,15 @@ abbrev μ-loop : tie.MeasureT-loop
 μ-loop h t number mask words image₀ size at₀ k₀ used₀ image at k used = size - k
 
 mul-size : tie.Need-mul-size Inv-loop μ-loop
-mul-size c = let b = c .before .before .before in omega (arith, size-le (b .args .h) (b .args .t) (asked-in (b .pre)), pixels-few (b .args .h) (b .pre .shaped))
+mul-size c =
+    let b = c .before .before .before in
+    omega (arith, size-le (b .args .h) (b .args .t) (asked-in (b .pre)), pixels-few (b .args .h) (b .pre .shaped))
 
 first-requires : tie.Need-first-requires Inv-loop μ-loop
 first-requires c κs = asked-in (c .before .before .before .pre)
 
 loop-holds : tie.Need-loop-holds Inv-loop μ-loop
 loop-holds c = rw (c .first .ensures) (scattering-none _ _ (c .before .before .before .before .pre))
-
-is-valid-requires : tie.Need-is-valid-requires Inv-loop μ-loop
-is-valid-requires c κs = search needs
 
 mul-image : tie.Need-mul-image Inv-loop μ-loop
 mul-image c = let l = c .before .before in omega (arith, scattering-used (l .before .loop .inv) (l .loop-test .taken))
@@ -41,7 +40,9 @@ add-image : tie.Need-add-image Inv-loop μ-loop
 add-image c = let l = c .before .before .before .before .before .before in omega (arith, scattering-few (l .before .loop .inv) (l .loop-test .taken))
 
 mul-image-3 : tie.Need-mul-image-3 Inv-loop μ-loop
-mul-image-3 c = let l = c .before .before .before .before .before .before in omega (arith, scattering-few (l .before .loop .inv) (l .loop-test .taken))
+mul-image-3 c =
+    let l = c .before .before .before .before .before .before in
+    omega (arith, scattering-few (l .before .loop .inv) (l .loop-test .taken))
 
 slice-write-image : tie.Need-slice-write-image Inv-loop μ-loop
 slice-write-image c = let l = c .before .before .before .before .before .before in scattering-room (l .before .loop .inv) (l .loop-test .taken)
@@ -54,9 +55,6 @@ step-requires c κs = stepped-fits (c .before .before .before .loop .inv .steppe
 
 add-k : tie.Need-add-k Inv-loop μ-loop
 add-k c = omega (arith, stepped-few (c .before .before .before .before .loop .inv .stepped) (c .before .before .before .loop-test .taken))
-
-loop-less : tie.Need-loop-less Inv-loop μ-loop
-loop-less c = search needs
 
 loop-again : tie.Need-loop-again Inv-loop μ-loop
 loop-again c =
@@ -81,7 +79,7 @@ scatter-spec =
     mul-size
     first-requires
     loop-holds
-    is-valid-requires
+    (λ c κs. search needs)
     mul-image
     element-copy-out-image
     mul-image-2
@@ -91,7 +89,7 @@ scatter-spec =
     add-used
     step-requires
     add-k
-    loop-less
+    (λ c. search needs)
     loop-again
     same-length
     returns)

@@ -24,18 +24,6 @@ ready : (c : tie.Else1) →
     Ready (now (a .blob)) (a .h) (now (a .mask)) (now (a .list)) (k .held2 .given .0 .0)
 ready c = record { kept = kept (c .before .before .before .before); room = not-false _ (c .if1 .left) }
 
-held-requires : tie.Need-held-requires
-held-requires c κs = search needs
-
-enum-known-held : tie.Need-enum-known-held
-enum-known-held c = search needs
-
-enum-told : tie.Need-enum-told
-enum-told c = search needs
-
-refusal-requires : tie.Need-refusal-requires
-refusal-requires c κs = search needs
-
 returns : tie.Need-returns
 returns c =
     let told = c .before .enum-told .given .1 in
@@ -43,18 +31,6 @@ returns c =
 
 returns-2 : tie.Need-returns-2
 returns-2 c = no-room (kept (c .before .before .before .before)) (not-true _ (c .if1 .taken))
-
-pairs-requires : tie.Need-pairs-requires
-pairs-requires c κs = search needs
-
-enum-told-2 : tie.Need-enum-told-2
-enum-told-2 c = search needs
-
-enum-told-3 : tie.Need-enum-told-3
-enum-told-3 c = search needs
-
-refusal-requires-2 : tie.Need-refusal-requires-2
-refusal-requires-2 c κs = search needs
 
 returns-3 : tie.Need-returns-3
 returns-3 c =
@@ -70,9 +46,6 @@ slice-aggregate-walk-body c = let l = ready-size (ready (c .before .before .befo
 walk-body-requires : tie.Need-walk-body-requires
 walk-body-requires c κs = let p = ready (c .before .before .before .before .before .before .before .before .before) in (ready-asked p, ready-room p)
 
-same-length : tie.Need-same-length
-same-length c = search needs
-
 returns-5 : tie.Need-returns-5
 returns-5 c =
     let a = c .before .before .before .before .before .before .before .before .before .before .before in
@@ -82,19 +55,19 @@ pub walk-spec : {M : Type 1} → statement M
 walk-spec =
     tie.close
     (tie.spec
-    held-requires
-    enum-known-held
-    enum-told
-    refusal-requires
+    (λ c κs. search needs)
+    (λ c. search needs)
+    (λ c. search needs)
+    (λ c κs. search needs)
     returns
     returns-2
-    pairs-requires
-    enum-told-2
-    enum-told-3
-    refusal-requires-2
+    (λ c κs. search needs)
+    (λ c. search needs)
+    (λ c. search needs)
+    (λ c κs. search needs)
     returns-3
     returns-4
     slice-aggregate-walk-body
     walk-body-requires
-    same-length
+    (λ c. search needs)
     returns-5)

@@ -1,7 +1,7 @@
 use borrow.Author.Needs.{needs}
 use Prim.Native.Nat.{_≤_, _-_}
-use mathlib.Core.Path.{_≡_, _∙_, sym, ap, refl}
-use Prim.Native.Nat.{ℕ, _<_, _+_, _*_}
+use mathlib.Core.Path.{_≡_}
+use Prim.Native.Nat.{ℕ, _<_, _+_}
 use native.Mathlib.Omega.{arith}
 use denote.Ref.{now}
 use lib.ListN.{length, getD}
@@ -11,8 +11,6 @@ use Rattle.lerc.specs.Linear.{within}
 use Rattle.lerc.proofs.Pixels.{cells-none, cell-more}
 use Rattle.lerc.proofs.linear.put_constant.Statement.{statement}
 use Rattle.lerc.proofs.linear.put_constant.Tie as tie
-use Rattle.lerc.proofs.linear.put_constant.Reads as reads
-use Rattle.lerc.proofs.linear.put_constant.Lts as lts
 
 abbrev Inv-loop : tie.InvT-loop
 Inv-loop words depth base image₀ d₀ image d = (d ≤ depth) × (image ≡ painted image₀ (within base d) (λ c. getD words (c - base) 0))
@@ -20,47 +18,33 @@ Inv-loop words depth base image₀ d₀ image d = (d ≤ depth) × (image ≡ pa
 abbrev μ-loop : tie.MeasureT-loop
 μ-loop words depth base image₀ d₀ image d = depth - d
 
--- src/linear.rt:21:5
 loop-holds : tie.Need-loop-holds Inv-loop μ-loop
 loop-holds c = let a = c .args in (omega arith, cells-none (now (a .image)) (λ i. getD (now (a .words)) (i - a .base) 0) (a .base))
 
--- src/linear.rt:22:27
-mul-image : tie.Need-mul-image Inv-loop μ-loop
-mul-image c = search needs
-
--- src/linear.rt:22:27
-element-copy-out-image : tie.Need-element-copy-out-image Inv-loop μ-loop
-element-copy-out-image c = search needs
-
--- src/linear.rt:22:15
-add-image : tie.Need-add-image Inv-loop μ-loop
-add-image c = search needs
-
--- src/linear.rt:22:9
-mul-image-2 : tie.Need-mul-image-2 Inv-loop μ-loop
-mul-image-2 c = search needs
-
--- src/linear.rt:22:9
 slice-write-image : tie.Need-slice-write-image Inv-loop μ-loop
-slice-write-image c = let l = c .before .before in let a = l .before .args in let im = now (a .image) in let w : ℕ → ℕ = λ i. getD (now (a .words)) (i - a .base) 0 in rw (l .loop .inv .1, length-painted im w (within (a .base) (l .loop .d))) (omega arith)
+slice-write-image c =
+    let l = c .before .before in
+    let a = l .before .args in
+    let im = now (a .image) in
+    let w : ℕ → ℕ = λ i. getD (now (a .words)) (i - a .base) 0 in
+    rw (l .loop .inv .1, length-painted im w (within (a .base) (l .loop .d))) (omega arith)
 
--- src/linear.rt:23:9
-add-d : tie.Need-add-d Inv-loop μ-loop
-add-d c = search needs
-
--- src/linear.rt:21:5
-loop-less : tie.Need-loop-less Inv-loop μ-loop
-loop-less c = search needs
-
--- src/linear.rt:21:5
 loop-again : tie.Need-loop-again Inv-loop μ-loop
-loop-again c = let l = c .before .before in let a = l .before .args in let im = now (a .image) in let w : ℕ → ℕ = λ i. getD (now (a .words)) (i - a .base) 0 in let h : a .base + l .loop .d < length im = omega arith in let e : a .base + l .loop .d - a .base ≡ l .loop .d = omega arith in (omega arith, rw (l .loop .inv .1) (rw (e) at (cell-more im w (a .base) (l .loop .d) h)))
+loop-again c =
+    let l = c .before .before in
+    let a = l .before .args in
+    let im = now (a .image) in
+    let w : ℕ → ℕ = λ i. getD (now (a .words)) (i - a .base) 0 in
+    let h : a .base + l .loop .d < length im = omega arith in
+    let e : a .base + l .loop .d - a .base ≡ l .loop .d = omega arith in
+    (omega arith, rw (l .loop .inv .1) (rw (e) at (cell-more im w (a .base) (l .loop .d) h)))
 
--- src/linear.rt:16:1
 same-length : tie.Need-same-length Inv-loop μ-loop
-same-length c = let l = c .before in let a = l .before .args in rw (l .loop .inv .1, length-painted (now (a .image)) (λ i. getD (now (a .words)) (i - a .base) 0) (within (a .base) (l .loop .d)))
+same-length c =
+    let l = c .before in
+    let a = l .before .args in
+    rw (l .loop .inv .1, length-painted (now (a .image)) (λ i. getD (now (a .words)) (i - a .base) 0) (within (a .base) (l .loop .d)))
 
--- src/linear.rt:16:1
 returns : tie.Need-returns Inv-loop μ-loop
 returns c = let l = c .before in let e : l .loop .d ≡ l .before .args .depth = omega arith in rw (← e) (l .loop .inv .1)
 
@@ -71,13 +55,13 @@ put-constant-spec =
     Inv-loop
     μ-loop
     loop-holds
-    mul-image
-    element-copy-out-image
-    add-image
-    mul-image-2
+    (λ c. search needs)
+    (λ c. search needs)
+    (λ c. search needs)
+    (λ c. search needs)
     slice-write-image
-    add-d
-    loop-less
+    (λ c. search needs)
+    (λ c. search needs)
     loop-again
     same-length
     returns)

@@ -1,25 +1,20 @@
 use native.Mathlib.Nat.{zero-mul}
 use borrow.Author.Needs.{needs}
 use Prim.Native.Nat.{_≤_, _-_}
-use mathlib.Core.Path.{_≡_, _∙_, sym, ap, refl}
+use mathlib.Core.Path.{_≡_, _∙_, sym}
 use mathlib.Core.Logic.{⊎-elim}
-use Prim.Native.Nat.{ℕ, suc, _<_, _+_, _*_}
+use Prim.Native.Nat.{_<_, _+_, _*_}
 use native.Mathlib.Omega.{arith}
 use native.Mathlib.Nat.{suc-mul}
 use native.Mathlib.Numerals.{add-one}
 use denote.Ref.{now}
 use lib.ListN.{length, getD}
-use Rattle.lerc_header.specs.Shape.{cells}
 use Rattle.lerc_image.specs.Paint.{painted}
 use Rattle.lerc_image.proofs.Painting.{length-painted}
-use Rattle.lerc.specs.Linear.{within, validUpto, depthWord}
+use Rattle.lerc.specs.Linear.{validUpto, depthWord}
 use Rattle.lerc.proofs.Pixels.{upto-none, upto-all, pixel-skips, pixel-adds, pixel-fits, pixels-few, pixel-depth}
 use Rattle.lerc.proofs.linear.write_constant.Statement.{statement}
 use Rattle.lerc.proofs.linear.write_constant.Tie as tie
-use Rattle.lerc.proofs.linear.write_constant.Reads as reads
-use Rattle.lerc.proofs.linear.write_constant.Lts as lts
-use Rattle.lerc.proofs.linear.put_constant.Reads as put-constant-reads
-use Rattle.lerc_mask.proofs.is_valid.Reads as is-valid-reads
 
 abbrev Inv-loop : tie.InvT-loop
 Inv-loop h words mask image₀ pixels p₀ base₀ image p base = (p ≤ h .rows * h .columns) × (base ≡ p * h .depth) × (image ≡ painted image₀ (validUpto h mask (p * h .depth)) (depthWord h words))
@@ -27,45 +22,68 @@ Inv-loop h words mask image₀ pixels p₀ base₀ image p base = (p ≤ h .rows
 abbrev μ-loop : tie.MeasureT-loop
 μ-loop h words mask image₀ pixels p₀ base₀ image p base = h .rows * h .columns - p
 
--- src/linear.rt:32:18
 mul-pixels : tie.Need-mul-pixels Inv-loop μ-loop
 mul-pixels c = let s = c .before .before .before in omega (arith, pixels-few (s .args .h) (s .pre .0))
 
--- src/linear.rt:35:5
 loop-holds : tie.Need-loop-holds Inv-loop μ-loop
-loop-holds c = let a = c .before .before .before .args in let e : 0 * a .h .depth ≡ 0 = zero-mul (a .h .depth) in (omega arith, sym e, rw (e) (upto-none (a .h) (now (a .mask)) (now (a .image)) (depthWord (a .h) (now (a .words)))))
+loop-holds c =
+    let a = c .before .before .before .args in
+    let e : 0 * a .h .depth ≡ 0 = zero-mul (a .h .depth) in
+    (omega arith, sym e, rw (e) (upto-none (a .h) (now (a .mask)) (now (a .image)) (depthWord (a .h) (now (a .words)))))
 
--- src/linear.rt:36:12
-is-valid-requires : tie.Need-is-valid-requires Inv-loop μ-loop
-is-valid-requires c κs = search needs
-
--- src/linear.rt:37:13
 put-constant-requires : tie.Need-put-constant-requires Inv-loop μ-loop
-put-constant-requires c κs = let l = c .before .before .before .before in let s = l .before .before .before .before in let a = s .args in let i = l .loop .inv in let e : length (l .loop .image) ≡ length (now (a .image)) = rw (i .2) (length-painted (now (a .image)) (depthWord (a .h) (now (a .words))) (validUpto (a .h) (now (a .mask)) (l .loop .p * a .h .depth))) in let f = pixel-fits (a .h) (now (a .mask)) (l .loop .p) (omega arith) (length (now (a .image))) (s .pre .1) in (s .pre .0 .depth .1, omega arith)
+put-constant-requires c κs =
+    let l = c .before .before .before .before in
+    let s = l .before .before .before .before in
+    let a = s .args in
+    let i = l .loop .inv in
+    let e : length (l .loop .image) ≡ length (now (a .image)) = rw (i .2) (length-painted (now (a .image)) (depthWord (a .h) (now (a .words))) (validUpto (a .h) (now (a .mask)) (l .loop .p * a .h .depth))) in
+    let f = pixel-fits (a .h) (now (a .mask)) (l .loop .p) (omega arith) (length (now (a .image))) (s .pre .1) in
+    (s .pre .0 .depth .1, omega arith)
 
--- src/linear.rt:39:9
 add-base : tie.Need-add-base Inv-loop μ-loop
-add-base c = let l = c .before .before .before .before in let s = l .before .before .before .before in let a = s .args in let f = pixel-fits (a .h) (now (a .mask)) (l .loop .p) (omega arith) 4194304 (s .pre .0 .few) in omega arith
+add-base c =
+    let l = c .before .before .before .before in
+    let s = l .before .before .before .before in
+    let a = s .args in
+    let f = pixel-fits (a .h) (now (a .mask)) (l .loop .p) (omega arith) 4194304 (s .pre .0 .few) in
+    omega arith
 
--- src/linear.rt:40:9
 add-p : tie.Need-add-p Inv-loop μ-loop
-add-p c = let l = c .before .before .before .before in let s = l .before .before .before .before in let f = pixels-few (s .args .h) (s .pre .0) in omega arith
+add-p c =
+    let l = c .before .before .before .before in
+    let s = l .before .before .before .before in
+    let f = pixels-few (s .args .h) (s .pre .0) in
+    omega arith
 
--- src/linear.rt:35:5
-loop-less : tie.Need-loop-less Inv-loop μ-loop
-loop-less c = search needs
-
--- src/linear.rt:35:5
 loop-again : tie.Need-loop-again Inv-loop μ-loop
-loop-again c = let l = c .before .before .before .before in let s = l .before .before .before .before in let a = s .args in let h = a .h in let m = now (a .mask) in let im = now (a .image) in let words = now (a .words) in let p = l .loop .p in let i = l .loop .inv in let v = c .before .before .is-valid .ensures in let here : p < h .rows * h .columns = omega arith in let e : (p + 1) * h .depth ≡ p * h .depth + h .depth = rw (add-one) (omega (arith, suc-mul p (h .depth))) in (omega arith, rw (e, i .1), rw (e) (⊎-elim (λ w. w .5 ∙ w .2 .ensures ∙ rw (i .2, i .1) (pixel-adds h m p here im (depthWord h words) (λ k. getD words (k - p * h .depth) 0) (sym v ∙ w .0 .taken) (λ k x y. rw (pixel-depth p (h .depth) k x y)))) (λ w. w .1 ∙ i .2 ∙ pixel-skips h m p here im (depthWord h words) (sym v ∙ w .0 .left)) (c .before .if1 .came)))
+loop-again c =
+    let l = c .before .before .before .before in
+    let s = l .before .before .before .before in
+    let a = s .args in
+    let h = a .h in
+    let m = now (a .mask) in
+    let im = now (a .image) in
+    let words = now (a .words) in
+    let p = l .loop .p in
+    let i = l .loop .inv in
+    let v = c .before .before .is-valid .ensures in
+    let here : p < h .rows * h .columns = omega arith in
+    let e : (p + 1) * h .depth ≡ p * h .depth + h .depth = rw (add-one) (omega (arith, suc-mul p (h .depth))) in
+    (omega arith, rw (e, i .1), rw (e) (⊎-elim (λ w. w .5 ∙ w .2 .ensures ∙ rw (i .2, i .1) (pixel-adds h m p here im (depthWord h words) (λ k. getD words (k - p * h .depth) 0) (sym v ∙ w .0 .taken) (λ k x y. rw (pixel-depth p (h .depth) k x y)))) (λ w. w .1 ∙ i .2 ∙ pixel-skips h m p here im (depthWord h words) (sym v ∙ w .0 .left)) (c .before .if1 .came)))
 
--- src/linear.rt:28:1
 same-length : tie.Need-same-length Inv-loop μ-loop
-same-length c = let l = c .before in let a = l .before .before .before .before .args in rw (l .loop .inv .2) (length-painted (now (a .image)) (depthWord (a .h) (now (a .words))) (validUpto (a .h) (now (a .mask)) (l .loop .p * a .h .depth)))
+same-length c =
+    let l = c .before in
+    let a = l .before .before .before .before .args in
+    rw (l .loop .inv .2) (length-painted (now (a .image)) (depthWord (a .h) (now (a .words))) (validUpto (a .h) (now (a .mask)) (l .loop .p * a .h .depth)))
 
--- src/linear.rt:28:1
 returns : tie.Need-returns Inv-loop μ-loop
-returns c = let l = c .before in let a = l .before .before .before .before .args in let e : l .loop .p ≡ a .h .rows * a .h .columns = omega arith in l .loop .inv .2 ∙ rw (e) (upto-all (a .h) (now (a .mask)) (now (a .image)) (depthWord (a .h) (now (a .words))))
+returns c =
+    let l = c .before in
+    let a = l .before .before .before .before .args in
+    let e : l .loop .p ≡ a .h .rows * a .h .columns = omega arith in
+    l .loop .inv .2 ∙ rw (e) (upto-all (a .h) (now (a .mask)) (now (a .image)) (depthWord (a .h) (now (a .words))))
 
 pub write-constant-spec : {M : Type 1} → statement M
 write-constant-spec =
@@ -75,11 +93,11 @@ write-constant-spec =
     μ-loop
     mul-pixels
     loop-holds
-    is-valid-requires
+    (λ c κs. search needs)
     put-constant-requires
     add-base
     add-p
-    loop-less
+    (λ c. search needs)
     loop-again
     same-length
     returns)

@@ -6,23 +6,11 @@ use borrow.Author.Needs.{needs}
 use Rattle.lerc_image.proofs.Position.advance.Statement.{statement}
 use Rattle.lerc_image.proofs.Position.advance.Tie as tie
 
-add-if1 : tie.Need-add-if1
-add-if1 c = search needs
-
-add-t6 : tie.Need-add-t6
-add-t6 c = search needs
-
 returns : tie.Need-returns
 returns c = rw (lt-ltb _ _ (c .before .if1 .taken))
 
-current-requires : tie.Need-current-requires
-current-requires c κs = search needs
-
 add-if2 : tie.Need-add-if2
 add-if2 c = omega (arith, ap (λ (t : Tile). t .w) (c .before .before .current .ensures))
-
-add-t7 : tie.Need-add-t7
-add-t7 c = search needs
 
 returns-2 : tie.Need-returns-2
 returns-2 c =
@@ -40,4 +28,4 @@ returns-3 c =
 pub advance-spec : {M : Type 1} → statement M
 advance-spec =
     tie.close
-    (tie.spec add-if1 add-t6 returns current-requires add-if2 add-t7 returns-2 add-t4 returns-3)
+    (tie.spec (λ c. search needs) (λ c. search needs) returns (λ c κs. search needs) add-if2 (λ c. search needs) returns-2 add-t4 returns-3)

@@ -7,18 +7,6 @@ use borrow.Author.Needs.{needs}
 use Rattle.lerc_image.proofs.Position.of.Statement.{statement}
 use Rattle.lerc_image.proofs.Position.of.Tie as tie
 
-add-across : tie.Need-add-across
-add-across c = search needs
-
-sub-across : tie.Need-sub-across
-sub-across c = search needs
-
-div-across : tie.Need-div-across
-div-across c = search needs
-
-div-t : tie.Need-div-t
-div-t c = search needs
-
 rem-t5 : tie.Need-rem-t5
 unfolding strips
 rem-t5 c =
@@ -43,9 +31,6 @@ mul-t8 c =
     let b = c .before .before .before .before .before in
     omega (arith, corner-y (b .args .h) (b .pre .0) (b .args .n) (b .pre .1), b .pre .0 .rows .1)
 
-rem-t9 : tie.Need-rem-t9
-rem-t9 c = search needs
-
 returns : tie.Need-returns
 unfolding strips positionOf
 returns c =
@@ -55,4 +40,4 @@ returns c =
 pub of-spec : {M : Type 1} → statement M
 of-spec =
     tie.close
-    (tie.spec add-across sub-across div-across div-t rem-t5 mul-t6 div-t7 mul-t8 rem-t9 returns)
+    (tie.spec (λ c. search needs) (λ c. search needs) (λ c. search needs) (λ c. search needs) rem-t5 mul-t6 div-t7 mul-t8 (λ c. search needs) returns)

@@ -2,17 +2,8 @@ use borrow.Author.Needs.{needs}
 use Rattle.lerc_image.proofs.WalkAnswer.refusal.Statement.{statement}
 use Rattle.lerc_image.proofs.WalkAnswer.refusal.Tie as tie
 
-enum-known-self : tie.Need-enum-known-self
-enum-known-self c = search needs
-
-enum-known-self-2 : tie.Need-enum-known-self-2
-enum-known-self-2 c = search needs
-
 returns : tie.Need-returns
 returns c = cc
 
-returns-2 : tie.Need-returns-2
-returns-2 c = search needs
-
 pub refusal-spec : {M : Type 1} → statement M
-refusal-spec = tie.close (tie.spec enum-known-self enum-known-self-2 returns returns-2)
+refusal-spec = tie.close (tie.spec (λ c. search needs) (λ c. search needs) returns (λ c. search needs))

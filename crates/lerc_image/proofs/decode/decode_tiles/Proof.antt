@@ -23,18 +23,6 @@ roomy : (c : tie.Else1) →
     Roomy (now (a .blob)) (a .h) (now (a .mask)) (now (a .list)) (now (a .image)) (k .held2 .given .0 .0)
 roomy c = record { kept = kept (c .before .before .before .before .before); room = not-false _ (c .if1 .left) }
 
-held-requires : tie.Need-held-requires
-held-requires c κs = search needs
-
-enum-known-held : tie.Need-enum-known-held
-enum-known-held c = search needs
-
-enum-told : tie.Need-enum-told
-enum-told c = search needs
-
-refusal-requires : tie.Need-refusal-requires
-refusal-requires c κs = search needs
-
 returns : tie.Need-returns
 returns c =
     let told = c .before .enum-told .given .1 in
@@ -49,12 +37,6 @@ slice-aggregate-decode-blocks c = let l = roomy-size (roomy (c .before)) in simp
 decode-blocks-requires : tie.Need-decode-blocks-requires
 decode-blocks-requires c κs = let p = roomy (c .before .before .before) in (roomy-asked p, roomy-list p, roomy-image p)
 
-same-length : tie.Need-same-length
-same-length c = search needs
-
-same-length-2 : tie.Need-same-length-2
-same-length-2 c = search needs
-
 returns-3 : tie.Need-returns-3
 returns-3 c =
     let p = roomy (c .before .before .before .before .before .before .before .before) in
@@ -64,14 +46,14 @@ pub decode-tiles-spec : {M : Type 1} → statement M
 decode-tiles-spec =
     tie.close
     (tie.spec
-    held-requires
-    enum-known-held
-    enum-told
-    refusal-requires
+    (λ c κs. search needs)
+    (λ c. search needs)
+    (λ c. search needs)
+    (λ c κs. search needs)
     returns
     returns-2
     slice-aggregate-decode-blocks
     decode-blocks-requires
-    same-length
-    same-length-2
+    (λ c. search needs)
+    (λ c. search needs)
     returns-3)

@@ -12,9 +12,6 @@ Inv-loop s h e maxima mask list image₀ shape p₀ n₀ image p n = Standing h 
 abbrev μ-loop : tie.MeasureT-loop
 μ-loop s h e maxima mask list image₀ shape p₀ n₀ image p n = e .blocks - n
 
-start-requires : tie.Need-start-requires Inv-loop μ-loop
-start-requires c κs = search needs
-
 loop-holds : tie.Need-loop-holds Inv-loop μ-loop
 loop-holds c =
     let p = c .before .before .before .before .before .before .pre in
@@ -42,9 +39,6 @@ add-n : tie.Need-add-n Inv-loop μ-loop
 add-n c =
     omega (arith, standing-few (c .before .before .before .before .before .before .before .before .loop .inv .0) (c .before .before .before .before .before .before .if1 .taken))
 
-loop-less : tie.Need-loop-less Inv-loop μ-loop
-loop-less c = search needs
-
 loop-again : tie.Need-loop-again Inv-loop μ-loop
 loop-again c =
     let i = c .before .before .before .before .before .before .before .before .loop .inv in
@@ -63,14 +57,14 @@ fill-listed-spec =
     (tie.spec
     Inv-loop
     μ-loop
-    start-requires
+    (λ c κs. search needs)
     loop-holds
     mul-fill-at
     shared-slice-read-fill-at
     fill-at-requires
     advance-requires
     add-n
-    loop-less
+    (λ c. search needs)
     loop-again
     same-length
     returns)
