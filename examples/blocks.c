@@ -6,7 +6,8 @@
 #include <stdio.h>
 #include <stdlib.h>
 
-/* room for small tiles; what does not fit is refused 5 */
+/* room for small tiles: of a larger one the mask, the list or the image is refused 5; a blob of more bytes is cut here,
+ * and its header is refused 1 */
 enum { BYTES = 65536, MASK = 512, CELLS = 4096 };
 
 static uint8_t blob[BYTES], kept[MASK], spare[MASK];

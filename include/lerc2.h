@@ -155,10 +155,10 @@ uint64_t lerc2_scaled(uint64_t a, uint32_t q);
 uint32_t lerc2_narrow(uint64_t v);
 
 /* a word of a kind as a double. Kinds: 0 i8, 1 u8, 2 i16, 3 u16, 4 i32, 5 u32, 6 float, 7 double. Of a wider word the
- * low bits count */
+ * low bits count; a kind above 7 counts as 7 */
 uint64_t lerc2_number(uint64_t word, uint32_t kind);
 
-/* A double as a stored word of a kind: integers are cut toward zero.
+/* A double as a stored word of a kind: integers are cut toward zero. A kind above 7 counts as 7.
  * Refuses 5 (said under 1), 9 (the integers of the kind do not hold it).
  * Accepted: said[0] is the word. Refused: said is as it was. */
 uint32_t lerc2_stored(uint64_t v, uint32_t kind, uint64_t *said, size_t said_count);

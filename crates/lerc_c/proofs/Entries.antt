@@ -12,7 +12,7 @@ use borrow.Author.Tests.{le-leb, lt-leb}
 use Rattle.lerc_words.specs.declared.Refusal.{Refusal}
 use Rattle.lerc_words.specs.Res.{Res, ok, fail, _>>=_, require, after}
 use Rattle.lerc_words.specs.Lists.{over}
-use Rattle.lerc_words.proofs.Laws.{ok-is, bind-is}
+use Rattle.lerc_words.proofs.Laws.{ok-is, bind-is, bind-fail, bind-counts}
 use Rattle.lerc_header.specs.declared.Header.{Header}
 use Rattle.lerc_header.specs.Header.{shapeOf, headerSays}
 use Rattle.lerc.specs.declared.ReadAnswer.{ReadAnswer}
@@ -34,15 +34,6 @@ use Rattle.lerc.proofs.Whole as whole
 use Rattle.lerc_c.specs.Records.{headerRoom, headerNumbers, headerFrom, rangesRoom, rangesNumbers, rangesFrom}
 use Rattle.lerc_c.specs.Entries.{headerEntry, HeaderDone, readRoom, readEntry, maskedEntry, lentAfter, readNumbers, ReadDone, prepareEntry, PrepareDone, rangesEntry, RangesDone, walkEntry, WalkDone, fillEntry, FillDone, storedEntry, StoredDone}
 use Rattle.lerc_c.proofs.Laws.{long, over-behind, first-put}
-
--- an answer that counts what was accepted refuses where it is refused
-pub counts-no : {A B : Type 0} (m : Res A) (f : A → B) {why : Refusal} → fail why ≡ (m >>= λ a. ok (f a)) → m ≡ fail why
-counts-no (ok a) f e = absurd (let z : _≡_ {A = ℕ} 0 1 = cc in omega arith)
-counts-no (fail r) f e = cc
-
-pub counts-ok : {A B : Type 0} (m : Res A) (f : A → B) {b : B} → ok b ≡ (m >>= λ a. ok (f a)) → (a : A) × (m ≡ ok a) × (b ≡ f a)
-counts-ok (ok a) f e = (a, refl, cc)
-counts-ok (fail r) f e = absurd (let z : _≡_ {A = ℕ} 0 1 = cc in omega arith)
 
 -- ---- read header
 
@@ -91,7 +82,7 @@ module _ (b : List ℕ) (reuse : Bool) (l : Lent) (said : List ℕ) where
   pub read-refused : {why : Refusal} {n : ℕ} {l' : Lent} → readRoom ≤ length said → WholeRead b reuse (answer.Refused why) l l' → n ≡ why .number → ReadDone b reuse n l l' said said
   unfolding readEntry
   read-refused h w d =
-      let e = counts-no (readSays b reuse l) _ (w .says) in
+      let e = bind-fail (readSays b reuse l) _ (sym (w .says)) in
       record { number = rw (le-leb readRoom (length said) h, e) d; lent = read-lent h w; said = rw (le-leb readRoom (length said) h, e) }
 
   pub read-no : {why : Refusal} {n : ℕ} → readRoom ≤ length said → headerSays b ≡ fail why → n ≡ why .number → ReadDone b reuse n l l said said
@@ -101,7 +92,7 @@ module _ (b : List ℕ) (reuse : Bool) (l : Lent) (said : List ℕ) where
       → front ≡ over (headerNumbers h) said → said' ≡ paste front headerRoom (n ∷ end ∷ []) 2 → ReadDone b reuse 0 l l' said said'
   unfolding readEntry
   read-whole {h} {n} {end} {l'} {front} {said'} long e w p q =
-      let (m, r, c) = counts-ok (readSays b reuse l) _ (w .says) in
+      let (m, r, c) = bind-counts (readSays b reuse l) _ (sym (w .says)) in
       let z = read-said m said (read-header b reuse l e r) (ap (λ (v : Whole). v .blocks) c) (ap (λ (v : Whole). v .end) c) p q in
       record { number = rw (le-leb readRoom (length said) long, r); lent = read-lent long w; said = rw (le-leb readRoom (length said) long, r) z }
 
@@ -198,14 +189,14 @@ module _ (b header ranges m list said : List ℕ) where
       → WalkDone (walkEntry b header ranges m list said) (why .number) list list' said said
   unfolding walkEntry walkList
   walk-no {h} {r} {why} {list'} t e f w =
-      let g = counts-no (walkSays b h r m (length list)) _ (w .says) in
+      let g = bind-fail (walkSays b h r m (length list)) _ (sym (w .says)) in
       rw (t, e, f, g) (record { number = refl; list = rw (g) at (w .list); said = refl })
 
   pub walk-done : {h : Header} {r : Ranges} {blocks end n : ℕ} {list' said' : List ℕ} → walkHasRoom ≡ true → headerFrom header ≡ ok h → rangesFrom ranges ≡ ok r
       → Walked b h r m (walk.Walked blocks end) list list' → (n ≡ 0) × (said' ≡ over (blocks ∷ end ∷ []) said) → WalkDone (walkEntry b header ranges m list said) n list list' said said'
   unfolding walkEntry walkList
   walk-done {h} {r} {blocks} {end} {n} {list'} {said'} t e f w (z, q) =
-      let (c, g, k) = counts-ok (walkSays b h r m (length list)) _ (w .says) in
+      let (c, g, k) = bind-counts (walkSays b h r m (length list)) _ (sym (w .says)) in
       let x : blocks ≡ blockCount (shapeOf h) = ap (λ (v : Walk). v .blocks) k in
       let y : end ≡ c .end = ap (λ (v : Walk). v .end) k in
       let s : said' ≡ over (blockCount (shapeOf h) ∷ c .end ∷ []) said = q ∙ ap (λ (v : Walk). over (v .blocks ∷ v .end ∷ []) said) k in
@@ -235,14 +226,14 @@ module _ (b header ranges m list : List ℕ) (i : ℕ) (image said : List ℕ) w
       → Filled b h r m list i (fill.Refused why) image image' → n ≡ why .number → FillDone (fillEntry b header ranges m list i image said) m i n image image' said said
   unfolding fillEntry fillImage
   fill-no {h} {r} {why} {n} {image'} t e f w d =
-      let g = counts-no (fillSays b h r m list i (length image)) _ (w .says) in
+      let g = bind-fail (fillSays b h r m list i (length image)) _ (sym (w .says)) in
       rw (t, e, f, g) (record { number = d; image = rw (g) at (w .image); said = refl })
 
   pub fill-done : {h : Header} {r : Ranges} {words : ℕ} {image' said' : List ℕ} → fillHasRoom ≡ true → headerFrom header ≡ ok h → rangesFrom ranges ≡ ok r
       → Filled b h r m list i (fill.Filled words) image image' → said' ≡ set said 0 words → FillDone (fillEntry b header ranges m list i image said) m i 0 image image' said said'
   unfolding fillEntry fillImage
   fill-done {h} {r} {words} {image'} {said'} t e f w q =
-      let (k, g, c) = counts-ok (fillSays b h r m list i (length image)) _ (w .says) in
+      let (k, g, c) = bind-counts (fillSays b h r m list i (length image)) _ (sym (w .says)) in
       let l : 1 ≤ length said = long 1 header ranges said t .said-fits in
       let s : said' ≡ over (tileValid (shapeOf h) m (tileOf (shapeOf h) i) ∷ []) said = q ∙ first-put said words l ∙ ap (λ (v : ℕ). over (v ∷ []) said) c in
       rw (t, e, f, g) (record { number = refl; image = rw (g) at (w .image); said = s })

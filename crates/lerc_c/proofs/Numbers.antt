@@ -24,7 +24,7 @@ use Rattle.lerc_mask.proofs.Runs.{coded-six}
 use Rattle.lerc_planes.specs.declared.Ranges.{Ranges}
 use Rattle.lerc_planes.specs.Validity.{bytesOf, uniform, kept, unrolled, maskSays, prepareSays}
 use Rattle.lerc_planes.specs.Ranges.{rangesEnd, pairsRight, codedRanges, rangesSays, readRangesSays, constantWords}
-use Rattle.lerc_block.specs.Block.{rawWords, levelBlock, stepValue, steppedBlock, offsetBlock, formed, blockSays}
+use Rattle.lerc_block.specs.Block.{rawWords, levelBlock, stepValue, steppedBlock, offsetAt, finiteOffset, offsetBlock, formed, flagAt, blockSays}
 use Rattle.lerc_image.specs.Geometry.{tileOf, tileValid}
 use Rattle.lerc_image.specs.Sweep.{Way, rawFrom, blocksFrom, hasModeByte, modeAt, moded, swept}
 use Rattle.lerc_image.specs.Blocks.{blockAt, chain, allBlocks}
@@ -136,23 +136,32 @@ stepped-n s at kind error top offset n =
     (λ _. andThen (each (λ q. stored kind (stepValue error top offset q)) (c .values))
     (each-n (λ q. stored kind (stepValue error top offset q)) (c .values) (λ q. stored-n kind (stepValue error top offset q))) (λ words. accepted _)))
 
+finite-n : (s : List ℕ) (at kind flag : ℕ) → Numbered (finiteOffset s at kind flag)
+unfolding finiteOffset offsetAt
+finite-n s at kind flag =
+    andThen (offsetAt s at kind flag)
+    (andThen (offsetKind kind (flag / 64)) (offset-n kind (flag / 64)) (λ k. andThen (sampleAt k s at) (sample-n k s at) (λ v. accepted _)))
+    (λ o. check (finite (o .value)) 8 refl (λ _. accepted o))
+
 offsets-n : (s : List ℕ) (at kind error top flag n : ℕ) → Numbered (offsetBlock s at kind error top flag n)
 unfolding offsetBlock
 offsets-n s at kind error top flag n =
-    andThen (offsetKind kind (flag / 64)) (offset-n kind (flag / 64)) (λ k.
-    andThen (sampleAt k s at) (sample-n k s at) (λ offset.
-    check (finite offset) 8 refl
-    (λ _. either (eqb (flag % 4) 3) (level-n (at + typeSize k) kind offset n) (stepped-n s (at + typeSize k) kind error top offset n))))
+    andThen (finiteOffset s at kind flag) (finite-n s at kind flag)
+    (λ o. either (eqb (flag % 4) 3) (level-n (o .next) kind (o .value) n) (stepped-n s (o .next) kind error top (o .value) n))
 
 formed-n : (s : List ℕ) (at kind error top flag n : ℕ) → Numbered (formed s at kind error top flag n)
 unfolding formed
 formed-n s at kind error top flag n =
     either (eqb (flag % 4) 0) (raw-n s at kind n) (either (eqb (flag % 4) 2) (accepted _) (offsets-n s at kind error top flag n))
 
+flag-n : (s : List ℕ) (at x : ℕ) → Numbered (flagAt s at x)
+unfolding flagAt
+flag-n s at x = andThen (wordAt 1 s at) (word-n 1 s at) (λ flag. check (eqb (flag / 4 % 16) (x / 8 % 16)) 8 refl (λ _. accepted flag))
+
 block-n : (s : List ℕ) (at kind error top x n : ℕ) → Numbered (blockSays s at kind error top x n)
 unfolding blockSays
 block-n s at kind error top x n =
-    andThen (wordAt 1 s at) (word-n 1 s at) (λ flag. check (eqb (flag / 4 % 16) (x / 8 % 16)) 8 refl (λ _. formed-n s (at + 1) kind error top flag n))
+    andThen (flagAt s at x) (flag-n s at x) (λ flag. formed-n s (at + 1) kind error top flag n)
 
 blockAt-n : (s : List ℕ) (h : Header) (maxima m : List ℕ) (n at : ℕ) → Numbered (blockAt s h maxima m n at)
 unfolding blockAt

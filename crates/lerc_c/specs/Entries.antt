@@ -3,11 +3,11 @@
 -- Assumes nothing.
 use Prim.Native.Nat.{ℕ}
 use mathlib.Core.Path.{_≡_}
-use mathlib.Core.Bool.{Bool, true, false, _&&_}
+use mathlib.Core.Bool.{Bool, _&&_}
 use mathlib.Core.List.{List, [], _∷_, _++_}
 use lib.ListN.{length}
 use lib.Dec.{leb}
-use Rattle.lerc_words.specs.Res.{Res, ok, fail, _>>=_, require, after}
+use Rattle.lerc_words.specs.Res.{Res, ok, _>>=_, require, after}
 use Rattle.lerc_words.specs.Lists.{over}
 use Rattle.lerc_samples.specs.Samples.{stored}
 use Rattle.lerc_header.specs.declared.Header.{Header}

@@ -1,9 +1,9 @@
 -- The records of the C interface: arrays of 64-bit numbers that stand for a header, for ranges or for what an entry says.
 -- Assumes nothing.
 use Prim.Native.Nat.{ℕ, _^_}
-use mathlib.Core.Bool.{Bool, true, false, cond, _&&_}
+use mathlib.Core.Bool.{Bool, cond, _&&_}
 use mathlib.Core.List.{List, [], _∷_, _++_}
-use lib.ListN.{length, getD, take, drop}
+use lib.ListN.{getD, take, drop}
 use lib.Dec.{ltb, eqb}
 use Rattle.lerc_words.specs.Res.{Res, ok, fail, _>>=_, require}
 use Rattle.lerc_header.specs.declared.Header.{Header}

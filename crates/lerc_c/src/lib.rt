@@ -159,10 +159,11 @@ pub extern "C" fn lerc2_walk(
     };
     let r = got.ranges;
     let answer = lerc_image::walk(blob, h, r, mask, &mut list[..]);
-    match answer {
-        WalkAnswer::Walked { blocks, end } => records::say(blocks, end, &mut said[..]),
-        WalkAnswer::Refused(why) => why.number,
-    }
+    let WalkAnswer::Walked { blocks, end } = answer else {
+        let why = answer.refusal();
+        return why.number;
+    };
+    records::say(blocks, end, &mut said[..])
 }
 
 // One block by its number: `said` is the count of words written.

@@ -17,16 +17,9 @@ returns c =
     let a = c .before .before .before .before .before .before .before .before .args in fill-short (now (a .blob)) (now (a .header)) (now (a .ranges)) (now (a .mask)) (now (a .list)) (a .number) (now (a .image)) (now (a .said)) (not-true _ (c .if1 .taken))
 
 header-from-requires : tie.Need-header-from-requires
-header-from-requires c κs = let a = c .before .before .before .before .before .before .before .before .args in long 1 (now (a .header)) (now (a .ranges)) (now (a .said)) (not-false _ (c .if1 .left)) .header-fits
-
-enum-known-found : tie.Need-enum-known-found
-enum-known-found c = search needs
-
-enum-told : tie.Need-enum-told
-enum-told c = search needs
-
-refusal-requires : tie.Need-refusal-requires
-refusal-requires c κs = search needs
+header-from-requires c κs =
+    let a = c .before .before .before .before .before .before .before .before .args in
+    long 1 (now (a .header)) (now (a .ranges)) (now (a .said)) (not-false _ (c .if1 .left)) .header-fits
 
 returns-2 : tie.Need-returns-2
 returns-2 c =
@@ -34,37 +27,15 @@ returns-2 c =
     fill-wide (now (a .blob)) (now (a .header)) (now (a .ranges)) (now (a .mask)) (now (a .list)) (a .number) (now (a .image)) (now (a .said)) (not-false _ (c .before .before .before .before .if1 .left)) (sym (c .before .before .before .header-from .ensures) ∙ ap headerSaid told) (ap (λ (w : Refusal). w .number) (c .refusal .ensures ∙ ap headerRefused told))
 
 ranges-from-requires : tie.Need-ranges-from-requires
-ranges-from-requires c κs = let a = c .before .before .before .before .before .before .before .before .before .before .before .before .args in long 1 (now (a .header)) (now (a .ranges)) (now (a .said)) (not-false _ (c .before .before .before .before .if1 .left)) .ranges-fit
-
-enum-told-2 : tie.Need-enum-told-2
-enum-told-2 c = search needs
-
-enum-told-3 : tie.Need-enum-told-3
-enum-told-3 c = search needs
-
-refusal-requires-2 : tie.Need-refusal-requires-2
-refusal-requires-2 c κs = search needs
+ranges-from-requires c κs =
+    let a = c .before .before .before .before .before .before .before .before .before .before .before .before .args in
+    long 1 (now (a .header)) (now (a .ranges)) (now (a .said)) (not-false _ (c .before .before .before .before .if1 .left)) .ranges-fit
 
 returns-3 : tie.Need-returns-3
 returns-3 c =
     let a = c .before .before .before .before .before .before .before .before .before .before .before .before .before .before .before .before .args in let told = c .before .enum-told3 .given .1 in
     fill-mark (now (a .blob)) (now (a .header)) (now (a .ranges)) (now (a .mask)) (now (a .list)) (a .number) (now (a .image)) (now (a .said)) (not-false _ (c .before .before .before .before .before .before .before .before .if1 .left)) (sym (c .before .before .before .before .before .before .before .header-from .ensures) ∙ ap headerSaid (c .before .before .before .before .before .found .given .1))
     (ranges-refused _ (c .before .before .before .ranges-from .ensures) told) (ap (λ (w : Refusal). w .number) (c .refusal2 .ensures ∙ ap rangesRefused told))
-
-fill-requires : tie.Need-fill-requires
-fill-requires c κs = search needs
-
-enum-known-answer : tie.Need-enum-known-answer
-enum-known-answer c = search needs
-
-enum-told-4 : tie.Need-enum-told-4
-enum-told-4 c = search needs
-
-refusal-requires-3 : tie.Need-refusal-requires-3
-refusal-requires-3 c κs = search needs
-
-same-length : tie.Need-same-length
-same-length c = search needs
 
 returns-4 : tie.Need-returns-4
 returns-4 c =
@@ -73,13 +44,9 @@ returns-4 c =
     (ranges-read _ (c .before .before .before .before .before .before .before .before .before .before .ranges-from .ensures) (c .before .before .before .before .before .before .before .before .enum-told2 .given .1)) (rw (told) at (c .before .before .before .before .before .fill .ensures)) (ap (λ (w : Refusal). w .number) (c .refusal3 .ensures ∙ ap fillRefused told))
 
 slice-write-said : tie.Need-slice-write-said
-slice-write-said c = let a = c .before .before .before .before .before .before .before .before .before .before .before .before .before .before .before .before .before .before .before .before .before .before .before .args in long 1 (now (a .header)) (now (a .ranges)) (now (a .said)) (not-false _ (c .before .before .before .before .before .before .before .before .before .before .before .before .before .before .before .if1 .left)) .said-fits
-
-same-length-2 : tie.Need-same-length-2
-same-length-2 c = search needs
-
-same-length-3 : tie.Need-same-length-3
-same-length-3 c = search needs
+slice-write-said c =
+    let a = c .before .before .before .before .before .before .before .before .before .before .before .before .before .before .before .before .before .before .before .before .before .before .before .args in
+    long 1 (now (a .header)) (now (a .ranges)) (now (a .said)) (not-false _ (c .before .before .before .before .before .before .before .before .before .before .before .before .before .before .before .if1 .left)) .said-fits
 
 returns-5 : tie.Need-returns-5
 returns-5 c =
@@ -93,22 +60,22 @@ lerc2-fill-spec =
     (tie.spec
     returns
     header-from-requires
-    enum-known-found
-    enum-told
-    refusal-requires
+    (λ c. search needs)
+    (λ c. search needs)
+    (λ c κs. search needs)
     returns-2
     ranges-from-requires
-    enum-told-2
-    enum-told-3
-    refusal-requires-2
+    (λ c. search needs)
+    (λ c. search needs)
+    (λ c κs. search needs)
     returns-3
-    fill-requires
-    enum-known-answer
-    enum-told-4
-    refusal-requires-3
-    same-length
+    (λ c κs. search needs)
+    (λ c. search needs)
+    (λ c. search needs)
+    (λ c κs. search needs)
+    (λ c. search needs)
     returns-4
     slice-write-said
-    same-length-2
-    same-length-3
+    (λ c. search needs)
+    (λ c. search needs)
     returns-5)

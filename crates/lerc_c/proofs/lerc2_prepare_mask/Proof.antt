@@ -14,45 +14,24 @@ returns c =
     let a = c .before .before .before .before .before .before .args in prepare-short (now (a .blob)) (now (a .header)) (a .reuse) (now (a .kept)) (now (a .spare)) (now (a .said)) (not-true _ (c .if1 .taken))
 
 header-from-requires : tie.Need-header-from-requires
-header-from-requires c κs = let a = c .before .before .before .before .before .before .args in both-long 11 2 (now (a .header)) (now (a .said)) (not-false _ (c .if1 .left)) .0
-
-enum-known-found : tie.Need-enum-known-found
-enum-known-found c = search needs
-
-enum-told : tie.Need-enum-told
-enum-told c = search needs
-
-refusal-requires : tie.Need-refusal-requires
-refusal-requires c κs = search needs
+header-from-requires c κs =
+    let a = c .before .before .before .before .before .before .args in
+    both-long 11 2 (now (a .header)) (now (a .said)) (not-false _ (c .if1 .left)) .0
 
 returns-2 : tie.Need-returns-2
 returns-2 c =
     let a = c .before .before .before .before .before .before .before .before .before .before .args in let told = c .before .enum-told .given .1 in
     prepare-wide (now (a .blob)) (now (a .header)) (a .reuse) (now (a .kept)) (now (a .spare)) (now (a .said)) (not-false _ (c .before .before .before .before .if1 .left)) (sym (c .before .before .before .header-from .ensures) ∙ ap headerSaid told) (ap (λ (w : Refusal). w .number) (c .refusal .ensures ∙ ap headerRefused told))
 
-prepare-mask-requires : tie.Need-prepare-mask-requires
-prepare-mask-requires c κs = search needs
-
-enum-known-answer : tie.Need-enum-known-answer
-enum-known-answer c = search needs
-
 say-requires : tie.Need-say-requires
-say-requires c κs = let a = c .before .before .before .before .before .before .before .before .before .before .before .before .before .before .before .before .before .before .args in both-long 11 2 (now (a .header)) (now (a .said)) (not-false _ (c .before .before .before .before .before .before .before .before .before .before .before .before .if1 .left)) .1
-
-enum-known-answer-2 : tie.Need-enum-known-answer-2
-enum-known-answer-2 c = search needs
+say-requires c κs =
+    let a = c .before .before .before .before .before .before .before .before .before .before .before .before .before .before .before .before .before .before .args in
+    both-long 11 2 (now (a .header)) (now (a .said)) (not-false _ (c .before .before .before .before .before .before .before .before .before .before .before .before .if1 .left)) .1
 
 say-requires-2 : tie.Need-say-requires-2
-say-requires-2 c κs = let a = c .before .before .before .before .before .before .before .before .before .before .before .before .before .before .before .before .before .before .args in both-long 11 2 (now (a .header)) (now (a .said)) (not-false _ (c .before .before .before .before .before .before .before .before .before .before .before .before .if1 .left)) .1
-
-enum-known-answer-3 : tie.Need-enum-known-answer-3
-enum-known-answer-3 c = search needs
-
-same-length : tie.Need-same-length
-same-length c = search needs
-
-same-length-2 : tie.Need-same-length-2
-same-length-2 c = search needs
+say-requires-2 c κs =
+    let a = c .before .before .before .before .before .before .before .before .before .before .before .before .before .before .before .before .before .before .args in
+    both-long 11 2 (now (a .header)) (now (a .said)) (not-false _ (c .before .before .before .before .before .before .before .before .before .before .before .before .if1 .left)) .1
 
 returns-3 : tie.Need-returns-3
 returns-3 c =
@@ -60,20 +39,11 @@ returns-3 c =
     prepare-is (now (a .blob)) (now (a .header)) (a .reuse) (now (a .kept)) (now (a .spare)) (now (a .said)) (not-false _ (c .before .before .before .before .before .before .before .before .before .before .before .before .before .before .before .if1 .left)) (sym (c .before .before .before .before .before .before .before .before .before .before .before .before .before .before .header-from .ensures) ∙ ap headerSaid (c .before .before .before .before .before .before .before .before .before .before .before .before .found .given .1))
     (told-kept (now (a .said)) _ (rw (c .before .before .before .before .before .answer .given .1) at (c .before .before .before .before .before .before .before .before .before .prepare-mask .ensures)) (c .before .before .say .ensures))
 
-same-length-3 : tie.Need-same-length-3
-same-length-3 c = search needs
-
-same-length-4 : tie.Need-same-length-4
-same-length-4 c = search needs
-
 returns-4 : tie.Need-returns-4
 returns-4 c =
     let a = c .before .before .before .before .before .before .before .before .before .before .before .before .before .before .before .before .before .before .before .before .before .args in
     prepare-is (now (a .blob)) (now (a .header)) (a .reuse) (now (a .kept)) (now (a .spare)) (now (a .said)) (not-false _ (c .before .before .before .before .before .before .before .before .before .before .before .before .before .before .before .if1 .left)) (sym (c .before .before .before .before .before .before .before .before .before .before .before .before .before .before .header-from .ensures) ∙ ap headerSaid (c .before .before .before .before .before .before .before .before .before .before .before .before .found .given .1))
     (told-spare (now (a .said)) _ (rw (c .before .before .before .before .before .answer2 .given .1) at (c .before .before .before .before .before .before .before .before .before .prepare-mask .ensures)) (c .before .before .say2 .ensures))
-
-same-length-5 : tie.Need-same-length-5
-same-length-5 c = search needs
 
 returns-5 : tie.Need-returns-5
 returns-5 c =
@@ -87,21 +57,21 @@ lerc2-prepare-mask-spec =
     (tie.spec
     returns
     header-from-requires
-    enum-known-found
-    enum-told
-    refusal-requires
+    (λ c. search needs)
+    (λ c. search needs)
+    (λ c κs. search needs)
     returns-2
-    prepare-mask-requires
-    enum-known-answer
+    (λ c κs. search needs)
+    (λ c. search needs)
     say-requires
-    enum-known-answer-2
+    (λ c. search needs)
     say-requires-2
-    enum-known-answer-3
-    same-length
-    same-length-2
+    (λ c. search needs)
+    (λ c. search needs)
+    (λ c. search needs)
     returns-3
-    same-length-3
-    same-length-4
+    (λ c. search needs)
+    (λ c. search needs)
     returns-4
-    same-length-5
+    (λ c. search needs)
     returns-5)

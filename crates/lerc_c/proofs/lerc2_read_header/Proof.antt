@@ -10,29 +10,11 @@ use Rattle.lerc_c.proofs.lerc2_read_header.Tie as tie
 returns : tie.Need-returns
 returns c = header-short (now (c .before .before .before .args .blob)) _ (c .if1 .taken)
 
-read-header-requires : tie.Need-read-header-requires
-read-header-requires c κs = search needs
-
-enum-known-found : tie.Need-enum-known-found
-enum-known-found c = search needs
-
-enum-told : tie.Need-enum-told
-enum-told c = search needs
-
-refusal-requires : tie.Need-refusal-requires
-refusal-requires c κs = search needs
-
 returns-2 : tie.Need-returns-2
 returns-2 c =
     let a = c .before .before .before .before .before .before .before .args in
     let told = c .before .enum-told .given .1 in
     header-no (now (a .blob)) (now (a .header)) (c .before .before .before .before .if1 .left) (sym (c .before .before .before .read-header .ensures) ∙ ap headerSaid told) (ap (λ (w : Refusal). w .number) (c .refusal .ensures ∙ ap headerRefused told))
-
-put-header-requires : tie.Need-put-header-requires
-put-header-requires c κs = search needs
-
-same-length : tie.Need-same-length
-same-length c = search needs
 
 returns-3 : tie.Need-returns-3
 returns-3 c =
@@ -44,11 +26,11 @@ lerc2-read-header-spec =
     tie.close
     (tie.spec
     returns
-    read-header-requires
-    enum-known-found
-    enum-told
-    refusal-requires
+    (λ c κs. search needs)
+    (λ c. search needs)
+    (λ c. search needs)
+    (λ c κs. search needs)
     returns-2
-    put-header-requires
-    same-length
+    (λ c κs. search needs)
+    (λ c. search needs)
     returns-3)

@@ -16,33 +16,14 @@ returns c =
     let a = c .before .before .before .before .args in ranges-short (now (a .blob)) (now (a .header)) (now (a .ranges)) (not-true _ (c .if1 .taken))
 
 header-from-requires : tie.Need-header-from-requires
-header-from-requires c κs = let a = c .before .before .before .before .args in both-long 11 130 (now (a .header)) (now (a .ranges)) (not-false _ (c .if1 .left)) .0
-
-enum-known-found : tie.Need-enum-known-found
-enum-known-found c = search needs
-
-enum-told : tie.Need-enum-told
-enum-told c = search needs
-
-refusal-requires : tie.Need-refusal-requires
-refusal-requires c κs = search needs
+header-from-requires c κs =
+    let a = c .before .before .before .before .args in
+    both-long 11 130 (now (a .header)) (now (a .ranges)) (not-false _ (c .if1 .left)) .0
 
 returns-2 : tie.Need-returns-2
 returns-2 c =
     let a = c .before .before .before .before .before .before .before .before .args in let told = c .before .enum-told .given .1 in
     ranges-wide (now (a .blob)) (now (a .header)) (now (a .ranges)) (not-false _ (c .before .before .before .before .if1 .left)) (sym (c .before .before .before .header-from .ensures) ∙ ap headerSaid told) (ap (λ (w : Refusal). w .number) (c .refusal .ensures ∙ ap headerRefused told))
-
-read-ranges-requires : tie.Need-read-ranges-requires
-read-ranges-requires c κs = search needs
-
-enum-told-2 : tie.Need-enum-told-2
-enum-told-2 c = search needs
-
-enum-told-3 : tie.Need-enum-told-3
-enum-told-3 c = search needs
-
-refusal-requires-2 : tie.Need-refusal-requires-2
-refusal-requires-2 c κs = search needs
 
 returns-3 : tie.Need-returns-3
 returns-3 c =
@@ -51,10 +32,9 @@ returns-3 c =
     (ranges-refused _ (c .before .before .before .read-ranges .ensures) told) (ap (λ (w : Refusal). w .number) (c .refusal2 .ensures ∙ ap rangesRefused told))
 
 put-ranges-requires : tie.Need-put-ranges-requires
-put-ranges-requires c κs = let a = c .before .before .before .before .before .before .before .before .before .before .before .before .before .args in both-long 11 130 (now (a .header)) (now (a .ranges)) (not-false _ (c .before .before .before .before .before .before .before .before .before .if1 .left)) .1
-
-same-length : tie.Need-same-length
-same-length c = search needs
+put-ranges-requires c κs =
+    let a = c .before .before .before .before .before .before .before .before .before .before .before .before .before .args in
+    both-long 11 130 (now (a .header)) (now (a .ranges)) (not-false _ (c .before .before .before .before .before .before .before .before .before .if1 .left)) .1
 
 returns-4 : tie.Need-returns-4
 returns-4 c =
@@ -68,15 +48,15 @@ lerc2-read-ranges-spec =
     (tie.spec
     returns
     header-from-requires
-    enum-known-found
-    enum-told
-    refusal-requires
+    (λ c. search needs)
+    (λ c. search needs)
+    (λ c κs. search needs)
     returns-2
-    read-ranges-requires
-    enum-told-2
-    enum-told-3
-    refusal-requires-2
+    (λ c κs. search needs)
+    (λ c. search needs)
+    (λ c. search needs)
+    (λ c κs. search needs)
     returns-3
     put-ranges-requires
-    same-length
+    (λ c. search needs)
     returns-4)

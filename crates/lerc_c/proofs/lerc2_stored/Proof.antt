@@ -11,28 +11,10 @@ returns : tie.Need-returns
 returns c =
     let a = c .before .before .args in stored-short (a .kind) (a .v) (now (a .said)) (c .if1 .taken)
 
-stored-requires : tie.Need-stored-requires
-stored-requires c κs = search needs
-
-enum-known-answer : tie.Need-enum-known-answer
-enum-known-answer c = search needs
-
-enum-told : tie.Need-enum-told
-enum-told c = search needs
-
-refusal-requires : tie.Need-refusal-requires
-refusal-requires c κs = search needs
-
 returns-2 : tie.Need-returns-2
 returns-2 c =
     let a = c .before .before .before .before .before .before .args in let told = c .before .enum-told .given .1 in
     stored-no (a .kind) (a .v) (now (a .said)) (c .before .before .before .before .if1 .left) (sym (c .before .before .before .stored .ensures) ∙ ap storedSaid told) (ap (λ (w : Refusal). w .number) (c .refusal .ensures ∙ ap storedRefused told))
-
-slice-write-said : tie.Need-slice-write-said
-slice-write-said c = search needs
-
-same-length : tie.Need-same-length
-same-length c = search needs
 
 returns-3 : tie.Need-returns-3
 returns-3 c =
@@ -43,11 +25,11 @@ lerc2-stored-spec =
     tie.close
     (tie.spec
     returns
-    stored-requires
-    enum-known-answer
-    enum-told
-    refusal-requires
+    (λ c κs. search needs)
+    (λ c. search needs)
+    (λ c. search needs)
+    (λ c κs. search needs)
     returns-2
-    slice-write-said
-    same-length
+    (λ c. search needs)
+    (λ c. search needs)
     returns-3)

@@ -6,6 +6,7 @@ use borrow.Author.Tests.{not-true, not-false}
 use denote.Ref.{now}
 use mathlib.Core.Path.{_∙_, sym, ap}
 use Rattle.lerc_planes.specs.Ranges.{rangesRefused}
+use Rattle.lerc_image.specs.Walk.{walkRefused}
 use Rattle.lerc.proofs.Whole.{ranges-read, ranges-refused}
 use borrow.Author.Needs.{needs}
 use Rattle.lerc_c.proofs.lerc2_walk.Statement.{statement}
@@ -16,16 +17,9 @@ returns c =
     let a = c .before .before .before .before .before .before .before .args in walk-short (now (a .blob)) (now (a .header)) (now (a .ranges)) (now (a .mask)) (now (a .list)) (now (a .said)) (not-true _ (c .if1 .taken))
 
 header-from-requires : tie.Need-header-from-requires
-header-from-requires c κs = let a = c .before .before .before .before .before .before .before .args in long 2 (now (a .header)) (now (a .ranges)) (now (a .said)) (not-false _ (c .if1 .left)) .header-fits
-
-enum-known-found : tie.Need-enum-known-found
-enum-known-found c = search needs
-
-enum-told : tie.Need-enum-told
-enum-told c = search needs
-
-refusal-requires : tie.Need-refusal-requires
-refusal-requires c κs = search needs
+header-from-requires c κs =
+    let a = c .before .before .before .before .before .before .before .args in
+    long 2 (now (a .header)) (now (a .ranges)) (now (a .said)) (not-false _ (c .if1 .left)) .header-fits
 
 returns-2 : tie.Need-returns-2
 returns-2 c =
@@ -33,16 +27,9 @@ returns-2 c =
     walk-wide (now (a .blob)) (now (a .header)) (now (a .ranges)) (now (a .mask)) (now (a .list)) (now (a .said)) (not-false _ (c .before .before .before .before .if1 .left)) (sym (c .before .before .before .header-from .ensures) ∙ ap headerSaid told) (ap (λ (w : Refusal). w .number) (c .refusal .ensures ∙ ap headerRefused told))
 
 ranges-from-requires : tie.Need-ranges-from-requires
-ranges-from-requires c κs = let a = c .before .before .before .before .before .before .before .before .before .before .before .args in long 2 (now (a .header)) (now (a .ranges)) (now (a .said)) (not-false _ (c .before .before .before .before .if1 .left)) .ranges-fit
-
-enum-told-2 : tie.Need-enum-told-2
-enum-told-2 c = search needs
-
-enum-told-3 : tie.Need-enum-told-3
-enum-told-3 c = search needs
-
-refusal-requires-2 : tie.Need-refusal-requires-2
-refusal-requires-2 c κs = search needs
+ranges-from-requires c κs =
+    let a = c .before .before .before .before .before .before .before .before .before .before .before .args in
+    long 2 (now (a .header)) (now (a .ranges)) (now (a .said)) (not-false _ (c .before .before .before .before .if1 .left)) .ranges-fit
 
 returns-3 : tie.Need-returns-3
 returns-3 c =
@@ -50,38 +37,26 @@ returns-3 c =
     walk-mark (now (a .blob)) (now (a .header)) (now (a .ranges)) (now (a .mask)) (now (a .list)) (now (a .said)) (not-false _ (c .before .before .before .before .before .before .before .before .if1 .left)) (sym (c .before .before .before .before .before .before .before .header-from .ensures) ∙ ap headerSaid (c .before .before .before .before .before .found .given .1))
     (ranges-refused _ (c .before .before .before .ranges-from .ensures) told) (ap (λ (w : Refusal). w .number) (c .refusal2 .ensures ∙ ap rangesRefused told))
 
-walk-requires : tie.Need-walk-requires
-walk-requires c κs = search needs
-
-enum-known-answer : tie.Need-enum-known-answer
-enum-known-answer c = search needs
-
-say-requires : tie.Need-say-requires
-say-requires c κs = let a = c .before .before .before .before .before .before .before .before .before .before .before .before .before .before .before .before .before .before .before .before .before .before .before .args in long 2 (now (a .header)) (now (a .ranges)) (now (a .said)) (not-false _ (c .before .before .before .before .before .before .before .before .before .before .before .before .before .before .before .before .if1 .left)) .said-fits
-
-enum-known-answer-2 : tie.Need-enum-known-answer-2
-enum-known-answer-2 c = search needs
-
-same-length : tie.Need-same-length
-same-length c = search needs
-
-same-length-2 : tie.Need-same-length-2
-same-length-2 c = search needs
-
 returns-4 : tie.Need-returns-4
 returns-4 c =
-    let a = c .before .before .before .before .before .before .before .before .before .before .before .before .before .before .before .before .before .before .before .before .before .before .before .before .before .before .args in
-    walk-done (now (a .blob)) (now (a .header)) (now (a .ranges)) (now (a .mask)) (now (a .list)) (now (a .said)) (not-false _ (c .before .before .before .before .before .before .before .before .before .before .before .before .before .before .before .before .before .before .before .if1 .left)) (sym (c .before .before .before .before .before .before .before .before .before .before .before .before .before .before .before .before .before .before .header-from .ensures) ∙ ap headerSaid (c .before .before .before .before .before .before .before .before .before .before .before .before .before .before .before .before .found .given .1))
-    (ranges-read _ (c .before .before .before .before .before .before .before .before .before .before .before .before .before .before .ranges-from .ensures) (c .before .before .before .before .before .before .before .before .before .before .before .before .enum-told2 .given .1)) (rw (c .before .before .before .before .before .answer .given .1) at (c .before .before .before .before .before .before .before .before .before .walk .ensures)) (c .before .before .say .ensures)
+    let told = c .before .enum-told4 .given .1 in
+    let k = c .before .before .before .before .before in
+    let a = k .before .before .before .before .before .before .before .before .before .before .before .before .before .before .before .before .before .args in
+    rw (c .refusal3 .ensures ∙ ap walkRefused told) (walk-no (now (a .blob)) (now (a .header)) (now (a .ranges)) (now (a .mask)) (now (a .list)) (now (a .said)) (not-false _ (k .before .before .before .before .before .before .before .before .before .before .if1 .left)) (sym (k .before .before .before .before .before .before .before .before .before .header-from .ensures) ∙ ap headerSaid (k .before .before .before .before .before .before .before .found .given .1))
+    (ranges-read _ (k .before .before .before .before .before .ranges-from .ensures) (k .before .before .before .enum-told2 .given .1)) (rw (told) at (k .walk .ensures)))
 
-same-length-3 : tie.Need-same-length-3
-same-length-3 c = search needs
+say-requires : tie.Need-say-requires
+say-requires c κs =
+    let k = c .before .before .before .before .before .before in
+    let a = k .before .before .before .before .before .before .before .before .before .before .before .before .before .before .before .before .before .args in
+    long 2 (now (a .header)) (now (a .ranges)) (now (a .said)) (not-false _ (k .before .before .before .before .before .before .before .before .before .before .if1 .left)) .said-fits
 
 returns-5 : tie.Need-returns-5
 returns-5 c =
-    let a = c .before .before .before .before .before .before .before .before .before .before .before .before .before .before .before .before .before .before .before .before .before .before .args in
-    walk-no (now (a .blob)) (now (a .header)) (now (a .ranges)) (now (a .mask)) (now (a .list)) (now (a .said)) (not-false _ (c .before .before .before .before .before .before .before .before .before .before .before .before .before .before .before .if1 .left)) (sym (c .before .before .before .before .before .before .before .before .before .before .before .before .before .before .header-from .ensures) ∙ ap headerSaid (c .before .before .before .before .before .before .before .before .before .before .before .before .found .given .1))
-    (ranges-read _ (c .before .before .before .before .before .before .before .before .before .before .ranges-from .ensures) (c .before .before .before .before .before .before .before .before .enum-told2 .given .1)) (rw (c .before .answer2 .given .1) at (c .before .before .before .before .before .walk .ensures))
+    let k = c .before .before .before .before .before .before .before .before .before in
+    let a = k .before .before .before .before .before .before .before .before .before .before .before .before .before .before .before .before .before .args in
+    walk-done (now (a .blob)) (now (a .header)) (now (a .ranges)) (now (a .mask)) (now (a .list)) (now (a .said)) (not-false _ (k .before .before .before .before .before .before .before .before .before .before .if1 .left)) (sym (k .before .before .before .before .before .before .before .before .before .header-from .ensures) ∙ ap headerSaid (k .before .before .before .before .before .before .before .found .given .1))
+    (ranges-read _ (k .before .before .before .before .before .ranges-from .ensures) (k .before .before .before .enum-told2 .given .1)) (rw (c .before .before .before .before .before .answer .given .1) at (k .walk .ensures)) (c .before .before .say .ensures)
 
 pub lerc2-walk-spec : {M : Type 1} → statement M
 lerc2-walk-spec =
@@ -89,21 +64,22 @@ lerc2-walk-spec =
     (tie.spec
     returns
     header-from-requires
-    enum-known-found
-    enum-told
-    refusal-requires
+    (λ c. search needs)
+    (λ c. search needs)
+    (λ c κs. search needs)
     returns-2
     ranges-from-requires
-    enum-told-2
-    enum-told-3
-    refusal-requires-2
+    (λ c. search needs)
+    (λ c. search needs)
+    (λ c κs. search needs)
     returns-3
-    walk-requires
-    enum-known-answer
-    say-requires
-    enum-known-answer-2
-    same-length
-    same-length-2
+    (λ c κs. search needs)
+    (λ c. search needs)
+    (λ c. search needs)
+    (λ c κs. search needs)
+    (λ c. search needs)
     returns-4
-    same-length-3
+    say-requires
+    (λ c. search needs)
+    (λ c. search needs)
     returns-5)

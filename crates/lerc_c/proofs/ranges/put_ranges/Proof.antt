@@ -8,24 +8,6 @@ use borrow.Author.Needs.{needs}
 use Rattle.lerc_c.proofs.ranges.put_ranges.Statement.{statement}
 use Rattle.lerc_c.proofs.ranges.put_ranges.Tie as tie
 
-cast-t8 : tie.Need-cast-t8
-cast-t8 c = search needs
-
-slice-aggregate-put : tie.Need-slice-aggregate-put
-slice-aggregate-put c = search needs
-
-put-requires : tie.Need-put-requires
-put-requires c κs = search needs
-
-put-requires-2 : tie.Need-put-requires-2
-put-requires-2 c κs = search needs
-
-put-requires-3 : tie.Need-put-requires-3
-put-requires-3 c κs = search needs
-
-same-length : tie.Need-same-length
-same-length c = search needs
-
 as-number : (t : Bool) → boolByte t ≡ cond t 1 0
 as-number true = refl
 as-number false = refl
@@ -40,10 +22,10 @@ pub put-ranges-spec : {M : Type 1} → statement M
 put-ranges-spec =
     tie.close
     (tie.spec
-    cast-t8
-    slice-aggregate-put
-    put-requires
-    put-requires-2
-    put-requires-3
-    same-length
+    (λ c. search needs)
+    (λ c. search needs)
+    (λ c κs. search needs)
+    (λ c κs. search needs)
+    (λ c κs. search needs)
+    (λ c. search needs)
     returns)

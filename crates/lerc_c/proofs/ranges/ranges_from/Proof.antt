@@ -7,47 +7,8 @@ use borrow.Author.Needs.{needs}
 use Rattle.lerc_c.proofs.ranges.ranges_from.Statement.{statement}
 use Rattle.lerc_c.proofs.ranges.ranges_from.Tie as tie
 
-shared-slice-read-if1 : tie.Need-shared-slice-read-if1
-shared-slice-read-if1 c = search needs
-
 returns : tie.Need-returns
 returns c = mark-wrong (now (c .before .before .before .args .l)) (c .if1 .taken)
-
-sub-put : tie.Need-sub-put
-sub-put c = search needs
-
-part-put-start : tie.Need-part-put-start
-part-put-start c = search needs
-
-part-put-end : tie.Need-part-put-end
-part-put-end c = search needs
-
-slice-aggregate-put : tie.Need-slice-aggregate-put
-slice-aggregate-put c = search needs
-
-put-requires : tie.Need-put-requires
-put-requires c κs = search needs
-
-sub-put-2 : tie.Need-sub-put-2
-sub-put-2 c = search needs
-
-part-put-start-2 : tie.Need-part-put-start-2
-part-put-start-2 c = search needs
-
-part-put-end-2 : tie.Need-part-put-end-2
-part-put-end-2 c = search needs
-
-slice-aggregate-put-2 : tie.Need-slice-aggregate-put-2
-slice-aggregate-put-2 c = search needs
-
-put-requires-2 : tie.Need-put-requires-2
-put-requires-2 c κs = search needs
-
-shared-slice-read-t5 : tie.Need-shared-slice-read-t5
-shared-slice-read-t5 c = search needs
-
-shared-slice-read-t27 : tie.Need-shared-slice-read-t27
-shared-slice-read-t27 c = search needs
 
 returns-2 : tie.Need-returns-2
 returns-2 c =
@@ -58,18 +19,18 @@ pub ranges-from-spec : {M : Type 1} → statement M
 ranges-from-spec =
     tie.close
     (tie.spec
-    shared-slice-read-if1
+    (λ c. search needs)
     returns
-    sub-put
-    part-put-start
-    part-put-end
-    slice-aggregate-put
-    put-requires
-    sub-put-2
-    part-put-start-2
-    part-put-end-2
-    slice-aggregate-put-2
-    put-requires-2
-    shared-slice-read-t5
-    shared-slice-read-t27
+    (λ c. search needs)
+    (λ c. search needs)
+    (λ c. search needs)
+    (λ c. search needs)
+    (λ c κs. search needs)
+    (λ c. search needs)
+    (λ c. search needs)
+    (λ c. search needs)
+    (λ c. search needs)
+    (λ c κs. search needs)
+    (λ c. search needs)
+    (λ c. search needs)
     returns-2)
