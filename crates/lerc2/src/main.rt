@@ -1,6 +1,15 @@
 // One blob from standard input, its cells as text to standard output; a refusal is one line with its number.
-// No mask is reused.
-ghost use Prim.Native.Nat.{_≤_};
+// No mask is reused. `answer` makes the whole text; `main` reads what it is made from, and writes it.
+ghost use mathlib.Core.Path.{_≡_};
+ghost use mathlib.Core.Bool.{false};
+ghost use mathlib.Core.List.{[]};
+ghost use Prim.Native.Nat.{ℕ};
+ghost use Rattle.lerc_header.specs.Header.{shapeOf};
+ghost use Rattle.lerc_header.specs.Shape.{cells as Shape·cells};
+ghost use Rattle.lerc_text.specs.Text.{Put, validIn, wordIn};
+ghost use Rattle.lerc.specs.Meaning.{meaning};
+ghost use Rattle.lerc2.specs.Program.{imageText, refusalText, saidText, programText, Answered};
+ghost use Rattle.lerc2.specs.Parts.{Ready};
 use lerc::ReadAnswer;
 use lerc_header::Header;
 use lerc_header::HeaderAnswer;
@@ -17,89 +26,106 @@ const CELLS: usize = 4096;
 
 const MASK: usize = 512;
 
-fn text(s: &[u8]) {
-    io::write_all(STDOUT_FILENO, s);
+// the longest text is shorter: 31 bytes for a cell, and four lines more
+const TEXT: usize = 131072;
+
+fn refuse(why: Refusal, out: &mut [u8]) -> usize
+    ensures { λ r. ⌜ Put (now (out .entry)) 0 (refusalText why) r (now (out .exit)) ⌝ }
+{
+    lerc_text::put_line(&mut out[..], 0, b"refused ", why.number as u64)
 }
 
-fn print(label: &[u8], v: u64) {
-    text(label);
-    io::print_decimal(STDOUT_FILENO, v);
+fn put_image(
+    h: Header,
+    cells: usize,
+    blocks: usize,
+    end: usize,
+    mask: &[u8],
+    image: &[u64],
+    out: &mut [u8],
+) -> usize
+    requires { ⌜ cells ≡ Shape·cells (shapeOf h) ⌝ }
+    ensures { λ r. ⌜ Put (now (out .entry)) 0 (imageText h blocks end (validIn (h .depth) (now (mask .entry))) (wordIn (now (image .entry)))) r (now (out .exit)) ⌝ }
+{
+    let p = lerc_text::put_shape(&mut out[..], 0, h.columns, h.rows, h.depth, h.kind, h.valid);
+    let p = lerc_text::put_line(&mut out[..], p, b"blocks ", blocks as u64);
+    let p = lerc_text::put_cells(&mut out[..], p, cells, h.depth as usize, mask, image);
+    lerc_text::put_line(&mut out[..], p, b"end ", end as u64)
 }
 
-fn refused(why: Refusal) {
-    print(b"refused ", why.number as u64);
-    text(b"\n");
-}
-
-fn print_shape(h: Header) {
-    print(b"width ", h.columns as u64);
-    print(b" height ", h.rows as u64);
-    print(b" depth ", h.depth as u64);
-    print(b" kind ", h.kind as u64);
-    print(b" valid ", h.valid as u64);
-    text(b"\n");
-}
-
-// a cell's word, or a dash where its pixel is not valid
-fn print_cell(cell: usize, valid: bool, word: u64) {
-    print(b"cell ", cell as u64);
-    if valid {
-        print(b" ", word);
-    } else {
-        text(b" -");
-    }
-    text(b"\n");
-}
-
-// the pixel of a cell
-fn pixel_of(cell: usize, depth: usize) -> usize {
-    if depth == 0 { 0 } else { cell / depth }
-}
-
-fn print_cells(count: usize, depth: usize, mask: &[u8], image: &[u64; CELLS]) {
-    for cell in 0..CELLS {
-        if cell < count {
-            let valid = lerc_mask::is_valid(mask, pixel_of(cell, depth));
-            print_cell(cell, valid, image[cell]);
-        }
-    }
-}
-
-// everything between the two lines of a whole read
-fn print_image(h: Header, len: usize, blocks: usize, mask: &[u8], image: &[u64; CELLS]) {
-    let held = h.held(len);
-    let HeldAnswer::Held(e) = held else {
-        return refused(held.refusal());
+// a whole read into lent zeros
+fn decode(
+    blob: &[u8],
+    h: Header,
+    cells: usize,
+    kept: &mut [u8],
+    spare: &mut [u8],
+    list: &mut [usize],
+    image: &mut [u64],
+    out: &mut [u8],
+) -> usize
+    requires { ⌜ Ready (now blob) h cells (record { kept = now kept; spare = now spare; list = now list; image = now image }) ⌝ }
+    ensures { λ r. ⌜ Put (now (out .entry)) 0 (saidText (meaning (now (blob .entry)) false [])) r (now (out .exit)) ⌝ }
+{
+    let answer = lerc::read(
+        blob,
+        false,
+        &mut kept[..],
+        &mut spare[..],
+        &mut list[..],
+        &mut image[..],
+    );
+    let ReadAnswer::Whole { blocks, end } = answer else {
+        return refuse(answer.refusal(), &mut out[..]);
     };
-    print_shape(h);
-    print(b"blocks ", blocks as u64);
-    text(b"\n");
-    print_cells(e.cells, h.depth as usize, mask, image);
+    put_image(h, cells, blocks, end, &kept[..], &image[..], &mut out[..])
 }
 
-fn decode(blob: &[u8]) {
+// the text at the start of `out`, as much as there is room for
+fn put_answer(input: &[u8], out: &mut [u8]) -> usize
+    ensures { λ r. ⌜ Put (now (out .entry)) 0 (programText (now (input .entry))) r (now (out .exit)) ⌝ }
+{
+    if BYTES < input.len() {
+        return refuse(Refusal { number: 4 }, &mut out[..]);
+    }
+    let found = lerc_header::read_header(input);
+    let HeaderAnswer::Read(h) = found else {
+        return refuse(found.refusal(), &mut out[..]);
+    };
+    let held = h.held(input.len());
+    let HeldAnswer::Held(e) = held else {
+        return refuse(held.refusal(), &mut out[..]);
+    };
+    if CELLS < e.cells {
+        return refuse(Refusal { number: 5 }, &mut out[..]);
+    }
     let mut kept = [0u8; MASK];
     let mut spare = [0u8; MASK];
     let mut list = [0usize; CELLS];
     let mut image = [0u64; CELLS];
-    let answer = lerc::read(blob, false, &mut kept, &mut spare, &mut list, &mut image);
-    let ReadAnswer::Whole { blocks, end } = answer else {
-        return refused(answer.refusal());
-    };
-    let found = lerc_header::read_header(blob);
-    let HeaderAnswer::Read(h) = found else {
-        return refused(found.refusal());
-    };
-    print_image(h, blob.len(), blocks, &kept, &image);
-    print(b"end ", end as u64);
-    text(b"\n");
+    decode(
+        input,
+        h,
+        e.cells,
+        &mut kept,
+        &mut spare,
+        &mut list,
+        &mut image,
+        &mut out[..],
+    )
+}
+
+// The text that the rules give for an input: its first bytes and its length; every byte behind it is as it was.
+fn answer(input: &[u8], out: &mut [u8; TEXT]) -> usize
+    ensures { λ r. ⌜ Answered (now (input .entry)) (now (out .entry)) r (now (out .exit)) ⌝ }
+{
+    put_answer(input, &mut out[..])
 }
 
 fn main() {
     let mut blob = [0u8; BYTES + 1];
     let n = io::read_full(STDIN_FILENO, &mut blob);
-    if BYTES < n {
-        return refused(Refusal { number: 4 });
-    }
-    decode(&blob[..n]);
+    let mut out = [0u8; TEXT];
+    let r = answer(&blob[..n], &mut out);
+    io::write_all(STDOUT_FILENO, &out[..r]);
 }

@@ -1,0 +1,205 @@
+-- Laws of the program's text.
+-- Assumes nothing.
+use Prim.Native.Nat.{ℕ, zero, suc, _+_, _/_, _≤_, _<_}
+use mathlib.Core.Path.{_≡_, _∙_, sym, ap, refl}
+use mathlib.Core.Bool.{true, false}
+use mathlib.Core.List.{List, [], _∷_, _++_}
+use native.Mathlib.Decide.{decLe}
+use native.Mathlib.Nat.{le-trans}
+use native.Mathlib.Omega.{arith}
+use borrow.Author.Tests.{le-leb, lt-leb, lt-ltb, leb-true}
+use lib.ListN.{length, getD, take, drop, replicate, length-append, length-take, length-replicate}
+use lib.Dec.{leb}
+use lib.Seq.{getD-drop, take-all, length-take-le, take-append-seam}
+use Rattle.lerc_words.specs.declared.Refusal.{Refusal}
+use Rattle.lerc_words.specs.Res.{Res, ok, fail, _>>=_, refuse, require}
+use Rattle.lerc_words.specs.Lists.{over}
+use Rattle.lerc_words.proofs.Laws.{bind-is, require-is, ok-is, bind-counts, bind-fail}
+use Rattle.lerc_header.specs.declared.Header.{Header}
+use Rattle.lerc_header.specs.Header.{shapeOf, headerSays}
+use Rattle.lerc_header.specs.Shape.{cells, maskLength, blockCount, Shaped}
+use Rattle.lerc_header.proofs.Kept.{held-shaped, header-held}
+use Rattle.lerc_header.proofs.Sizes.{pixels-le, blocks-le}
+use Rattle.lerc_mask.specs.Mask.{pixelValid}
+use Rattle.lerc_planes.specs.Validity.{InForce, bytesOf, kept, maskSays}
+use Rattle.lerc_image.specs.Geometry.{isValidCell}
+use Rattle.lerc_image.proofs.Painting.{painted-cell}
+use Rattle.lerc.specs.declared.ReadAnswer.the-variants as answer
+use Rattle.lerc.specs.Meaning.{Meaning, meaning, meaningFrom, bodySays, startsOf, endOf, cellWord}
+use Rattle.lerc.specs.Read.{Lent, Masked, Whole, room, masked, readSays, published, readAfter, WholeRead}
+use Rattle.lerc_text.specs.Ascii.{ascii}
+use Rattle.lerc_text.specs.Text.{line, shapeLine, validIn, wordIn}
+use Rattle.lerc_text.proofs.Putting.{cells-same, cells-long, line-long, shape-long}
+use Rattle.lerc2.specs.Program.{bytesMost, cellsMost, programSays, imageText, refusalText, saidText, programText, Answered}
+use Rattle.lerc2.specs.Parts.{Ready}
+
+-- ---- what the program says
+
+module _ (b : List ℕ) where
+  pub long-says : bytesMost < length b → programSays b ≡ fail (refuse 4)
+  unfolding programSays
+  long-says l = rw (lt-leb (length b) bytesMost l)
+
+  pub header-says : {why : Refusal} → length b ≤ bytesMost → headerSays b ≡ fail why → programSays b ≡ fail why
+  unfolding programSays
+  header-says l e = rw (le-leb (length b) bytesMost l, e)
+
+  pub cells-say : {h : Header} → length b ≤ bytesMost → headerSays b ≡ ok h → cellsMost < cells (shapeOf h) → programSays b ≡ fail (refuse 5)
+  unfolding programSays
+  cells-say {h} l e m = rw (le-leb (length b) bytesMost l, e, lt-leb (cells (shapeOf h)) cellsMost m)
+
+  pub meaning-says : {h : Header} → length b ≤ bytesMost → headerSays b ≡ ok h → cells (shapeOf h) ≤ cellsMost → programSays b ≡ meaning b false []
+  unfolding programSays
+  meaning-says {h} l e m = rw (le-leb (length b) bytesMost l, e, le-leb (cells (shapeOf h)) cellsMost m)
+
+-- one byte more than the most is enough of an input to tell its text
+pub front-text : (b : List ℕ) → programText (take (suc bytesMost) b) ≡ programText b
+front-text b = go (decLe (length b) bytesMost)
+  where
+    go : Dec (length b ≤ bytesMost) → programText (take (suc bytesMost) b) ≡ programText b
+    go (yes h) = rw (take-all (suc bytesMost) b (omega arith))
+    go (no h) =
+        let l : bytesMost < length b = omega arith in
+        let k : bytesMost < length (take (suc bytesMost) b) = simp length-take (omega arith) in
+        rw (long-says b l, long-says (take (suc bytesMost) b) k)
+
+-- ---- a whole read into the program's slices
+
+-- no mask is reused: what was kept does not matter
+mask-unkept : (s : List ℕ) (h : Header) (old : List ℕ) → maskSays s h false old ≡ maskSays s h false []
+unfolding maskSays kept
+mask-unkept s h old = refl
+
+-- an answer is one of the two
+pub never-both : {A : Type 0} {x : Res A} {a : A} {r : Refusal} → x ≡ ok a → x ≡ fail r → ⊥
+never-both e f = let z : _≡_ {A = ℕ} 0 1 = cc in omega arith
+
+-- the meaning of a blob has its header
+meaning-header : (b : List ℕ) {h : Header} {m : Meaning} → headerSays b ≡ ok h → meaning b false [] ≡ ok m → m .header ≡ h
+unfolding meaning meaningFrom
+meaning-header b e p =
+    let (g, s, p) = bind-is (headerSays b) _ p in
+    let (f, _, p) = bind-is (maskSays (take (g .size) b) g false []) _ p in
+    let (y, _, p) = bind-is (bodySays (take (g .size) b) g (bytesOf f)) _ p in
+    ap (λ (x : Meaning). x .header) (sym (ok-is p)) ∙ ok-is (sym s ∙ e)
+
+-- zeros behind a list are as good as nothing
+zeros : (n i : ℕ) → _≡_ {A = ℕ} (getD (replicate n 0) i 0) 0
+zeros zero i = refl
+zeros (suc n) zero = refl
+zeros (suc n) (suc i) = zeros n i
+
+zeros-behind : (m : List ℕ) (k n i : ℕ) → getD (m ++ drop k (replicate n 0)) i 0 ≡ getD m i 0
+zeros-behind [] k n i = getD-drop k (replicate n 0) i 0 ∙ zeros n (k + i)
+zeros-behind (x ∷ m) k n zero = refl
+zeros-behind (x ∷ m) k n (suc i) = zeros-behind m k n i
+
+valid-behind : (m : List ℕ) (n p : ℕ) → pixelValid m p ≡ pixelValid (over m (replicate n 0)) p
+unfolding pixelValid
+valid-behind m n p = rw (zeros-behind m (length m) n (p / 8))
+
+-- the text by the meaning is the text by what the slices hold
+module _ (m : Meaning) (l : Lent) (n : ℕ) (z : l .kept ≡ replicate n 0) (few : cells (shapeOf (m .header)) ≤ length (l .image)) where
+  abbrev head : Header
+  head = m .header
+
+  abbrev mask : List ℕ
+  mask = bytesOf (m .mask)
+
+  word-left : (c : ℕ) → c < cells (shapeOf head) → pixelValid mask (c / head .depth) ≡ true → cellWord head mask (m .body) c ≡ getD (published m l .image) c 0
+  unfolding published isValidCell
+  word-left c h v =
+      let k : c < length (l .image) = omega arith in
+      sym (painted-cell (l .image) (cellWord head mask (m .body)) (isValidCell (shapeOf head) mask) c k ∙ rw (lt-ltb c (cells (shapeOf head)) h, v))
+
+  valid-left : (c : ℕ) → validIn (head .depth) mask c ≡ validIn (head .depth) (published m l .kept) c
+  unfolding published
+  valid-left c = rw (z) (valid-behind mask n (c / head .depth))
+
+  text-left : (blocks end : ℕ) → imageText head blocks end (validIn (head .depth) mask) (cellWord head mask (m .body))
+      ≡ imageText head blocks end (validIn (head .depth) (published m l .kept)) (wordIn (published m l .image))
+  unfolding imageText
+  text-left blocks end =
+      let e = cells-same (cells (shapeOf head)) (validIn (head .depth) mask) (validIn (head .depth) (published m l .kept)) (cellWord head mask (m .body)) (wordIn (published m l .image)) (λ c h. valid-left c) (λ c h v. word-left c h (valid-left c ∙ v)) in
+      ap (λ (t : List ℕ). shapeLine (head .columns) (head .rows) (head .depth) (head .kind) (head .valid) ++ line (ascii "blocks ") blocks ++ t ++ line (ascii "end ") end) e
+
+module _ (b : List ℕ) (h : Header) (n : ℕ) (l : Lent) (y : Ready b h n l) where
+  shaped : Shaped (shapeOf h)
+  shaped = held-shaped h (length b) (header-held b h (y .header) .1)
+
+  few : cells (shapeOf h) ≤ cellsMost
+  few = rw (y .cells) at (y .few)
+
+  roomy : room h l ≡ true
+  unfolding room
+  roomy =
+      let s = shapeOf h in
+      let p : maskLength s ≤ 512 = omega (arith, pixels-le s shaped, few) in
+      let q : blockCount s ≤ cellsMost = le-trans (blocks-le s shaped) few in
+      rw (y .kept, y .spare, y .list, y .image, length-replicate, le-leb (maskLength s) 512 p, le-leb (blockCount s) cellsMost q, le-leb (cells s) cellsMost few)
+
+  read-means : readSays b false l ≡ meaning b false []
+  unfolding readSays masked meaning
+  read-means = rw (y .header, roomy, mask-unkept (take (h .size) b) h (l .kept)) (go (maskSays (take (h .size) b) h false []))
+    where
+      go : (x : Res InForce) → ((x >>= λ m. ok (record { header = h; mask = m })) >>= λ (k : Masked). meaningFrom b (k .header) (k .mask)) ≡ (x >>= λ m. meaningFrom b h m)
+      go (ok m) = refl
+      go (fail r) = refl
+
+  pub refused-text : {why : Refusal} {new : Lent} → WholeRead b false (answer.Refused why) l new → saidText (meaning b false []) ≡ refusalText why
+  refused-text w = rw (← read-means, bind-fail (readSays b false l) _ (sym (w .says)))
+
+  whole-by : (m : Meaning) {blocks end : ℕ} {new : Lent} → readSays b false l ≡ ok m → blocks ≡ length (startsOf (m .body)) → end ≡ endOf (m .body) → new ≡ published m l
+      → saidText (meaning b false []) ≡ imageText h blocks end (validIn (h .depth) (new .kept)) (wordIn (new .image))
+  whole-by m r x z e =
+      let k : m .header ≡ h = meaning-header b (y .header) (sym read-means ∙ r) in
+      let f : cells (shapeOf (m .header)) ≤ length (l .image) = rw (k, y .image) few in
+      rw (← read-means, r, ← k, e, x, z) (text-left m l 512 (y .kept) f (length (startsOf (m .body))) (endOf (m .body)))
+
+  pub whole-text : {blocks end : ℕ} {new : Lent} → WholeRead b false (answer.Whole blocks end) l new
+      → saidText (meaning b false []) ≡ imageText h blocks end (validIn (h .depth) (new .kept)) (wordIn (new .image))
+  whole-text w =
+      let (m, r, c) = bind-counts (readSays b false l) _ (sym (w .says)) in
+      whole-by m r (ap (λ (v : Whole). v .blocks) c) (ap (λ (v : Whole). v .end) c) (w .lent ∙ ap (λ (x : Res Meaning). readAfter x (masked b false l) l) r)
+
+-- ---- how long the text is
+
+-- a blob that the program accepts has few cells
+few-cells : (b : List ℕ) (m : Meaning) → programSays b ≡ ok m → cells (shapeOf (m .header)) ≤ cellsMost
+unfolding programSays
+few-cells b m p =
+    let (_, _, p) = bind-is (require (leb (length b) bytesMost) 4) _ p in
+    let (h, e, p) = bind-is (headerSays b) _ p in
+    let (_, t, p) = bind-is (require (leb (cells (shapeOf h)) cellsMost) 5) _ p in
+    let k : m .header ≡ h = meaning-header b e p in
+    rw (k) (leb-true (cells (shapeOf h)) cellsMost (require-is _ _ t))
+
+pub text-long : (b : List ℕ) → length (programText b) ≤ 131072
+unfolding imageText
+text-long b = go (programSays b) refl
+  where
+    go : (x : Res Meaning) → programSays b ≡ x → length (saidText x) ≤ 131072
+    go (ok m) e =
+        let n = cells (shapeOf (m .header)) in
+        let f : n ≤ cellsMost = few-cells b m e in
+        let h = m .header in
+        simp (length-append)
+        (omega (
+          arith,
+          shape-long (h .columns) (h .rows) (h .depth) (h .kind) (h .valid),
+          line-long (ascii "blocks ") (length (startsOf (m .body))),
+          line-long (ascii "end ") (endOf (m .body)),
+          cells-long n (validIn (h .depth) (bytesOf (m .mask))) (cellWord h (bytesOf (m .mask)) (m .body)) (omega arith),
+        ))
+    go (fail r) e = omega (arith, line-long (ascii "refused ") (r .number))
+
+-- what was answered is the text, and lies within the buffer
+module _ {input old : List ℕ} {r : ℕ} {new : List ℕ} (a : Answered input old r new) where
+  pub answered-within : r ≤ length new
+  answered-within = rw (a .count, a .holds, length-append) (omega arith)
+
+  pub answered-count : r ≡ length (take r new)
+  answered-count = sym (length-take-le r new answered-within)
+
+  pub answered-text : take r new ≡ programText input
+  answered-text = rw (a .count, a .holds) (take-append-seam (programText input) (drop (length (programText input)) old))
