@@ -11,17 +11,18 @@ use lib.Seq.{getD-take}
 use lib.Dec.{leb, ltb, eqb}
 use borrow.Author.Tests.{ltb-true, ltb-false, lt-ltb, le-ltb, leb-true, leb-false, le-leb, lt-leb, eqb-true, eqb-false, eq-eqb, ne-eqb}
 use Rattle.lerc_words.specs.Res.{Res, ok, fail, _>>=_, refuse, require, wordAt, wordSays, each}
-use Rattle.lerc_words.proofs.Laws.{wordAt-fails, wordAt-no, wordAt-ok, wordAt-is}
+use Rattle.lerc_words.proofs.Laws.{wordAt-fails, wordAt-no, bind-fail}
 use Rattle.lerc_words.proofs.Each.{each-replicate-fails}
 use Rattle.lerc_numeric.specs.Numeric.{finite, negative}
 use Rattle.lerc_numeric.specs.Kinds.{typeSize, whole, bound, cut}
 use Rattle.lerc_samples.specs.Samples.{sampleAt, stored, noKind, offsetKinds, offsetKind}
+use Rattle.lerc_samples.proofs.Reading.{sample-in, sample-is}
 use Rattle.lerc_bits.specs.declared.Plan.{Plan}
 use Rattle.lerc_bits.specs.Bits.{countBytes, plainPlan, tablePlan, fits, tabled, plan, run, allBelow, lookedUp, valuesOf, unpacked, counts}
 use Rattle.lerc_planes.specs.Ranges.{constantWords}
-use Rattle.lerc_block.specs.Block.{Block, tileLimit, stepValue, rawWords, levelBlock, steppedBlock, offsetBlock, formed, blockSays, readBlockSays}
+use Rattle.lerc_block.specs.Block.{Block, tileLimit, stepValue, rawWords, levelBlock, steppedBlock, offsetAt, finiteOffset, offsetBlock, formed, flagAt, blockSays, readBlockSays}
 use Rattle.lerc_block.specs.End.{rawEnd, countsEnd, offsetEnd, formEnd, endSays}
-use Rattle.lerc_image.proofs.Reading.{bind-fail}
+use Rattle.lerc_block.proofs.Answers.{offset-is, finite-is, flag-is}
 use Rattle.lerc_theorems.specs.BlockTable.{WordRefused, word-wide, word-cut, SampleRefused, sample-cut, StoredRefused, not-finite, out-of-range, IntegerRefused, no-integer, not-stored, KindRefused, no-kind, ConstantsRefused, not-constant, TabledRefused, no-bits, entries-cut, entries-few, table-cut, PackedRefused, plain-cut, not-tabled, PlanRefused, counts-cut, width-wrong, count-cut, count-large, packed-refused, CountsRefused, not-planned, index-large, LevelsRefused, level-refused, counts-refused, miscounted-block, value-refused, OffsetRefused, kind-refused, offset-cut, offset-not-finite, levels-refused, BlockRefused, flag-cut, check-wrong, raw-cut, offset-refused, ReadBlockRefused, tile-large, not-read, OffsetEndRefused, end-kind, end-offset-cut, end-counts, EndRefused, end-cut, end-raw-cut, end-offset}
 use Rattle.lerc_theorems.proofs.Demands.{demand, reading, reading-one, choosing, not-refused, One, one-ok, one-require, one-bind, one-cond}
 
@@ -235,6 +236,18 @@ module _ (s : List ℕ) where
 
 -- ---- a block
 
+-- an offset that cannot be read: there is no kind, or its bytes pass the end
+module _ (s : List ℕ) (kind : ℕ) (P : ℕ → Type 0) where
+  no-offset : {j : ℕ} (at flag : ℕ) → offsetAt s at kind flag ≡ fail (refuse j) → (KindRefused kind (flag / 64) j → P j)
+      → ((k : ℕ) → offsetKind kind (flag / 64) ≡ ok k → length s < at + typeSize k → P 1) → P j
+  unfolding offsetAt
+  no-offset at flag e f g =
+      reading P (offsetKind kind (flag / 64)) _ e (λ d. f (kind-refuses kind (flag / 64) d)) (λ k d e.
+      reading P (sampleAt k s at) _ e (λ q. on k d (sample-refused k s at q)) (λ v q e. not-refused e))
+    where
+      on : {j : ℕ} (k : ℕ) → offsetKind kind (flag / 64) ≡ ok k → SampleRefused k s at j → P j
+      on k d (sample-cut l) = g k d l
+
 module _ (s : List ℕ) (kind error top : ℕ) where
   abbrev levelsAt : ℕ → ℕ → ℕ → ℕ → Res Block
   levelsAt at offset flag n = cond (eqb (flag % 4) 3) (levelBlock at kind offset n) (steppedBlock s at kind error top offset n)
@@ -268,36 +281,41 @@ module _ (s : List ℕ) (kind error top : ℕ) where
       rw (n, ne-eqb _ _ z, d, eq-eqb _ _ k, y)
 
   offset-at : {j : ℕ} (at flag n : ℕ) → offsetBlock s at kind error top flag n ≡ fail (refuse j) → OffsetRefused s at kind error top flag n j
-  unfolding offsetBlock
+  unfolding offsetBlock finiteOffset
   offset-at at flag n e =
       let P = OffsetRefused s at kind error top flag n in
-      reading P (offsetKind kind (flag / 64)) _ e (λ d. kind-refused (kind-refuses kind (flag / 64) d)) (λ k d e.
-      reading P (sampleAt k s at) _ e (λ q. cut-at k d (sample-refused k s at q)) (λ v q e.
-      demand P (finite v) 8 _ e (offset-not-finite k v d q) (λ f e. levels-refused k v d q f (levels-at (at + typeSize k) v flag n e))))
-    where
-      cut-at : {j : ℕ} (k : ℕ) → offsetKind kind (flag / 64) ≡ ok k → SampleRefused k s at j → OffsetRefused s at kind error top flag n j
-      cut-at k d (sample-cut l) = offset-cut k d l
+      reading P (finiteOffset s at kind flag) _ e
+      (λ e. reading P (offsetAt s at kind flag) _ e (λ d. no-offset s kind P at flag d kind-refused offset-cut) (λ o d e.
+      let g = offset-is s at kind flag d in
+      demand P (finite (o .value)) 8 _ e (offset-not-finite (g .k) (o .value) (g .named) (g .sampled)) (λ f e. not-refused e)))
+      (λ o d e.
+      let (d, f) = finite-is s at kind flag d in
+      let g = offset-is s at kind flag d in
+      levels-refused (g .k) (o .value) (g .named) (g .sampled) f (rw (g .ends) at (levels-at (o .next) (o .value) flag n e)))
 
   at-offset : {j at flag n : ℕ} → OffsetRefused s at kind error top flag n j → offsetBlock s at kind error top flag n ≡ fail (refuse j)
-  unfolding offsetBlock
+  unfolding offsetBlock finiteOffset offsetAt
   at-offset {flag = flag} (kind-refused r) = rw (refused-kind kind (flag / 64) r)
   at-offset {at = at} (offset-cut k d l) = rw (d, refused-sample k s at (sample-cut l))
   at-offset (offset-not-finite k v d q f) = rw (d, q, f)
   at-offset (levels-refused k v d q f r) = rw (d, q, f, at-levels r)
 
   block-at : {j : ℕ} (at x n : ℕ) → blockSays s at kind error top x n ≡ fail (refuse j) → BlockRefused s at kind error top x n j
-  unfolding blockSays formed rawWords
+  unfolding blockSays flagAt formed rawWords
   block-at at x n e =
       let P = BlockRefused s at kind error top x n in
-      reading-one P 1 (wordAt 1 s at) _ (word-one 1 s at) e (λ d. flag-cut (wordAt-fails 1 s at d)) (λ flag d e.
-      demand P (eqb (flag / 4 % 16) (x / 8 % 16)) 8 _ e (λ t. check-wrong flag d (eqb-false _ _ t)) (λ t e.
+      reading P (flagAt s at x) _ e
+      (λ e. reading-one P 1 (wordAt 1 s at) _ (word-one 1 s at) e (λ d. flag-cut (wordAt-fails 1 s at d)) (λ flag d e.
+      demand P (eqb (flag / 4 % 16) (x / 8 % 16)) 8 _ e (λ t. check-wrong flag d (eqb-false _ _ t)) (λ t e. not-refused e)))
+      (λ flag d e.
+      let (d, t) = flag-is s at x d in
       let c = eqb-true (flag / 4 % 16) (x / 8 % 16) t in
       choosing P (eqb (flag % 4) 0) _ _ e
       (λ z e. demand P (leb (at + 1 + n * typeSize kind) (length s)) 1 _ e (λ u. raw-cut flag d c (eqb-true _ _ z) (leb-false _ _ u)) (λ u e. not-refused e))
-      (λ z e. choosing P (eqb (flag % 4) 2) _ _ e (λ y e. not-refused e) (λ y e. offset-refused flag d c (eqb-false _ _ z) (eqb-false _ _ y) (offset-at (at + 1) flag n e)))))
+      (λ z e. choosing P (eqb (flag % 4) 2) _ _ e (λ y e. not-refused e) (λ y e. offset-refused flag d c (eqb-false _ _ z) (eqb-false _ _ y) (offset-at (at + 1) flag n e))))
 
   at-block : {j at x n : ℕ} → BlockRefused s at kind error top x n j → blockSays s at kind error top x n ≡ fail (refuse j)
-  unfolding blockSays formed rawWords
+  unfolding blockSays flagAt formed rawWords
   at-block {at = at} (flag-cut l) = rw (wordAt-no 1 s at l)
   at-block (check-wrong flag d c) = rw (d, ne-eqb _ _ c)
   at-block (raw-cut flag d c z l) = rw (d, eq-eqb _ _ c, eq-eqb _ _ z, lt-leb _ _ l)
@@ -325,16 +343,17 @@ module _ (s : List ℕ) (kind : ℕ) where
   unfolding offsetEnd countsEnd
   offset-end at flag e =
       let P = OffsetEndRefused s at kind flag in
-      reading P (offsetKind kind (flag / 64)) _ e (λ d. end-kind (kind-refuses kind (flag / 64) d)) (λ k d e.
-      reading-one P 1 (wordAt (typeSize k) s at) _ (word-one (typeSize k) s at) e (λ q. end-offset-cut k d (wordAt-fails (typeSize k) s at q)) (λ v q e.
+      reading P (offsetAt s at kind flag) _ e (λ d. no-offset s kind P at flag d end-kind end-offset-cut) (λ o d e.
+      let g = offset-is s at kind flag d in
       choosing P (eqb (flag % 4) 3) _ _ e (λ t e. not-refused e) (λ t e.
-      end-counts k d (wordAt-is (typeSize k) s at v q .inside) (eqb-false _ _ t) (plan-refused s (at + typeSize k) (bind-fail (plan s (at + typeSize k)) _ e)))))
+      let r = plan-refused s (o .next) (bind-fail (plan s (o .next)) _ e) in
+      end-counts (g .k) (g .named) (sample-is (g .k) s at (o .value) (g .sampled) .inside) (eqb-false _ _ t) (rw (g .ends) at r)))
 
   end-offset-at : {j at flag : ℕ} → OffsetEndRefused s at kind flag j → offsetEnd s at kind flag ≡ fail (refuse j)
-  unfolding offsetEnd countsEnd
+  unfolding offsetEnd offsetAt countsEnd
   end-offset-at {flag = flag} (end-kind r) = rw (refused-kind kind (flag / 64) r)
-  end-offset-at {at = at} (end-offset-cut k d l) = rw (d, wordAt-no (typeSize k) s at l)
-  end-offset-at {at = at} (end-counts k d l z r) = rw (d, wordAt-ok (typeSize k) s at l, ne-eqb _ _ z, refused-plan s r)
+  end-offset-at {at = at} (end-offset-cut k d l) = rw (d, refused-sample k s at (sample-cut l))
+  end-offset-at {at = at} (end-counts k d l z r) = rw (d, sample-in k s at l, ne-eqb _ _ z, refused-plan s r)
 
   end-at : {j : ℕ} (at n : ℕ) → endSays s at kind n ≡ fail (refuse j) → EndRefused s at kind n j
   unfolding endSays formEnd rawEnd

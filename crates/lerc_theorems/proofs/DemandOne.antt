@@ -3,6 +3,7 @@
 use Rattle.lerc_theorems.specs.DemandOne.{DemandOne}
 use Rattle.lerc_theorems.proofs.Determined.{no-room, no-room-in-c}
 use Rattle.lerc_theorems.proofs.Refusals.{refusals-keep, refusals-empty, whole-keeps}
+use Rattle.lerc_theorems.proofs.InC.{refusals-keep-in-c}
 use Rattle.lerc_theorems.proofs.Numbers.{numbers-exactly, numbers-only}
 use Rattle.lerc_theorems.proofs.Writes.{writes-only, whole-writes}
 
@@ -14,6 +15,7 @@ demand-one = record {
   numbers-only = numbers-only;
   refusal-keeps = refusals-keep;
   whole-keeps = λ k a x why p. whole-keeps _ _ _ _ why p;
+  keeps-in-c = refusals-keep-in-c;
   refusal-empty = refusals-empty;
   writes-only = writes-only;
   whole-writes = λ k a x n end p. whole-writes _ _ _ _ n end p;

@@ -1,39 +1,61 @@
 -- Demand 2, proved.
 -- Assumes nothing.
 use mathlib.Core.Path.{_≡_, _∙_, sym, ap, refl}
+use mathlib.Core.Logic.{_↔_}
 use mathlib.Core.Bool.{Bool, true, false, cond, _||_, or-true}
-use mathlib.Core.List.{List}
-use Prim.Native.Nat.{ℕ, zero, suc, _+_, _≤_, _<_}
+use mathlib.Core.List.{List, []}
+use Prim.Native.Nat.{ℕ, zero, suc, _+_, _≤_, _<_, min}
 use native.Mathlib.Decide.{decLt}
+use native.Mathlib.Nat.{mul-le-mul}
 use native.Mathlib.Omega.{arith}
-use lib.ListN.{length, getD, take, List·getD-eq-default}
+use lib.ListN.{length, getD, take, length-take, List·getD-eq-default}
 use lib.Dec.{eqb}
-use borrow.Author.Tests.{le-leb, lt-ltb, le-ltb, eq-eqb}
-use Rattle.lerc_words.specs.Res.{Res, ok, fail, _>>=_, accepts}
+use lib.Seq.{take-all}
+use borrow.Author.Tests.{le-leb, le-ltb, eq-eqb}
+use Rattle.lerc_words.specs.declared.Refusal.{Refusal}
+use Rattle.lerc_words.specs.Res.{Res, ok, fail, _>>=_, accepts, after}
 use Rattle.lerc_words.specs.Lists.{over, from, tabulate}
+use Rattle.lerc_words.proofs.Laws.{bind-is, bind-fail}
 use Rattle.lerc_header.specs.declared.Header.{Header}
-use Rattle.lerc_header.specs.Shape.{cells, maskLength, blockCount}
+use Rattle.lerc_header.specs.declared.Shape.{Shape}
+use Rattle.lerc_header.specs.declared.HeaderAnswer.the-variants as header-answer
+use Rattle.lerc_header.specs.Shape.{cells, maskLength, blockCount, Shaped}
 use Rattle.lerc_header.specs.Header.{shapeOf, extentOf, held}
-use Rattle.lerc_planes.specs.Validity.{InForce, bytesOf, spareWith, prepareSays}
-use Rattle.lerc_planes.specs.Ranges.{readRangesSays}
-use Rattle.lerc_planes.proofs.ValidityLaws.{prepare-found}
-use Rattle.lerc_image.specs.Geometry.{isValidCell}
-use Rattle.lerc_image.specs.Paint.{painted, among}
+use Rattle.lerc_header.proofs.Kept.{header-held, held-shaped}
+use Rattle.lerc_planes.specs.declared.Ranges.{Ranges}
+use Rattle.lerc_planes.specs.declared.RangesRead.{RangesRead}
+use Rattle.lerc_planes.specs.declared.MaskAnswer.{MaskAnswer}
+use Rattle.lerc_planes.specs.declared.MaskAnswer.the-variants as mask-answer
+use Rattle.lerc_planes.specs.Validity.{InForce, bytesOf, spareWith, which as answered, prepareSays, inForce}
+use Rattle.lerc_planes.specs.Ranges.{readRangesSays, rangesSaid}
+use Rattle.lerc_planes.proofs.ValidityLaws.{prepare-found, mask-length}
+use Rattle.lerc_image.specs.declared.WalkAnswer.{WalkAnswer}
+use Rattle.lerc_image.specs.declared.WalkAnswer.the-variants as walk-answer
+use Rattle.lerc_image.specs.Geometry.{tileSize, tileOf, cellOf, rank, isValidCell}
+use Rattle.lerc_image.specs.Paint.{painted, indexOf, among}
 use Rattle.lerc_image.specs.Blocks.{Chain}
-use Rattle.lerc_image.specs.Walk.{walked, bodyWalked, walkSays, walkList}
+use Rattle.lerc_image.specs.Walk.{walkSays, walkList, walkCount}
+use Rattle.lerc_image.proofs.Partition.{block-lt, place-lt, cell-back, cell-lt, cell-block, cell-place}
+use Rattle.lerc_image.proofs.Steps.{position-first, position-next, tile-here}
 use Rattle.lerc_image.proofs.Painting.{length-painted, painted-cell}
 use Rattle.lerc_image.proofs.Chain.{chain-lengths}
 use Rattle.lerc_image.proofs.Upto.{valid-below}
 use Rattle.lerc.specs.declared.ReadAnswer.{ReadAnswer}
+use Rattle.lerc.specs.declared.ReadAnswer.the-variants as read-answer
 use Rattle.lerc.specs.Meaning.{blocks, Meaning, startsOf, cellWord, meaning}
 use Rattle.lerc.specs.Read.{Lent, room, masked, published, readAfter, readSaid, readCount, WholeRead}
 use Rattle.lerc.proofs.Whole.{ranges-held}
-use Rattle.lerc_theorems.specs.DemandTwo.{Roomy, Exact, afterRead, WalkAndFills, DemandTwo}
+use Rattle.lerc_theorems.specs.Promises.{lent}
+use Rattle.lerc_theorems.specs.Calls.{HeaderCall, PrepareCall, HandedCall, RangesFrom, WalkCall, FillCalls, ReadCall}
+use Rattle.lerc_theorems.specs.DemandTwo.{Roomy, Exact, WalkAndFills, WalkMeans, DemandTwo}
 use Rattle.lerc_theorems.specs.DemandThree.{Case, Opened}
+use Rattle.lerc_theorems.proofs.Answers.{header-same, mask-same, walk-same, read-same}
+use Rattle.lerc_theorems.proofs.Calls.{header-call, prepare-call, handed-call, ranges-call, ranges-from, walk-call, read-call}
+use Rattle.lerc_theorems.proofs.Longer.{alike-take, walk-same as longer-walk}
 use Rattle.lerc_theorems.proofs.Bodies.{Coded, coded-is, starts-up, starts-end}
-use Rattle.lerc_theorems.proofs.Meanings.{Means, meaning-is, means-is, keeps, pairs-kept, mask-kept, ends, Rooms, rooms, read-is, meaning-same, means-front}
+use Rattle.lerc_theorems.proofs.Meanings.{Means, meaning-is, means-is, keeps, mask-kept, ends, Rooms, rooms, read-is, meaning-same, means-front}
 use Rattle.lerc_theorems.proofs.Nine.{nine-flat, flat-nine}
-use Rattle.lerc_theorems.proofs.Fills.{walk-is, walked-body, left-long, left-starts}
+use Rattle.lerc_theorems.proofs.Fills.{walk-is, walked-body, means-walking, walking-says, left-is, left-long, left-starts}
 use Rattle.lerc_theorems.proofs.DemandThree.{demand-three}
 
 -- ---- what a whole read leaves
@@ -48,6 +70,12 @@ module _ (b : List ℕ) (reuse : Bool) (r : ReadAnswer) (old new : Lent) (w : Wh
 
   accepted : accepts (readSaid r) ≡ accepts (meaning b reuse (old .kept))
   accepted = ap accepts says ∙ alike (meaning b reuse (old .kept))
+
+  refused : (why : Refusal) → (r ≡ read-answer.Refused why) ↔ (meaning b reuse (old .kept) ≡ fail why)
+  refused why = (
+    λ e. bind-fail (meaning b reuse (old .kept)) _ (sym says ∙ ap readSaid e),
+    λ e. read-same r (read-answer.Refused why) (says ∙ ap (λ (x : Res Meaning). x >>= readCount) e),
+  )
 
   module _ (m : Meaning) (e : meaning b reuse (old .kept) ≡ ok m) where
     left : new ≡ published m old
@@ -144,104 +172,153 @@ named (suc k) i n l q = go (decLt i n) (λ p. named k (suc i) n p (omega arith))
     go (yes p) r = rw (r p) (or-true (eqb n i))
     go (no p) r = let z : n ≡ i = omega arith in rw (eq-eqb n i z)
 
-module _ (b : List ℕ) (reuse : Bool) (l : Lent) (h : Header) (f : InForce) (c : Chain) (y : Roomy b l) (e : meaning b reuse (l .kept) ≡ ok (record { header = h; mask = f; body = blocks c })) where
+module _ (b : List ℕ) (reuse : Bool) (r : ReadAnswer) (old new : Lent) (h : Header) (f : InForce) (c : Chain) (z : ReadCall b reuse r old new) (y : Roomy b old)
+    (e : meaning b reuse (old .kept) ≡ ok (record { header = h; mask = f; body = blocks c })) where
   abbrev whole : Meaning
   whole = record { header = h; mask = f; body = blocks c }
 
-  k : Coded (take (h .size) b) h (bytesOf f) c
-  k = coded b reuse (l .kept) h f c e
+  left-so : Exact whole r old new
+  left-so = exact b reuse r old new (read-call z) y whole e
 
-  p : Means b reuse (l .kept) whole
-  p = parts b reuse (l .kept) h f c e
-
-  o : Rooms h l
-  o = rooms h l (y h (p .header))
+  p : Means b reuse (old .kept) whole
+  p = parts b reuse (old .kept) h f c e
 
   hold : held h (length b) ≡ ok (extentOf h)
-  hold = keeps b reuse (l .kept) whole p
+  hold = keeps b reuse (old .kept) whole p
 
-  mask-long : maskLength (shapeOf h) ≤ length (bytesOf f)
-  mask-long = let z = mask-kept b reuse (l .kept) whole p (o .kept) .size in omega (arith, z)
+  o : Rooms h old
+  o = rooms h old (y h (p .header))
 
-  prepared : prepareSays b h reuse (l .kept) (length (l .spare)) ≡ ok f
+  prepared : prepareSays b h reuse (old .kept) (length (old .spare)) ≡ ok f
   unfolding prepareSays
   prepared = rw (hold, le-leb _ _ (o .kept), le-leb _ _ (o .spare)) (p .mask)
 
-  read : readRangesSays b h ≡ ok (k .ranges)
-  read = ranges-held b h hold ∙ k .read
+  read : readRangesSays b h ≡ ok (coded b reuse (old .kept) h f c e .ranges)
+  read = ranges-held b h hold ∙ coded b reuse (old .kept) h f c e .read
 
-  walk : walkSays b h (k .ranges) (bytesOf f) (length (l .list)) ≡ ok c
-  unfolding walkSays bodyWalked walked
-  walk =
-      let v : 0 < h .valid = pos (h .valid) (k .some) in
-      rw (hold, le-leb _ _ mask-long, le-leb _ _ (o .list), pairs-kept b reuse (l .kept) whole p (k .ranges) (k .read) .pairs, lt-ltb _ _ v, k .coded, k .sweep) (k .is)
-    where
-      pos : (n : ℕ) → (n ≡ 0 → ⊥) → 0 < n
-      pos zero q = absurd (q refl)
-      pos (suc n) q = omega arith
+  -- with the ranges that were read
+  module _ (g : Ranges) (q : RangesFrom b h g) where
+    walks : walkSays b h g (bytesOf f) (length (old .list)) ≡ ok c
+    walks = walking-says b h g (bytesOf f) (length (old .list)) c (means-walking b reuse (old .kept) h f c e (o .kept) g (ranges-from q) (length (old .list)) (o .list))
 
-  abbrev newList : List ℕ
-  newList = walkList b h (k .ranges) (bytesOf f) (l .list)
+    same-list : walkList b h g (bytesOf f) (old .list) ≡ new .list
+    same-list = left-is b h g (bytesOf f) (old .list) c walks ∙ sym (left-so .list)
 
-  done : afterRead b reuse l ≡ published whole l
-  done = ap (λ (x : Res Meaning). readAfter x (masked b reuse l) l) (read-is b reuse l y ∙ e)
+    abbrev opened : Case
+    opened = record {
+      blob = b;
+      reuse = reuse;
+      kept = old .kept;
+      header = h;
+      means = f;
+      chain = c;
+      ranges = g;
+      mask = bytesOf f;
+      list = new .list;
+      image = old .image;
+    }
 
-  same-list : afterRead b reuse l .list ≡ newList
-  unfolding walkList published
-  same-list = ap (λ (x : Lent). x .list) done ∙ rw (walk)
+    is-opened : Opened opened
+    is-opened = record {
+      means = e;
+      kept = o .kept;
+      ranges = q;
+      mask = let i = mask-kept b reuse (old .kept) whole p (o .kept) .size in take-all (maskLength (shapeOf h)) (bytesOf f) (omega (arith, i));
+      long = rw (← same-list) (left-long b h g (bytesOf f) (old .list) c walks);
+      starts = λ n l. rw (← same-list) (left-starts b h g (bytesOf f) (old .list) c walks n l);
+      room = o .image;
+    }
 
-  abbrev opened : Case
-  opened = record {
-    blob = b;
-    reuse = reuse;
-    kept = l .kept;
-    spare = length (l .spare);
-    header = h;
-    mask = f;
-    ranges = k .ranges;
-    entries = length (l .list);
-    chain = c;
-    list = newList;
-    image = l .image;
-  }
+    by-fills : (image : List ℕ) → FillCalls b h g (bytesOf f) (new .list) (tabulate (blockCount (shapeOf h)) (λ n. n)) (old .image) image → image ≡ new .image
+    by-fills image k =
+        demand-three .fills-complete opened is-opened (tabulate (blockCount (shapeOf h)) (λ n. n)) image k
+        (λ n l. named (blockCount (shapeOf h)) 0 n (omega arith) (omega (arith, l))) r old new z (y h (p .header)) refl refl
 
-  is-opened : Opened opened
-  is-opened = record {
-    header = p .header;
-    mask = prepared;
-    ranges = read;
-    walk = walk;
-    long = left-long b h (k .ranges) (bytesOf f) (l .list) c walk;
-    starts = left-starts b h (k .ranges) (bytesOf f) (l .list) c walk;
-    room = o .image;
-  }
+    by-walk : (said : WalkAnswer) (list : List ℕ) → WalkCall b h g (bytesOf f) said (old .list) list → (said ≡ walk-answer.Walked (blockCount (shapeOf h)) (c .end)) × (list ≡ new .list)
+    by-walk said list k =
+        let w = walk-call k in
+        (walk-same said (walk-answer.Walked (blockCount (shapeOf h)) (c .end)) (w .says ∙ ap (λ (x : Res Chain). x >>= walkCount h) walks), w .list ∙ same-list)
 
-  by-parts : WalkAndFills b reuse l h f c
+  by-mask : (said : MaskAnswer) (spare m : List ℕ) → PrepareCall b h reuse (old .kept) said (old .spare) spare → HandedCall (old .kept) spare said m → (m ≡ bytesOf f) × (spare ≡ new .spare)
+  by-mask said spare m k q = (
+    demand-three .mask-handed b h reuse (old .kept) (old .spare) spare m f said k q prepared,
+    prepare-call k .spare ∙ ap (λ (x : Res InForce). after x (old .spare) (λ i. spareWith i (old .spare))) prepared ∙ sym (left-so .spare),
+  )
+
+  by-parts : WalkAndFills b reuse old new h f c
   by-parts = record {
-    ranges = k .ranges;
-    header = p .header;
-    prepared = prepared;
-    read = read;
-    walk = walk;
-    list = same-list;
-    image = sym (demand-three .fills-complete opened is-opened (tabulate (blockCount (shapeOf h)) (λ n. n))
-        (λ n q. named (blockCount (shapeOf h)) 0 n (omega arith) (omega (arith, q))) l (y h (p .header)) refl refl);
+    header = λ said k. header-same said (header-answer.Read h) (header-call k ∙ p .header);
+    mask = by-mask;
+    ranges = λ said k. ap (λ (x : RangesRead). x .answer) (ranges-call k ∙ ap rangesSaid read);
+    walk = by-walk;
+    fills = by-fills;
   }
+
+-- ---- the cell at a place
+
+placed-word : (h : Header) (s : Shaped (shapeOf h)) (n k : ℕ) → n < blockCount (shapeOf h) → k < tileSize (tileOf (shapeOf h) n) → (m : List ℕ) (c : Chain)
+    → cellWord h m (blocks c) (cellOf (shapeOf h) n k) ≡ getD (getD (c .words) n []) (rank (shapeOf h) m (tileOf (shapeOf h) n) k) 0
+unfolding cellWord indexOf
+placed-word h s n k l i m c = rw (cell-block (shapeOf h) s n k l i, cell-place (shapeOf h) s n k l i)
+
+-- ---- what calls tell
+
+-- a mask has at least one byte
+some-byte : (h : Shape) → Shaped h → 0 < maskLength h
+some-byte h s = let z = mul-le-mul (s .rows .0) (s .columns .0) in omega (arith, z)
+
+module _ (b : List ℕ) (reuse : Bool) (kept : List ℕ) (h : Header) (said : MaskAnswer) (spare prepared m q : List ℕ) (r : Ranges) (n end : ℕ) (old new : List ℕ) (at-header : HeaderCall b (header-answer.Read h))
+    (at-mask : PrepareCall b h reuse kept said spare prepared) (at-part : HandedCall kept prepared said m) (at-ranges : RangesFrom b h r) (longer : take (maskLength (shapeOf h)) q ≡ m)
+    (at-walk : WalkCall b h r q (walk-answer.Walked n end) old new) where
+  -- a refused mask hands nothing back, and a walk asks for a mask
+  accepted-mask : (x : Res InForce) → prepareSays b h reuse kept (length spare) ≡ x → maskLength (shapeOf h) ≤ length q → 0 < maskLength (shapeOf h) → (f : InForce) × (prepareSays b h reuse kept (length spare) ≡ ok f)
+  unfolding inForce
+  accepted-mask (ok f) e l k = (f, e)
+  accepted-mask (fail why) e l k =
+      let s : said ≡ mask-answer.Refused why = mask-same said (mask-answer.Refused why) (prepare-call at-mask .says ∙ ap (λ (x : Res InForce). x >>= answered) e) in
+      let i : m ≡ [] = handed-call at-part ∙ ap (λ (x : MaskAnswer). inForce x kept prepared) s in
+      let z : min (maskLength (shapeOf h)) (length q) ≡ 0 = sym (length-take (maskLength (shapeOf h)) q) ∙ ap length (longer ∙ i) in
+      absurd (omega arith)
+
+  found : WalkMeans b reuse kept h m n end old new
+  found =
+      let (c, e, _) = bind-is (walkSays b h r q (length old)) _ (sym (walk-call at-walk .says)) in
+      let w = walk-is b h r q (length old) c e in
+      let (f, p) = accepted-mask (prepareSays b h reuse kept (length spare)) refl (w .mask) (some-byte (shapeOf h) (held-shaped h (length b) (w .kept))) in
+      let t = prepare-found b h reuse kept (length spare) f p in
+      let i : m ≡ bytesOf f = demand-three .mask-handed b h reuse kept spare prepared m f said at-mask at-part p in
+      let a = alike-take (shapeOf h) q (bytesOf f) (longer ∙ i) (let z = mask-length b h reuse kept (length spare) f p in omega (arith, z)) in
+      let v = sym (longer-walk b h (w .kept) q (bytesOf f) a r (length old)) ∙ e in
+      let l = demand-three .walk-lists b h r q old new n end c at-walk e in
+      record {
+        mask = f;
+        chain = c;
+        means = means-is b reuse kept (record { header = h; mask = f; body = blocks c })
+            (record { header = sym (header-call at-header); mask = t .mask; body = walked-body b h r (bytesOf f) (length old) c (walk-is b h r (bytesOf f) (length old) c v) (ranges-from at-ranges) });
+        kept-long = t .here;
+        handed = i;
+        count = l .0;
+        ends = l .1;
+        list = walk-call at-walk .list ∙ left-is b h r q old c e;
+      }
 
 pub demand-two : DemandTwo
 demand-two = record {
-  accepted-iff = accepted;
-  refused-as = read-is;
-  cells-exact = λ b reuse r old new m w f e. exact b reuse r old new w f m e;
+  accepted-iff = λ k a r x p f. accepted (a .0 .now) (a .1 .0) r (lent a) (lent x) p f;
+  refused-as = λ k a r x p f. refused (a .0 .now) (a .1 .0) r (lent a) (lent x) p f;
+  cells-exact = λ k a r x p f m e. exact (a .0 .now) (a .1 .0) r (lent a) (lent x) p f m e;
   mask-right = λ b reuse kept m e l. let q = mask-kept b reuse kept m (meaning-is b reuse kept m e) l in (q .size, q .counts);
   below-size = λ b c reuse kept n p q e. meaning-same b c n p e q reuse kept;
   behind-end = λ b c reuse kept m e q l. means-is c reuse kept m (means-front b reuse kept m (meaning-is b reuse kept m e) c q l);
   end-bounds = λ b reuse kept m e. ends b reuse kept m (meaning-is b reuse kept m e);
   starts-rise = rise;
+  order = λ b h e. let s = held-shaped h (length b) (header-held b h e .1) in (position-first (shapeOf h) s, λ n l. (sym (position-next (shapeOf h) s n l), sym (tile-here (shapeOf h) s n l)));
+  places = λ b h e. let s = held-shaped h (length b) (header-held b h e .1) in (
+    λ n k l i. (cell-lt (shapeOf h) s n k l i, cell-block (shapeOf h) s n k l i, cell-place (shapeOf h) s n k l i, placed-word h s n k l i),
+    λ c l. (block-lt (shapeOf h) s c l, place-lt (shapeOf h) s c l, cell-back (shapeOf h) s c l),
+  );
   read-is-walk-and-fills = by-parts;
-  walk-is-read = λ b reuse kept spare entries h f r c x y z w.
-      means-is b reuse kept (record { header = h; mask = f; body = blocks c })
-      (record { header = x; mask = prepare-found b h reuse kept spare f y .mask; body = walked-body b h r (bytesOf f) entries c (walk-is b h r (bytesOf f) entries c w) z });
+  walk-is-read = found;
   nine-only-constant = nine-flat;
   nine-constant = flat-nine;
 }

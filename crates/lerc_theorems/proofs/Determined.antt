@@ -6,6 +6,7 @@ use mathlib.Core.List.{List}
 use Prim.Native.Nat.{ℕ}
 use Rattle.lerc_words.specs.Res.{Res}
 use Rattle.lerc_bits.proofs.Answers.{plan-same, decoded-same}
+use Rattle.lerc_text.proofs.Putting.{put-same}
 use Rattle.lerc_header.specs.declared.Header.{Header}
 use Rattle.lerc_mask.proofs.Passes.{unrolled-same}
 use Rattle.lerc_planes.specs.declared.Ranges.{Ranges}
@@ -108,6 +109,9 @@ no-room = record {
   fill = record { asks-nothing = λ k a. tt; same = λ k a r q x y p s. filled-same p s };
   decode-tiles = record { asks-nothing = λ k a. tt; same = λ k a r q x y p s. tiled-same p s };
   fill-each = record { asks-nothing = λ k a. tt; same = λ k a r q x y p s. (p .says ∙ sym (s .says), p .image ∙ sym (s .image)) };
+  put-line = record { asks-nothing = λ k a. tt; same = λ k a r q x y p s. put-same p s };
+  put-shape = record { asks-nothing = λ k a. tt; same = λ k a r q x y p s. put-same p s };
+  put-cells = record { asks-nothing = λ k a. tt; same = λ k a r q x y p s. put-same p s };
   read-refusal = given (λ k a. tt) _ (λ k a r x p. p);
   read = record { asks-nothing = λ k a. tt; same = λ k a r q x y p s. whole-same p s };
 }

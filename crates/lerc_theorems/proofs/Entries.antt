@@ -14,9 +14,8 @@ use Rattle.lerc_words.specs.Res.{ok, fail, refuse, wordAt}
 use Rattle.lerc_words.proofs.Laws.{bind-is, and-is, ok-is, wordAt-fails, wordAt-no}
 use Rattle.lerc_numeric.specs.Kinds.{typeSize}
 use Rattle.lerc_header.specs.declared.Header.{Header}
-use Rattle.lerc_header.specs.Header.{shapeOf, extentOf, held, headerSays}
+use Rattle.lerc_header.specs.Header.{shapeOf, headerSays}
 use Rattle.lerc_header.specs.Shape.{cells, maskLength, blockCount}
-use Rattle.lerc_header.proofs.Kept.{held-is}
 use Rattle.lerc_planes.specs.declared.Ranges.{Ranges}
 use Rattle.lerc_planes.specs.Validity.{bytesOf, maskSays}
 use Rattle.lerc_planes.specs.Ranges.{pairsRight, rangesSays, constantWords}
@@ -34,7 +33,7 @@ use Rattle.lerc_theorems.proofs.Wrong.{pairs-not, not-pairs}
 use Rattle.lerc_theorems.proofs.Wrong as wrong
 use Rattle.lerc_theorems.proofs.Demands.{fail-is, demand, reading, reading-one, choosing, not-refused, and-not, and-first, and-second}
 use Rattle.lerc_theorems.proofs.Blocks.{word-one, constants-exactly, block-exactly}
-use Rattle.lerc_theorems.proofs.Headers.{right-held, held-right, held-exactly, header-exactly, mask-exactly, ranges-exactly}
+use Rattle.lerc_theorems.proofs.Headers.{right-held, held-exactly, holding, header-exactly, mask-exactly, ranges-exactly}
 
 -- ---- sweep and mode byte
 
@@ -137,11 +136,8 @@ module _ (b : List ℕ) (h : Header) (r : Ranges) (m : List ℕ) (entries : ℕ)
   unfolding walkSays
   walk-refused {n} e =
       let P = WalkRefused b h r m entries in
-      reading P (held h (length b)) _ e (λ d. walk-held (held-exactly h (length b) n .0 d)) (λ x d e.
-      let i : x ≡ extentOf h = held-is h (length b) d in
-      let g = held-right h (length b) d in
-      let e' = rw (i) at e in
-      demand P (leb (maskLength (shapeOf h)) (length m) && leb (blockCount (shapeOf h)) entries) 5 _ e'
+      holding h (length b) P _ e (λ d. walk-held d) (λ g e.
+      demand P (leb (maskLength (shapeOf h)) (length m) && leb (blockCount (shapeOf h)) entries) 5 _ e
       (λ t. walk-room g (⊎-elim (λ u. inl (leb-false _ _ u)) (λ u. inr (leb-false _ _ u)) (and-not _ _ t)))
       (λ t e. let (u, v) = and-is _ _ t in let k : WalkRoom h m entries = record { mask = leb-true _ _ u; list = leb-true _ _ v } in
       demand P (pairsRight (h .depth) r) 7 _ e (λ p. walk-pairs g k (pairs-not (h .depth) r p)) (λ p e.
@@ -201,11 +197,8 @@ module _ (b : List ℕ) (h : Header) (r : Ranges) (m list : List ℕ) (n words :
   unfolding fillSays
   fill-refused {j} e =
       let P = FillRefused b h r m list n words in
-      reading P (held h (length b)) _ e (λ d. fill-held (held-exactly h (length b) j .0 d)) (λ x d e.
-      let i : x ≡ extentOf h = held-is h (length b) d in
-      let g = held-right h (length b) d in
-      let e' = rw (i) at e in
-      demand P (ltb n (blockCount (shapeOf h))) 11 _ e' (λ t. fill-number g (ltb-false _ _ t)) (λ t e.
+      holding h (length b) P _ e (λ d. fill-held d) (λ g e.
+      demand P (ltb n (blockCount (shapeOf h))) 11 _ e (λ t. fill-number g (ltb-false _ _ t)) (λ t e.
       let l = ltb-true n (blockCount (shapeOf h)) t in
       demand P (fillRoom h m (length list) words) 5 _ e (λ u. fill-room g l (room-not h m (length list) words u)) (λ u e.
       let k = room-is h m (length list) words u in
@@ -228,11 +221,8 @@ module _ (b : List ℕ) (h : Header) (m maxima : List ℕ) (at entries words : �
   unfolding tilesSays
   tiles-refused {j} e =
       let P = TilesRefused b h m maxima at entries words in
-      reading P (held h (length b)) _ e (λ d. tiles-held (held-exactly h (length b) j .0 d)) (λ x d e.
-      let i : x ≡ extentOf h = held-is h (length b) d in
-      let g = held-right h (length b) d in
-      let e' = rw (i) at e in
-      demand P (fillRoom h m entries words) 5 _ e' (λ u. tiles-room g (room-not h m entries words u)) (λ u e.
+      holding h (length b) P _ e (λ d. tiles-held d) (λ g e.
+      demand P (fillRoom h m entries words) 5 _ e (λ u. tiles-room g (room-not h m entries words u)) (λ u e.
       tiles-blocks g (room-is h m entries words u) (chain-exactly (take (h .size) b) h maxima m (blockCount (shapeOf h)) 0 at j .0 e)))
 
   refused-tiles : {j : ℕ} → TilesRefused b h m maxima at entries words j → tilesSays b h m maxima at entries words ≡ fail (refuse j)

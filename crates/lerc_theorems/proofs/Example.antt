@@ -1,59 +1,131 @@
--- The premise of demand 3 holds of a blob: three tiles of one pixel, a block with one offset, one of zeros and one of raw words.
+-- The premise of demand 3 holds of a blob: two rows, two columns and depth 2 in tiles of one pixel, its mask lent with a byte more than it has.
 -- Assumes nothing.
 use Prim.Native.Nat.{ℕ}
-use mathlib.Core.Path.{_≡_, refl}
+use mathlib.Core.Path.{_≡_, sym, ap, refl}
 use mathlib.Core.Bool.{false}
-use mathlib.Core.List.{List, [], _∷_}
+use mathlib.Core.List.{List, [], _∷_, _++_}
 use native.Mathlib.Omega.{arith}
+use denote.Ref.{RefT}
+use lib.ListN.{length, replicate, List·getD-append}
 use lib.Ieee.{size, span, climb}
-use Rattle.lerc_words.specs.Res.{wordAt, little, each}
+use Rattle.lerc_words.specs.Res.{Res, ok, fail, _>>=_, wordAt, little, each}
 use Rattle.lerc_words.specs.Lists.{from, count, allTo}
 use Rattle.lerc_numeric.specs.Numeric.{mag, code, sum, scaled, less, same, lesser}
 use Rattle.lerc_numeric.specs.Kinds.{integer, valueOf, whole, cut}
 use Rattle.lerc_samples.specs.Samples.{sampleAt, stored, offsetKinds, offsetKind}
+use Rattle.lerc_bits.specs.Packing.{bytesOf}
 use Rattle.lerc_mask.specs.Mask.{pixelValid}
+use Rattle.lerc_header.specs.declared.Header.{Header}
 use Rattle.lerc_header.specs.Shape.{strips}
 use Rattle.lerc_header.specs.Header.{errorRight, pairRight, fieldsRight, withinCeilings, held, keyRight, headerOf, headerSays}
-use Rattle.lerc_planes.specs.Validity.{new, uniform, maskSays, prepareSays}
-use Rattle.lerc_planes.specs.Ranges.{numberAt, byDepth, codedRanges, pairsRight, rangesSays, readRangesSays}
-use Rattle.lerc_block.specs.Block.{rawWords, levelBlock, offsetBlock, formed, blockSays}
+use Rattle.lerc_planes.specs.declared.Ranges.{Ranges}
+use Rattle.lerc_planes.specs.Validity.{new, uniform, maskSays}
+use Rattle.lerc_planes.specs.Ranges.{numberAt, byDepth, codedRanges, pairsRight, rangesSays, readRangesSays, rangesSaid}
+use Rattle.lerc_block.specs.Block.{levelBlock, offsetAt, finiteOffset, offsetBlock, formed, flagAt, blockSays}
 use Rattle.lerc_image.specs.Geometry.{tileOf, pixelOf, blockOf, placeIn, rank, isValidCell}
 use Rattle.lerc_image.specs.Paint.{painted, inBlock, indexOf}
-use Rattle.lerc_image.specs.Sweep.{modeAt, moded, swept}
+use Rattle.lerc_image.specs.Sweep.{moded, swept}
 use Rattle.lerc_image.specs.Blocks.{blockAt, chain}
-use Rattle.lerc_image.specs.Fill.{fillSays, fillImage}
-use Rattle.lerc_image.specs.Walk.{walked, bodyWalked, walkSays}
+use Rattle.lerc_image.specs.declared.FillAnswer.{FillAnswer}
+use Rattle.lerc_image.specs.declared.FillAnswer.the-variants as fill-answer
+use Rattle.lerc_image.specs.Fill.{fillSays, fillCount, fillSaid, fillImage}
 use Rattle.lerc_fills.specs.Each.{fillEach}
-use Rattle.lerc_theorems.specs.Witness.{row, ten, twelve}
-use Rattle.lerc_theorems.specs.DemandThree.{Case, Opened, filledBy}
+use Rattle.lerc.specs.Meaning.{blockBody, sweptBody, bodySays, meaningFrom, meaning}
+use Rattle.lerc_theorems.specs.Witness.{grid}
+use Rattle.lerc_theorems.specs.Calls.{RangesFrom, FillCall, FillCalls, none, more}
+use Rattle.lerc_theorems.specs.DemandThree.{Case, Opened, Fills}
+use Rattle.lerc_theorems.proofs.Calls.{fill-calls}
 
-abbrev pub three : List ℕ
-three = row 1 3 ten twelve [] (0x0A ∷ 0x0C ∷ 0x00 ∷ 0x00 ∷ 0x03 ∷ 0x0B ∷ 0x02 ∷ 0x00 ∷ 0x0C ∷ [])
+-- ---- calls, wherever the slices stand
+
+abbrev lent : List ℕ → RefT (List ℕ)
+lent s = record { ptr = (0, 0); name = 0; now = s }
+
+ranges-call : (b : List ℕ) (h : Header) (r : Ranges) → readRangesSays b h ≡ ok r → RangesFrom b h r
+ranges-call b h r e = record {
+  lives = (b, tt);
+  inputs = (lent b, (h, tt));
+  answer = rangesSaid (ok r);
+  outputs = (lent b, (h, tt));
+  promised = ap rangesSaid (sym e);
+  inputs-are = refl;
+  answer-is = refl;
+  outputs-are = refl;
+}
+
+abbrev answerOf : Res ℕ → FillAnswer
+answerOf (ok n) = fill-answer.Filled n
+answerOf (fail r) = fill-answer.Refused r
+
+answer-says : (a : Res ℕ) → fillSaid (answerOf a) ≡ a
+answer-says (ok n) = refl
+answer-says (fail r) = refl
+
+module _ (b : List ℕ) (h : Header) (r : Ranges) (m list : List ℕ) where
+  fill-made : (n : ℕ) (image : List ℕ) → FillCall b h r m list n (answerOf (fillSays b h r m list n (length image) >>= fillCount h m n)) image (fillImage b h r m list n image)
+  fill-made n image = record {
+    lives = (b, (m, (list, (image, tt))));
+    inputs = (lent b, (h, (r, (lent m, (lent list, (n, (lent image, tt)))))));
+    answer = answerOf (fillSays b h r m list n (length image) >>= fillCount h m n);
+    outputs = (lent b, (h, (r, (lent m, (lent list, (n, (lent (fillImage b h r m list n image), tt)))))));
+    promised = record { says = answer-says _; image = refl };
+    inputs-are = refl;
+    answer-is = refl;
+    outputs-are = refl;
+  }
+
+  -- any list of numbers has calls
+  pub fills-made : (ns image : List ℕ) → FillCalls b h r m list ns image (fillEach b h r m list ns image)
+  unfolding fillEach
+  fills-made [] image = none image
+  fills-made (n ∷ ns) image = more n ns image (fillImage b h r m list n image) (fillEach b h r m list ns (fillImage b h r m list n image)) _ (fill-made n image) (fills-made ns (fillImage b h r m list n image))
+
+-- ---- the blob
+
+abbrev gridStarts : List ℕ
+gridStarts = 75 ∷ 77 ∷ 79 ∷ 81 ∷ 83 ∷ 85 ∷ 87 ∷ 89 ∷ []
 
 abbrev pub example : Case
 example = record {
-  blob = three;
+  blob = grid;
   reuse = false;
   kept = 7 ∷ [];
-  spare = 1;
-  header = headerOf three;
-  mask = new (255 ∷ []);
-  ranges = codedRanges three (headerOf three);
-  entries = 3;
-  chain = record { starts = 74 ∷ 76 ∷ 77 ∷ []; words = (11 ∷ []) ∷ (0 ∷ []) ∷ (12 ∷ []) ∷ []; end = 79 };
-  list = 74 ∷ 76 ∷ 77 ∷ [];
-  image = 7 ∷ 7 ∷ 7 ∷ 7 ∷ [];
+  header = headerOf grid;
+  means = new (255 ∷ []);
+  chain = record {
+    starts = gridStarts;
+    words = (1 ∷ []) ∷ (2 ∷ []) ∷ (3 ∷ []) ∷ (4 ∷ []) ∷ (5 ∷ []) ∷ (6 ∷ []) ∷ (7 ∷ []) ∷ (8 ∷ []) ∷ [];
+    end = 91;
+  };
+  ranges = codedRanges grid (headerOf grid);
+  mask = 255 ∷ 9 ∷ [];
+  list = gridStarts ++ (9 ∷ []);
+  image = replicate 9 9;
 }
 
 pub opened : Opened example
-unfolding wordAt little each from count allTo mag code sum scaled less same lesser integer valueOf whole cut sampleAt stored offsetKinds offsetKind pixelValid strips errorRight pairRight
-    fieldsRight withinCeilings held keyRight headerOf headerSays uniform maskSays prepareSays numberAt byDepth codedRanges pairsRight rangesSays readRangesSays rawWords levelBlock
-    offsetBlock formed blockSays tileOf pixelOf rank blockAt chain modeAt moded swept walked bodyWalked walkSays size span climb
-opened = record { header = refl; mask = refl; ranges = refl; walk = refl; long = omega arith; starts = λ n l. refl; room = omega arith }
+unfolding bytesOf wordAt little each from count allTo mag code sum scaled less same lesser integer valueOf whole cut sampleAt stored offsetKinds offsetKind pixelValid strips errorRight pairRight
+    fieldsRight withinCeilings held keyRight headerOf headerSays uniform maskSays numberAt byDepth codedRanges pairsRight rangesSays readRangesSays levelBlock
+    offsetAt finiteOffset offsetBlock formed flagAt blockSays tileOf pixelOf rank blockAt chain moded swept blockBody sweptBody bodySays meaningFrom meaning size span climb
+opened = record {
+  means = refl;
+  kept = omega arith;
+  ranges = ranges-call grid (headerOf grid) (codedRanges grid (headerOf grid)) refl;
+  mask = refl;
+  long = omega arith;
+  starts = λ n l. List·getD-append gridStarts (9 ∷ []) 0 n l;
+  room = omega arith;
+}
 
--- the last block, the first, the last again, and one that there is not: the cell between them is as it was
-pub some-filled : filledBy example (2 ∷ 0 ∷ 2 ∷ 9 ∷ []) ≡ 11 ∷ 7 ∷ 12 ∷ 7 ∷ []
-unfolding wordAt little each from count allTo mag code sum scaled less same lesser integer valueOf whole cut sampleAt stored offsetKinds offsetKind pixelValid strips errorRight pairRight
-    fieldsRight withinCeilings held keyRight headerOf numberAt byDepth codedRanges pairsRight rawWords levelBlock offsetBlock formed blockSays tileOf pixelOf blockOf placeIn rank
+-- the last block, the first, the last again, and one that there is not: there are such calls, and in any of them the cells between are as they were
+abbrev some : List ℕ
+some = 7 ∷ 0 ∷ 7 ∷ 9 ∷ []
+
+pub some-calls : Fills example some (fillEach (example .blob) (example .header) (example .ranges) (example .mask) (example .list) some (example .image))
+some-calls = fills-made (example .blob) (example .header) (example .ranges) (example .mask) (example .list) some (example .image)
+
+pub some-filled : (left : List ℕ) → Fills example some left → left ≡ 1 ∷ 9 ∷ 9 ∷ 9 ∷ 9 ∷ 9 ∷ 9 ∷ 8 ∷ 9 ∷ []
+unfolding bytesOf wordAt little each from count allTo mag code sum scaled less same lesser integer valueOf whole cut sampleAt stored offsetKinds offsetKind pixelValid strips errorRight pairRight
+    fieldsRight withinCeilings held keyRight headerOf numberAt byDepth codedRanges pairsRight levelBlock offsetAt finiteOffset offsetBlock formed flagAt blockSays tileOf pixelOf blockOf placeIn rank
     isValidCell painted inBlock indexOf blockAt fillSays fillImage fillEach size span climb
-some-filled = refl
+some-filled left f = fill-calls some (example .image) left f

@@ -12,12 +12,13 @@ use lib.Dec.{leb, ltb}
 use borrow.Author.Tests.{le-leb, lt-ltb, le-ltb, leb-true, ltb-true}
 use Rattle.lerc_words.specs.Res.{ok, fail, refuse, require}
 use Rattle.lerc_words.specs.Lists.{over, total}
-use Rattle.lerc_words.proofs.Laws.{bind-is, require-is, and-is}
+use Rattle.lerc_words.proofs.Laws.{bind-is, require-is, and-is, ok-is}
 use Rattle.lerc_header.specs.declared.Header.{Header}
 use Rattle.lerc_header.specs.Shape.{cells, blockCount, maskLength, Shaped}
 use Rattle.lerc_header.specs.Header.{shapeOf, extentOf, held}
 use Rattle.lerc_header.proofs.Kept.{held-is, held-shaped}
 use Rattle.lerc_planes.specs.declared.Ranges.{Ranges}
+use Rattle.lerc_planes.specs.Validity.{InForce, bytesOf}
 use Rattle.lerc_planes.specs.Ranges.{pairsRight, readRangesSays}
 use Rattle.lerc_image.specs.Paint.{filled, fills}
 use Rattle.lerc_image.specs.Sweep.{Way, rawFrom, blocksFrom, swept}
@@ -28,10 +29,11 @@ use Rattle.lerc_image.proofs.Chain.{chain-block, chain-lengths}
 use Rattle.lerc_image.proofs.Decoding.{getD-any}
 use Rattle.lerc_fills.specs.Each.{one, filledOf, fillEach}
 use Rattle.lerc_fills.proofs.Turns.{length-fill}
-use Rattle.lerc.specs.Meaning.{blocks, bodySays}
+use Rattle.lerc.specs.Meaning.{blocks, bodySays, meaning}
 use Rattle.lerc.proofs.Whole.{ranges-held}
 use Rattle.lerc_theorems.specs.DemandThree.{below}
-use Rattle.lerc_theorems.proofs.Bodies.{coded-says}
+use Rattle.lerc_theorems.proofs.Bodies.{coded-is, coded-says}
+use Rattle.lerc_theorems.proofs.Meanings.{meaning-is, keeps, pairs-kept, mask-kept}
 
 -- ---- what an accepted walk tells
 
@@ -96,6 +98,35 @@ walked-body b h r m entries c w e =
     is-false true q = absurd (let z : _≡_ {A = ℕ} 0 1 = cc in omega arith)
     is-false false q = refl
 
+-- a body in blocks is walked, with the ranges that it has
+pub means-walking : (b : List ℕ) (reuse : Bool) (kept : List ℕ) (h : Header) (f : InForce) (c : Chain) → meaning b reuse kept ≡ ok (record { header = h; mask = f; body = blocks c })
+    → maskLength (shapeOf h) ≤ length kept → (r : Ranges) → readRangesSays b h ≡ ok r → (entries : ℕ) → blockCount (shapeOf h) ≤ entries → Walking b h r (bytesOf f) entries c
+means-walking b reuse kept h f c e l r q entries room =
+    let p = meaning-is b reuse kept (record { header = h; mask = f; body = blocks c }) e in
+    let w = keeps b reuse kept _ p in
+    let k = coded-is (take (h .size) b) h (bytesOf f) c (p .body) in
+    let i : k .ranges ≡ r = ok-is (sym (k .read) ∙ sym (ranges-held b h w) ∙ q) in
+    let z = mask-kept b reuse kept _ p l .size in
+    rw (← i) (record {
+      kept = w;
+      mask = omega (arith, z);
+      list = room;
+      pairs = pairs-kept b reuse kept _ p (k .ranges) (k .read) .pairs;
+      some = pos (h .valid) (k .some);
+      coded = ap not (k .coded);
+      from = k .from;
+      sweep = k .sweep;
+      blocks = k .is;
+    })
+  where
+    pos : (n : ℕ) → (n ≡ 0 → ⊥) → 0 < n
+    pos zero q = absurd (q refl)
+    pos (suc n) q = omega arith
+
+pub walking-says : (b : List ℕ) (h : Header) (r : Ranges) (m : List ℕ) (entries : ℕ) (c : Chain) → Walking b h r m entries c → walkSays b h r m entries ≡ ok c
+unfolding walkSays bodyWalked walked
+walking-says b h r m entries c w = rw (w .kept, le-leb _ _ (w .mask), le-leb _ _ (w .list), w .pairs, lt-ltb _ _ (w .some), w .coded, w .sweep) (w .blocks)
+
 -- ---- fills with its header, ranges, mask and list
 
 module _ (b : List ℕ) (h : Header) (r : Ranges) (m : List ℕ) (entries : ℕ) (c : Chain) (w : Walking b h r m entries c) where
@@ -159,15 +190,15 @@ module _ (b : List ℕ) (h : Header) (r : Ranges) (m list : List ℕ) (c : Chain
   many : length (c .starts) ≡ blockCount (shapeOf h)
   many = chain-lengths (take (h .size) b) h (r .max) m (blockCount (shapeOf h)) 0 (w .from) c (w .blocks) .0
 
-  left : walkList b h r m list ≡ over (c .starts) list
+  pub left-is : walkList b h r m list ≡ over (c .starts) list
   unfolding walkList
-  left = rw (e)
+  left-is = rw (e)
 
   pub left-long : blockCount (shapeOf h) ≤ length (walkList b h r m list)
-  left-long = rw (left, length-append) (omega (arith, many))
+  left-long = rw (left-is, length-append) (omega (arith, many))
 
   pub left-starts : (n : ℕ) → n < blockCount (shapeOf h) → getD (walkList b h r m list) n 0 ≡ getD (c .starts) n 0
-  left-starts n l = rw (left) (List·getD-append (c .starts) (drop (length (c .starts)) list) 0 n (let z : n < length (c .starts) = omega (arith, many) in z))
+  left-starts n l = rw (left-is) (List·getD-append (c .starts) (drop (length (c .starts)) list) 0 n (let z : n < length (c .starts) = omega (arith, many) in z))
 
 -- ---- sums
 

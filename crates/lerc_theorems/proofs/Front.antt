@@ -3,7 +3,7 @@
 use mathlib.Core.Path.{_≡_, _∙_, sym, ap, refl}
 use mathlib.Core.Bool.{Bool, true, false, cond}
 use mathlib.Core.List.{List, [], _∷_}
-use Prim.Native.Nat.{ℕ, zero, suc, _+_, _-_, _*_, _/_, _%_, _≤_, _<_}
+use Prim.Native.Nat.{ℕ, zero, suc, _+_, _-_, _*_, _%_, _≤_, _<_}
 use native.Mathlib.Nat.{mul-le-mul-right, suc-mul, zero-add, suc-add}
 use native.Mathlib.Omega.{arith}
 use lib.ListN.{length, getD, take, drop, replicate}
@@ -14,13 +14,14 @@ use Rattle.lerc_words.specs.Res.{ok, _>>=_, require, each, little, wordAt}
 use Rattle.lerc_words.specs.Lists.{tabulate}
 use Rattle.lerc_words.proofs.Laws.{Stays, bind-is, require-is, ok-is, little-same, wordAt-is, wordAt-ok}
 use Rattle.lerc_words.proofs.Tables.{tabulate-same}
-use Rattle.lerc_numeric.specs.Numeric.{finite, same}
+use Rattle.lerc_numeric.specs.Numeric.{same}
 use Rattle.lerc_numeric.specs.Kinds.{typeSize, valueOf}
-use Rattle.lerc_samples.specs.Samples.{sampleAt, stored, offsetKind}
+use Rattle.lerc_samples.specs.Samples.{sampleAt, stored}
 use Rattle.lerc_bits.specs.Bits.{Counts, counts}
 use Rattle.lerc_bits.proofs.Values.{counts-ends}
 use Rattle.lerc_bits.proofs.Local.{counts-stays}
-use Rattle.lerc_block.specs.Block.{Block, rawWords, levelBlock, stepValue, steppedBlock, offsetBlock, formed, blockSays}
+use Rattle.lerc_block.specs.Block.{Block, Offset, rawWords, levelBlock, stepValue, steppedBlock, offsetAt, finiteOffset, offsetBlock, formed, flagAt, blockSays}
+use Rattle.lerc_block.proofs.Answers.{offset-is, finite-is, flag-is}
 use Rattle.lerc_block.proofs.Accepted.{block-ends}
 use Rattle.lerc_header.specs.declared.Header.{Header}
 use Rattle.lerc_header.specs.Limits.{depthLimit}
@@ -88,6 +89,14 @@ module _ {s t : List ℕ} {k : ℕ} (a : Agree s t k) where
       let m : Stays s at t at n = record { same = λ i r. (let y : at + i < k = omega arith in byte (at + i) y); room = omega (arith, a .room, z) } in
       rw (z) at (counts-stays m e (sym z))
 
+  finite-agrees : (at kind flag : ℕ) (o : Offset) → finiteOffset s at kind flag ≡ ok o → o .next ≤ k → finiteOffset t at kind flag ≡ ok o
+  unfolding finiteOffset offsetAt
+  finite-agrees at kind flag o e l =
+      let (p, q) = finite-is s at kind flag e in
+      let f = offset-is s at kind flag p in
+      let z = f .ends in
+      rw (f .named, sample-agrees (f .k) at (o .value) (f .sampled) (omega (arith, z)), q, ← z)
+
   module _ (kind error top n : ℕ) (b : Block) (l : b .next ≤ k) where
     stepped-agrees : (at offset : ℕ) → steppedBlock s at kind error top offset n ≡ ok b → (at ≤ b .next) × (steppedBlock t at kind error top offset n ≡ ok b)
     unfolding steppedBlock
@@ -109,11 +118,9 @@ module _ {s t : List ℕ} {k : ℕ} (a : Agree s t k) where
     offset-agrees : (at flag : ℕ) → offsetBlock s at kind error top flag n ≡ ok b → offsetBlock t at kind error top flag n ≡ ok b
     unfolding offsetBlock
     offset-agrees at flag e =
-        let (c, p, e) = bind-is (offsetKind kind (flag / 64)) _ e in
-        let (offset, q, e) = bind-is (sampleAt c s at) _ e in
-        let (_, r, e) = bind-is (require (finite offset) 8) _ e in
-        let (z, e) = go (at + typeSize c) offset (eqb (flag % 4) 3) e in
-        rw (p, sample-agrees c at offset q (omega (arith, z)), require-is (finite offset) 8 r) e
+        let (o, p, e) = bind-is (finiteOffset s at kind flag) _ e in
+        let (z, e) = go (o .next) (o .value) (eqb (flag % 4) 3) e in
+        rw (finite-agrees at kind flag o p (omega (arith, z))) e
       where
         go : (to offset : ℕ) (x : Bool) → cond x (levelBlock to kind offset n) (steppedBlock s to kind error top offset n) ≡ ok b
             → (to ≤ b .next) × (cond x (levelBlock to kind offset n) (steppedBlock t to kind error top offset n) ≡ ok b)
@@ -132,12 +139,12 @@ module _ {s t : List ℕ} {k : ℕ} (a : Agree s t k) where
         go false false e = offset-agrees at flag e
 
     pub block-agrees : (at x : ℕ) → blockSays s at kind error top x n ≡ ok b → blockSays t at kind error top x n ≡ ok b
-    unfolding blockSays
+    unfolding blockSays flagAt
     block-agrees at x e =
         let d = block-ends s at kind error top x n e in
-        let (flag, p, e) = bind-is (wordAt 1 s at) _ e in
-        let (_, q, e) = bind-is (require (eqb (flag / 4 % 16) (x / 8 % 16)) 8) _ e in
-        rw (word-agrees 1 at flag p (omega (arith, d .0)), require-is (eqb (flag / 4 % 16) (x / 8 % 16)) 8 q) (formed-agrees (at + 1) flag e)
+        let (flag, p, e) = bind-is (flagAt s at x) _ e in
+        let (w, q) = flag-is s at x p in
+        rw (word-agrees 1 at flag w (omega (arith, d .0)), q) (formed-agrees (at + 1) flag e)
 
   -- ---- the blocks of a body
 

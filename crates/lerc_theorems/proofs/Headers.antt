@@ -1,6 +1,6 @@
 -- When a header, a mask or ranges are refused: the table holds exactly.
 -- Assumes nothing.
-use mathlib.Core.Path.{_≡_, _∙_, refl}
+use mathlib.Core.Path.{_≡_, _∙_, refl, subst}
 use mathlib.Core.Logic.{_↔_, _≢_, _⊎_, inl, inr, ⊎-elim}
 use mathlib.Core.Bool.{Bool, true, false, cond, _&&_}
 use mathlib.Core.List.{List}
@@ -9,7 +9,7 @@ use native.Mathlib.Omega.{arith}
 use lib.ListN.{length, take, drop}
 use lib.Dec.{leb, eqb}
 use borrow.Author.Tests.{leb-true, leb-false, le-leb, lt-leb, eqb-true, eqb-false, eq-eqb, ne-eqb}
-use Rattle.lerc_words.specs.Res.{ok, fail, refuse, require}
+use Rattle.lerc_words.specs.Res.{Res, ok, fail, _>>=_, refuse, require}
 use Rattle.lerc_words.proofs.Laws.{bind-is, require-is, and-is}
 use Rattle.lerc_numeric.specs.Numeric.{same}
 use Rattle.lerc_header.specs.declared.Header.{Header}
@@ -21,7 +21,7 @@ use Rattle.lerc_mask.specs.Mask.{validBelow, coded}
 use Rattle.lerc_mask.proofs.Runs.{coded-six}
 use Rattle.lerc_planes.specs.Validity.{uniform, kept, unrolled, maskSays, prepareSays}
 use Rattle.lerc_planes.specs.Ranges.{rangesEnd, codedRanges, pairsRight, rangesSays, readRangesSays}
-use Rattle.lerc_theorems.specs.Table.{HeldRight, HeldRefused, field-wrong, ceiling-passed, blob-cut, HeaderRefused, header-cut, key-wrong, not-held, Even, MaskWrong, even-coded, not-allowed, miscounted, runs-wrong, PrepareRefused, mask-held, mask-room, mask-wrong, RangesRefused, ranges-cut, pairs-wrong, ReadRangesRefused, ranges-held, ranges-wrong}
+use Rattle.lerc_theorems.specs.Table.{HeldRight, HeldRefused, field-wrong, ceiling-passed, blob-cut, HeaderRefused, header-cut, key-wrong, not-held, Uniform, MaskWrong, uniform-coded, not-allowed, miscounted, runs-wrong, PrepareRefused, mask-held, mask-room, mask-wrong, RangesRefused, ranges-cut, pairs-wrong, ReadRangesRefused, ranges-held, ranges-wrong}
 use Rattle.lerc_theorems.proofs.Masks.{coded-wrong, wrong-coded}
 use Rattle.lerc_theorems.proofs.Wrong.{pairs-not, not-pairs, fields-not, not-fields, ceilings-not, not-ceilings}
 use Rattle.lerc_theorems.proofs.Demands.{demand, reading, reading-one, choosing, not-refused, and-not, and-first, and-second}
@@ -57,6 +57,10 @@ module _ (h : Header) (len : ℕ) where
   pub held-exactly : (n : ℕ) → (held h len ≡ fail (refuse n)) ↔ HeldRefused h len n
   held-exactly n = (held-refused, refused-held)
 
+  -- a chain that begins by holding a header is refused: so is the header, or it is right and the rest is refused
+  pub holding : (P : ℕ → Type 0) {j : ℕ} {B : Type 0} (k : Extent → Res B) → (held h len >>= k) ≡ fail (refuse j) → (HeldRefused h len j → P j) → (HeldRight h len → k (extentOf h) ≡ fail (refuse j) → P j) → P j
+  holding P {j} k e f g = reading P (held h len) k e (λ d. f (held-refused d)) (λ x d e. g (held-right d) (subst (λ y. k y ≡ fail (refuse j)) (held-is h len d) e))
+
 module _ (b : List ℕ) where
   header-refused : {n : ℕ} → headerSays b ≡ fail (refuse n) → HeaderRefused b n
   unfolding headerSays
@@ -88,17 +92,17 @@ module _ (s : List ℕ) (h : Header) (reuse : Bool) (old : List ℕ) where
   abbrev Wrong : ℕ → Type 0
   Wrong n = (n ≡ 6) × MaskWrong s h reuse old
 
-  uniform-refused : {n : ℕ} (byte : ℕ) → Even h → uniform h byte ≡ fail (refuse n) → Wrong n
+  uniform-refused : {n : ℕ} (byte : ℕ) → Uniform h → uniform h byte ≡ fail (refuse n) → Wrong n
   unfolding uniform
-  uniform-refused byte v e = demand Wrong (eqb (h .mask) 0) 6 _ e (λ t. (refl, even-coded v (eqb-false _ _ t))) (λ t e. not-refused e)
+  uniform-refused byte v e = demand Wrong (eqb (h .mask) 0) 6 _ e (λ t. (refl, uniform-coded v (eqb-false _ _ t))) (λ t e. not-refused e)
 
-  kept-refused : {n : ℕ} → (Even h → ⊥) → h .mask ≡ 0 → kept h reuse old ≡ fail (refuse n) → Wrong n
+  kept-refused : {n : ℕ} → (Uniform h → ⊥) → h .mask ≡ 0 → kept h reuse old ≡ fail (refuse n) → Wrong n
   unfolding kept
   kept-refused u z e =
       demand Wrong reuse 6 _ e (λ t. (refl, not-allowed u z t)) (λ a e.
       demand Wrong (eqb (validBelow (pixels (shapeOf h)) (take (maskLength (shapeOf h)) old)) (h .valid)) 6 _ e (λ t. (refl, miscounted u z a (eqb-false _ _ t))) (λ t e. not-refused e))
 
-  unrolled-refused : {n : ℕ} → (Even h → ⊥) → h .mask ≢ 0 → unrolled s h ≡ fail (refuse n) → Wrong n
+  unrolled-refused : {n : ℕ} → (Uniform h → ⊥) → h .mask ≢ 0 → unrolled s h ≡ fail (refuse n) → Wrong n
   unfolding unrolled
   unrolled-refused u z e =
       let c = coded (take (h .mask) (drop headerBytes s)) (pixels (shapeOf h)) (h .valid) in
@@ -109,24 +113,24 @@ module _ (s : List ℕ) (h : Header) (reuse : Bool) (old : List ℕ) where
   mask-refused e =
       choosing Wrong (eqb (h .valid) 0) _ _ e (λ t e. uniform-refused 0 (inl (eqb-true _ _ t)) e) (λ t e.
       choosing Wrong (eqb (h .valid) (pixels (shapeOf h))) _ _ e (λ u e. uniform-refused 255 (inr (eqb-true _ _ u)) e) (λ u e.
-      let v : Even h → ⊥ = ⊎-elim (eqb-false _ _ t) (eqb-false _ _ u) in
+      let v : Uniform h → ⊥ = ⊎-elim (eqb-false _ _ t) (eqb-false _ _ u) in
       choosing Wrong (eqb (h .mask) 0) _ _ e (λ z e. kept-refused v (eqb-true _ _ z) e) (λ z e. unrolled-refused v (eqb-false _ _ z) e)))
 
-  not-even : (Even h → ⊥) → maskSays s h reuse old ≡ cond (eqb (h .mask) 0) (kept h reuse old) (unrolled s h)
+  not-uniform : (Uniform h → ⊥) → maskSays s h reuse old ≡ cond (eqb (h .mask) 0) (kept h reuse old) (unrolled s h)
   unfolding maskSays
-  not-even u = rw (ne-eqb (h .valid) 0 (λ e. u (inl e)), ne-eqb (h .valid) (pixels (shapeOf h)) (λ e. u (inr e)))
+  not-uniform u = rw (ne-eqb (h .valid) 0 (λ e. u (inl e)), ne-eqb (h .valid) (pixels (shapeOf h)) (λ e. u (inr e)))
 
-  refused-even : (byte : ℕ) → h .mask ≢ 0 → uniform h byte ≡ fail (refuse 6)
+  refused-uniform : (byte : ℕ) → h .mask ≢ 0 → uniform h byte ≡ fail (refuse 6)
   unfolding uniform
-  refused-even byte z = rw (ne-eqb _ _ z)
+  refused-uniform byte z = rw (ne-eqb _ _ z)
 
   refused-mask : MaskWrong s h reuse old → maskSays s h reuse old ≡ fail (refuse 6)
   unfolding maskSays kept unrolled
-  refused-mask (even-coded v z) =
-      pick (eqb (h .valid) 0) (eqb (h .valid) (pixels (shapeOf h))) _ (refused-even 0 z) (refused-even 255 z) (⊎-elim (λ e. inl (eq-eqb _ _ e)) (λ e. inr (eq-eqb _ _ e)) v)
-  refused-mask (not-allowed u z a) = not-even u ∙ rw (eq-eqb _ _ z, a)
-  refused-mask (miscounted u z a c) = not-even u ∙ rw (eq-eqb _ _ z, a, ne-eqb _ _ c)
-  refused-mask (runs-wrong u z c) = not-even u ∙ rw (ne-eqb _ _ z, wrong-coded (take (h .mask) (drop headerBytes s)) (pixels (shapeOf h)) (h .valid) c)
+  refused-mask (uniform-coded v z) =
+      pick (eqb (h .valid) 0) (eqb (h .valid) (pixels (shapeOf h))) _ (refused-uniform 0 z) (refused-uniform 255 z) (⊎-elim (λ e. inl (eq-eqb _ _ e)) (λ e. inr (eq-eqb _ _ e)) v)
+  refused-mask (not-allowed u z a) = not-uniform u ∙ rw (eq-eqb _ _ z, a)
+  refused-mask (miscounted u z a c) = not-uniform u ∙ rw (eq-eqb _ _ z, a, ne-eqb _ _ c)
+  refused-mask (runs-wrong u z c) = not-uniform u ∙ rw (ne-eqb _ _ z, wrong-coded (take (h .mask) (drop headerBytes s)) (pixels (shapeOf h)) (h .valid) c)
 
   pub mask-exactly : (n : ℕ) → (maskSays s h reuse old ≡ fail (refuse n)) ↔ ((n ≡ 6) × MaskWrong s h reuse old)
   mask-exactly n = (mask-refused, λ p. rw (p .0) (refused-mask (p .1)))
@@ -136,11 +140,8 @@ module _ (b : List ℕ) (h : Header) (reuse : Bool) (old : List ℕ) (room : ℕ
   unfolding prepareSays
   prepare-refused {n} e =
       let P = PrepareRefused b h reuse old room in
-      reading P (held h (length b)) _ e (λ d. mask-held (held-exactly h (length b) n .0 d)) (λ x d e.
-      let i : x ≡ extentOf h = held-is h (length b) d in
-      let r = held-right h (length b) d in
-      let e' = rw (i) at e in
-      demand P (leb (maskLength (shapeOf h)) (length old) && leb (maskLength (shapeOf h)) room) 5 _ e'
+      holding h (length b) P _ e (λ d. mask-held d) (λ r e.
+      demand P (leb (maskLength (shapeOf h)) (length old) && leb (maskLength (shapeOf h)) room) 5 _ e
       (λ t. mask-room r (⊎-elim (λ u. inl (leb-false _ _ u)) (λ u. inr (leb-false _ _ u)) (and-not _ _ t)))
       (λ t e. let (u, v) = and-is _ _ t in let (z, w) = mask-exactly (take (h .size) b) h reuse old n .0 e in
       rw (z) (mask-wrong r (leb-true _ _ u) (leb-true _ _ v) w)))
@@ -178,8 +179,7 @@ module _ (b : List ℕ) (h : Header) where
   read-ranges-refused : {n : ℕ} → readRangesSays b h ≡ fail (refuse n) → ReadRangesRefused b h n
   unfolding readRangesSays
   read-ranges-refused {n} e =
-      reading (ReadRangesRefused b h) (held h (length b)) _ e (λ d. ranges-held (held-exactly h (length b) n .0 d)) (λ x d e.
-      ranges-wrong (held-right h (length b) d) (ranges-exactly (take (h .size) b) h n .0 e))
+      holding h (length b) (ReadRangesRefused b h) _ e (λ d. ranges-held d) (λ r e. ranges-wrong r (ranges-exactly (take (h .size) b) h n .0 e))
 
   refused-read-ranges : {n : ℕ} → ReadRangesRefused b h n → readRangesSays b h ≡ fail (refuse n)
   unfolding readRangesSays

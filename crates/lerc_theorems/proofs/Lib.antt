@@ -1,8 +1,11 @@
 pub mod Answers
 pub mod Determined
 pub mod Refusals
+pub mod InC
 pub mod Writes
 pub mod Demands
+pub mod Calls
+pub mod Longer
 pub mod Wrong
 pub mod Masks
 pub mod Headers

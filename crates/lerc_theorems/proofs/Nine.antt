@@ -12,7 +12,7 @@ use lib.Dec.{leb, ltb, eqb}
 use borrow.Author.Tests.{eqb-false, ne-eqb}
 use Rattle.lerc_words.specs.declared.Refusal.{Refusal}
 use Rattle.lerc_words.specs.Res.{Res, ok, fail, _>>=_, refuse, require, each, wordAt}
-use Rattle.lerc_words.proofs.Laws.{bind-is, ok-is, and-is}
+use Rattle.lerc_words.proofs.Laws.{bind-is, ok-is, and-is, bind-fail}
 use Rattle.lerc_words.proofs.Each.{each-replicate, each-replicate-fails}
 use Rattle.lerc_numeric.specs.Numeric.{negative, same}
 use Rattle.lerc_numeric.specs.Kinds.{valueOf}
@@ -34,7 +34,6 @@ use Rattle.lerc_image.specs.Geometry.{tileOf}
 use Rattle.lerc_image.specs.Sweep.{Way, rawFrom, blocksFrom, hasModeByte, modeAt, moded, swept}
 use Rattle.lerc_image.specs.Blocks.{blockAt, chain, allBlocks}
 use Rattle.lerc_image.proofs.Partition.{tile-depth}
-use Rattle.lerc_image.proofs.Reading.{bind-fail}
 use Rattle.lerc.specs.Meaning.{empty, constant, rawBody, blockBody, bodyFrom, sweptBody, constantBody, bodySays, meaningFrom, meaning}
 use Rattle.lerc_theorems.specs.DemandTwo.{Unstored}
 use Rattle.lerc_block.specs.Block.{rawWords}

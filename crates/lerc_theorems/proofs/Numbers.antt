@@ -10,7 +10,7 @@ use lib.Dec.{leb}
 use borrow.Author.Tests.{leb-true, leb-false, le-leb, lt-leb}
 use Rattle.lerc_words.specs.declared.Refusal.{Refusal}
 use Rattle.lerc_words.specs.Res.{Res, ok, fail, _>>=_, refuse, require}
-use Rattle.lerc_words.proofs.Laws.{bind-no}
+use Rattle.lerc_words.proofs.Laws.{bind-no, bind-fail}
 use Rattle.lerc_bits.proofs.Answers.{plan-same}
 use Rattle.lerc_header.specs.Limits.{depthLimit}
 use Rattle.lerc_mask.specs.Mask.{maskBytes, decoded}
@@ -24,7 +24,6 @@ use Rattle.lerc_planes.specs.Validity.{InForce, reused, new, which}
 use Rattle.lerc_planes.specs.Ranges.{pairsRight, pairsSays, rangesSaid, constantsSaid}
 use Rattle.lerc_block.proofs.Answers.{said-same as block-same}
 use Rattle.lerc_image.specs.Paint.{among}
-use Rattle.lerc_image.proofs.Reading.{bind-fail}
 use Rattle.lerc_theorems.specs.Table.{RunsRefused, runs-room, runs-breach, PairsRefused, pair-wrong}
 use Rattle.lerc_theorems.specs.Numbers.{NumbersExactly, NumbersOnly}
 use Rattle.lerc_theorems.proofs.Answers.{word-same, integer-same, offset-same, sample-same, stored-same, counts-same, header-same, held-same, runs-same, mask-same, pairs-same, way-same, walk-same, fill-same, read-same}

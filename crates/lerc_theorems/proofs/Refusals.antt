@@ -8,7 +8,7 @@ use native.Mathlib.Omega.{arith}
 use lib.ListN.{length, take, replicate}
 use Rattle.lerc_words.specs.declared.Refusal.{Refusal}
 use Rattle.lerc_words.specs.Res.{Res, ok, fail, _>>=_, require, after}
-use Rattle.lerc_words.proofs.Laws.{bind-is, require-is, ok-is}
+use Rattle.lerc_words.proofs.Laws.{bind-is, require-is, ok-is, bind-fail}
 use Rattle.lerc_header.specs.declared.Header.{Header}
 use Rattle.lerc_header.specs.Limits.{depthLimit}
 use Rattle.lerc_header.specs.Header.{shapeOf, headerSays}
@@ -35,7 +35,6 @@ use Rattle.lerc_planes.specs.declared.MaskAnswer.the-variants as mask
 use Rattle.lerc_planes.specs.Validity.{Prepared, InForce, reused, new, which, maskSays, inForce}
 use Rattle.lerc_planes.specs.Ranges.{noRanges, rangesSaid, readRangesSays, constantWords, constantsSaid}
 use Rattle.lerc_planes.proofs.ValidityLaws.{mask-told}
-use Rattle.lerc_image.proofs.Reading.{bind-fail}
 use Rattle.lerc.specs.declared.ReadAnswer.the-variants as read
 use Rattle.lerc.specs.Read.{Lent, room, Masked, masked, readSays, refusedAfter, WholeRead}
 use Rattle.lerc_theorems.specs.Refusals.{RefusalsKeep, RefusalsEmpty, NewMask, WholeKeeps}

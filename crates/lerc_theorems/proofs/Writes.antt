@@ -1,8 +1,8 @@
 -- What an outcome writes, and nothing else.
 -- Assumes nothing.
 use mathlib.Core.Path.{_≡_, _∙_, sym, ap, refl}
-use mathlib.Core.Bool.{Bool, false, _&&_}
-use mathlib.Core.List.{List, [], _++_}
+use mathlib.Core.Bool.{Bool, true, false, _&&_, _||_}
+use mathlib.Core.List.{List, [], _∷_, _++_}
 use Prim.Native.Nat.{ℕ, _+_, _-_, _≤_, _<_}
 use native.Mathlib.Omega.{arith}
 use native.Mathlib.Decide.{decLt}
@@ -13,6 +13,8 @@ use borrow.Author.Tests.{leb-true}
 use Rattle.lerc_words.specs.Res.{Res, ok, fail, require, after}
 use Rattle.lerc_words.specs.Lists.{over}
 use Rattle.lerc_words.proofs.Laws.{bind-is, require-is, and-is, ok-is, cond-elim}
+use Rattle.lerc_bits.specs.declared.CountsAnswer.the-variants as counts
+use Rattle.lerc_bits.specs.Bits.{Counts, Span, Decoded}
 use Rattle.lerc_header.specs.declared.Header.{Header}
 use Rattle.lerc_header.specs.Header.{shapeOf, extentOf, held}
 use Rattle.lerc_header.specs.Shape.{cells, maskLength, blockCount}
@@ -23,43 +25,49 @@ use Rattle.lerc_planes.specs.declared.Ranges.{Ranges}
 use Rattle.lerc_planes.specs.declared.MaskAnswer.{MaskAnswer}
 use Rattle.lerc_planes.specs.Validity.{InForce, reused, new, bytesOf, prepareSays, spareWith, Prepared}
 use Rattle.lerc_planes.proofs.ValidityLaws.{prepare-found, mask-length, mask-told}
+use Rattle.lerc_block.specs.declared.BlockAnswer.the-variants as block
+use Rattle.lerc_block.specs.Block.{tileLimit, readBlockSays, BlockRead}
+use Rattle.lerc_block.proofs.Accepted.{block-words}
 use Rattle.lerc_image.specs.Paint.{painted, inBlock, wordOf}
 use Rattle.lerc_image.proofs.Painting.{length-painted, painted-cell}
 use Rattle.lerc_planes.specs.Ranges.{rangesSays}
 use Rattle.lerc_image.specs.declared.WalkAnswer.{WalkAnswer}
-use Rattle.lerc_image.specs.declared.FillAnswer.{FillAnswer}
 use Rattle.lerc_image.specs.Geometry.{isValidCell}
 use Rattle.lerc_image.specs.Sweep.{Way, rawFrom, blocksFrom, swept}
 use Rattle.lerc_image.specs.Blocks.{Chain, chain}
 use Rattle.lerc_image.specs.Walk.{walkSays, walkList, Walked}
-use Rattle.lerc_image.specs.Fill.{fillSays, fillImage, Filled}
+use Rattle.lerc_image.specs.Fill.{fillSays, fillImage}
 use Rattle.lerc_image.specs.Tiles.{tilesSays, Tiled}
 use Rattle.lerc_image.proofs.Chain.{chain-lengths}
+use Rattle.lerc_fills.specs.Each.{fillEach}
 use Rattle.lerc.specs.declared.ReadAnswer.the-variants as read
 use Rattle.lerc.specs.Meaning.{Meaning, Body, startsOf, bodyFrom, blockBody, sweptBody, bodySays, meaningFrom}
 use Rattle.lerc.specs.Read.{Lent, room, Masked, masked, readSays, published, readAfter, Whole, readCount, WholeRead}
 use Rattle.lerc.proofs.Whole.{constant-starts, raw-starts}
-use Rattle.lerc_theorems.specs.Writes.{AlikeFrom, AlikeBut, WritesOnly, WholeWrites}
+use Rattle.lerc_theorems.specs.Writes.{AlikeFrom, AlikeBut, inSome, WritesOnly, WholeWrites}
 use Rattle.lerc_theorems.proofs.Refusals.{masked-is}
 use Rattle.lerc_theorems.proofs.Meanings.{rooms}
 use Rattle.lerc_theorems.proofs.Fills.{walk-is}
 
 -- ---- lists
 
+or-false : (a b : Bool) → (a || b) ≡ false → (a ≡ false) × (b ≡ false)
+or-false true b e = absurd (let z : _≡_ {A = ℕ} 0 1 = cc in omega arith)
+or-false false b e = (refl, e)
+
 alike-same : (n : ℕ) {old x : List ℕ} → x ≡ old → AlikeFrom n old x
 alike-same n e = rw (e) (record { long = refl; rest = λ i l. refl })
 
--- new entries in front
+-- behind new entries in front
+over-rest : (front old : List ℕ) (i : ℕ) → length front ≤ i → getD (over front old) i 0 ≡ getD old i 0
+over-rest front old i l =
+    let e : length front + (i - length front) ≡ i = omega arith in
+    let p : getD (front ++ drop (length front) old) (length front + (i - length front)) 0 ≡ getD (drop (length front) old) (i - length front) 0 = getD-append-add front (drop (length front) old) (i - length front) 0 in
+    let q : getD (drop (length front) old) (i - length front) 0 ≡ getD old (length front + (i - length front)) 0 = getD-drop (length front) old (i - length front) 0 in
+    rw (e) at (p ∙ q)
+
 alike-over : (front old : List ℕ) → length front ≤ length old → AlikeFrom (length front) old (over front old)
-alike-over front old h =
-    record {
-      long = rw (length-append, length-drop) (omega arith);
-      rest = λ i l.
-          let e : length front + (i - length front) ≡ i = omega arith in
-          let p : getD (front ++ drop (length front) old) (length front + (i - length front)) 0 ≡ getD (drop (length front) old) (i - length front) 0 = getD-append-add front (drop (length front) old) (i - length front) 0 in
-          let q : getD (drop (length front) old) (i - length front) 0 ≡ getD old (length front + (i - length front)) 0 = getD-drop (length front) old (i - length front) 0 in
-          rw (e) at (p ∙ q);
-    }
+alike-over front old h = record { long = rw (length-append, length-drop) (omega arith); rest = over-rest front old }
 
 but-same : (cells : ℕ → Bool) {old x : List ℕ} → x ≡ old → AlikeBut cells old x
 but-same cells e = rw (e) (record { long = refl; rest = λ c l. refl })
@@ -74,6 +82,16 @@ but-painted image which word = record { long = length-painted image word which; 
         let k : length (painted image which word) ≤ c = rw (length-painted image word which) l in
         List·getD-eq-default (painted image which word) 0 k ∙ sym (List·getD-eq-default image 0 l)
 
+-- one after the other
+but-then : {which others : ℕ → Bool} {old mid x : List ℕ} → AlikeBut which old mid → AlikeBut others mid x → AlikeBut (λ c. which c || others c) old x
+but-then {which} {others} p q =
+    record {
+      long = q .long ∙ p .long;
+      rest = λ c e.
+          let (f, g) = or-false (which c) (others c) e in
+          q .rest c g ∙ p .rest c f;
+    }
+
 -- new entries of a known number, or as before where the answer is a refusal
 alike-after : {A : Type 0} (n : ℕ) (m : Res A) (front : A → List ℕ) {old x : List ℕ} → ((a : A) → m ≡ ok a → (length (front a) ≡ n) × (n ≤ length old)) → x ≡ after m old (λ a. over (front a) old) → AlikeFrom n old x
 alike-after n (fail r) front f d = alike-same n d
@@ -84,6 +102,26 @@ alike-after n (ok a) front {old} f d =
 but-after : {A : Type 0} (m : Res A) (which : ℕ → Bool) (word : A → ℕ → ℕ) {old x : List ℕ} → x ≡ after m old (λ a. painted old which (word a)) → AlikeBut which old x
 but-after (fail r) which word d = but-same which d
 but-after (ok a) which word {old} d = rw (d) (but-painted old which (word a))
+
+-- ---- packed counts
+
+decode-rest : (m : Res Counts) {n next : ℕ} {old x : List ℕ} → Decoded m (counts.Counts n next) old x → (i : ℕ) → n ≤ i → getD x i 0 ≡ getD old i 0
+decode-rest (fail r) d i l = absurd (let e = d .says in let z : _≡_ {A = ℕ} 0 1 = cc in omega arith)
+decode-rest (ok c) {n} d i l =
+    let e = d .says in
+    let z : n ≡ length (c .values) = ap (λ (s : Span). s .n) (ok-is e) in
+    rw (d .left) (over-rest (c .values) _ i (rw (← z) l))
+
+-- ---- one block
+
+read-rest : (s : List ℕ) (at kind error top x n : ℕ) {next : ℕ} {old y : List ℕ} → BlockRead (readBlockSays s at kind error top x n) (block.Block next) old y
+    → (i : ℕ) → n ≤ i → getD y i 0 ≡ getD old i 0
+unfolding readBlockSays
+read-rest s at kind error top x n d i l =
+    let (b, e, _) = bind-is (readBlockSays s at kind error top x n) _ (sym (d .says)) in
+    let (_, _, f) = bind-is (require (leb n tileLimit) 8) _ e in
+    let z = block-words s at kind error top x n f in
+    rw (d .words, e) (over-rest (b .words) _ i (rw (z) l))
 
 -- ---- the mask
 
@@ -117,9 +155,14 @@ module _ (b : List ℕ) (h : Header) where
   unfolding walkList
   walk-writes g m {old = old} p = alike-after (blockCount (shapeOf h)) (walkSays b h g m (length old)) (λ c. c .starts) (walk-starts g m (length old)) (p .list)
 
-  fill-writes : (g : Ranges) (m list : List ℕ) (n : ℕ) {r : FillAnswer} {old x : List ℕ} → Filled b h g m list n r old x → AlikeBut (inBlock (shapeOf h) m n) old x
+  one-writes : (g : Ranges) (m list : List ℕ) (n : ℕ) (old : List ℕ) → AlikeBut (inBlock (shapeOf h) m n) old (fillImage b h g m list n old)
   unfolding fillImage
-  fill-writes g m list n {old = old} p = but-after (fillSays b h g m list n (length old)) (inBlock (shapeOf h) m n) (λ k. wordOf (shapeOf h) m (λ i. k .words)) (p .image)
+  one-writes g m list n old = but-after (fillSays b h g m list n (length old)) (inBlock (shapeOf h) m n) (λ k. wordOf (shapeOf h) m (λ i. k .words)) refl
+
+  each-writes : (g : Ranges) (m list ns old : List ℕ) → AlikeBut (inSome (shapeOf h) m ns) old (fillEach b h g m list ns old)
+  unfolding inSome fillEach
+  each-writes g m list [] old = but-same _ refl
+  each-writes g m list (n ∷ ns) old = but-then (one-writes g m list n old) (each-writes g m list ns (fillImage b h g m list n old))
 
   tiles-starts : (m maxima : List ℕ) (at entries words : ℕ) (c : Chain) → tilesSays b h m maxima at entries words ≡ ok c → (length (c .starts) ≡ blockCount (shapeOf h)) × (blockCount (shapeOf h) ≤ entries)
   unfolding tilesSays
@@ -141,10 +184,13 @@ module _ (b : List ℕ) (h : Header) where
 
 pub writes-only : WritesOnly
 writes-only = record {
+  decode-counts = λ k a n next x p. decode-rest _ p;
+  read-block = λ k a next x p. read-rest _ _ _ _ _ _ _ p;
   decode-mask = λ k a r x p. alike-after (maskBytes (a .1 .0)) _ (λ m. m) (decoded-is (a .0 .now) (a .1 .0) (a .1 .1 .0) (length (a .1 .1 .1 .0 .now))) (p .left);
   prepare-mask = λ k a r x p. prepare-writes _ _ _ _ p;
   walk = λ k a r x p. walk-writes _ _ _ _ p;
-  fill = λ k a r x p. fill-writes _ _ _ _ _ _ p;
+  fill = λ k a r x p. rw (p .image) (one-writes _ _ _ _ _ _ _);
+  fill-each = λ k a r x p. rw (p .image) (each-writes _ _ _ _ _ _ _);
   tiles-list = λ k a r x p. tiles-write _ _ _ _ _ p .0;
   tiles-image = λ k a r x p. tiles-write _ _ _ _ _ p .1;
 }

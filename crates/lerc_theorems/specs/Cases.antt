@@ -2,16 +2,16 @@
 -- Assumes nothing.
 use Prim.Native.Nat.{ℕ, zero, suc}
 use mathlib.Core.Path.{_≡_, refl}
-use mathlib.Core.Bool.{Bool, true, false, cond}
+use mathlib.Core.Bool.{cond}
 use mathlib.Core.List.{List, [], _∷_, _++_, map}
-use lib.ListN.{length, replicate}
+use lib.ListN.{replicate}
 use lib.Ieee.{size, span, climb}
 use Rattle.lerc_words.specs.Res.{Res, ok, fail, _>>=_, refuse, wordAt, little}
 use Rattle.lerc_words.specs.Lists.{from, allTo}
 use Rattle.lerc_numeric.specs.Numeric.{sum, mag, code}
 use Rattle.lerc_numeric.specs.Kinds.{narrowed, whole, cut}
 use Rattle.lerc_samples.specs.Samples.{stored}
-use Rattle.lerc_bits.specs.Bits.{Counts, tabled, plan, digits, chosen, lookedUp, valuesOf, unpacked, counts}
+use Rattle.lerc_bits.specs.Bits.{tabled, plan, digits, chosen, lookedUp, valuesOf, unpacked, counts}
 use Rattle.lerc_mask.specs.Mask.{pixelValid, copyAt, repeatAt, endAt, signedAt, stepAt, runs, maskRuns}
 
 -- what a case shows: numbers, or a refusal

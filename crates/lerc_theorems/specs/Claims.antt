@@ -1,13 +1,14 @@
--- All that is claimed of the reader, in one record: the user's three demands, and in each a field for each claim.
+-- The three demands in one record, and in each a field for each claim. Beside it stand the worked cases (Cases), the witnesses (Witness, and Example among the proofs),
+-- the laws by which upstream's contracts follow (lerc_contracts), and the laws of the arithmetic (lerc_numeric).
 -- Assumes nothing.
 use Rattle.lerc_theorems.specs.DemandOne.{DemandOne}
 use Rattle.lerc_theorems.specs.DemandTwo.{DemandTwo}
 use Rattle.lerc_theorems.specs.DemandThree.{DemandThree}
 
 pub record Claims : Type 0 where
-  -- "Any bytes and any buffers get an answer."
+  -- any bytes and any buffers get an answer
   pub one : DemandOne
-  -- "Exact acceptance, exact cells."
+  -- "exact acceptance, exact cells"
   pub two : DemandTwo
-  -- "Fills in any order."
+  -- fills in any order
   pub three : DemandThree

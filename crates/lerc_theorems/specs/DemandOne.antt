@@ -6,6 +6,7 @@ use Rattle.lerc.proofs.read.Reads as read
 use Prim.Native.Nat.{ℕ}
 use Rattle.lerc_theorems.specs.Promises.{lent, NoRoom, NoRoomInC}
 use Rattle.lerc_theorems.specs.Refusals.{RefusalsKeep, RefusalsEmpty, WholeKeeps}
+use Rattle.lerc_theorems.specs.InC.{RefusalsKeepInC}
 use Rattle.lerc_theorems.specs.Numbers.{NumbersExactly, NumbersOnly}
 use Rattle.lerc_theorems.specs.Writes.{WritesOnly, WholeWrites}
 
@@ -22,6 +23,8 @@ pub record DemandOne : Type 0 where
   pub refusal-keeps : RefusalsKeep
   -- "except: where the mask section was accepted and no mask was reused, the spare's first (pixels+7)/8 bytes hold the new mask"
   pub whole-keeps : (k : _) (a : _) (x : _) (why : Refusal) → read.Post k a (answer.Refused why) x → WholeKeeps (a .0 .now) (a .1 .0) (lent a) (lent x)
+  -- the same of the C interface
+  pub keeps-in-c : RefusalsKeepInC
   -- "A refusal carries its number, and 0 for each count and offset; a part to be handed back is then empty."
   pub refusal-empty : RefusalsEmpty
   -- "Success writes only the mask's length, the list's first count entries and valid cells."

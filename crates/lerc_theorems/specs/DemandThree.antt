@@ -4,39 +4,40 @@ use Prim.Native.Nat.{ℕ, _+_, _*_, _≤_, _<_}
 use mathlib.Core.Path.{_≡_}
 use mathlib.Core.Bool.{Bool, true, cond, _&&_}
 use mathlib.Core.List.{List, [], _∷_}
-use lib.ListN.{length, getD}
+use lib.ListN.{length, getD, take}
 use lib.Dec.{ltb}
-use Rattle.lerc_words.specs.Res.{Res, ok, fail, _>>=_, refuse}
-use Rattle.lerc_words.specs.Lists.{total}
+use Rattle.lerc_words.specs.Res.{ok, refuse}
+use Rattle.lerc_words.specs.Lists.{over, total}
 use Rattle.lerc_header.specs.declared.Header.{Header}
 use Rattle.lerc_header.specs.declared.Shape.{Shape}
-use Rattle.lerc_header.specs.Shape.{cells, blockCount}
-use Rattle.lerc_header.specs.Header.{shapeOf, headerSays}
+use Rattle.lerc_header.specs.Shape.{cells, maskLength, blockCount}
+use Rattle.lerc_header.specs.Header.{shapeOf}
 use Rattle.lerc_planes.specs.declared.Ranges.{Ranges}
 use Rattle.lerc_planes.specs.declared.MaskAnswer.{MaskAnswer}
-use Rattle.lerc_planes.specs.Validity.{InForce, bytesOf, prepareSays, Prepared, inForce}
-use Rattle.lerc_planes.specs.Ranges.{readRangesSays}
+use Rattle.lerc_planes.specs.Validity.{InForce, bytesOf, prepareSays}
+use Rattle.lerc_image.specs.declared.WalkAnswer.{WalkAnswer}
+use Rattle.lerc_image.specs.declared.WalkAnswer.the-variants as walk-answer
 use Rattle.lerc_image.specs.declared.FillAnswer.{FillAnswer}
+use Rattle.lerc_image.specs.declared.FillAnswer.the-variants as fill-answer
 use Rattle.lerc_image.specs.Geometry.{blockOf, tileOf, tileValid, isValidCell}
 use Rattle.lerc_image.specs.Paint.{among}
 use Rattle.lerc_image.specs.Blocks.{Chain}
-use Rattle.lerc_image.specs.Fill.{fillSays, fillCount, fillImage, Filled}
-use Rattle.lerc_image.specs.Walk.{walkSays, walkList}
-use Rattle.lerc_fills.specs.Each.{filledOf, fillEach}
-use Rattle.lerc.specs.Meaning.{blocks, cellWord}
-use Rattle.lerc.specs.Read.{Lent, room, masked, readSays, readAfter}
+use Rattle.lerc_image.specs.Walk.{walkSays}
+use Rattle.lerc.specs.declared.ReadAnswer.{ReadAnswer}
+use Rattle.lerc.specs.Meaning.{blocks, cellWord, meaning}
+use Rattle.lerc.specs.Read.{Lent, room}
+use Rattle.lerc_theorems.specs.Calls.{PrepareCall, HandedCall, RangesFrom, WalkCall, FillCall, FillCalls, EachCall, TilesCall, ReadCall}
 
--- a blob, what the operations read from it, and what a fill is lent
+-- a blob in blocks, what it means, and what fills are lent: header, ranges, mask, list and image
 pub record Case : Type 0 where
   pub blob : List ℕ
   pub reuse : Bool
   pub kept : List ℕ
-  pub spare : ℕ
   pub header : Header
-  pub mask : InForce
-  pub ranges : Ranges
-  pub entries : ℕ
+  pub means : InForce
   pub chain : Chain
+  pub ranges : Ranges
+  pub mask : List ℕ
   pub list : List ℕ
   pub image : List ℕ
 
@@ -45,44 +46,34 @@ shape x = shapeOf (x .header)
 
 -- the mask in force
 abbrev pub inMask : Case → List ℕ
-inMask x = bytesOf (x .mask)
+inMask x = bytesOf (x .means)
 
 -- how many blocks there are
 abbrev pub blocksOf : Case → ℕ
 blocksOf x = blockCount (shape x)
 
--- Header, mask and ranges were read from the blob, a walk accepted it (so it is coded in blocks), the list's first count entries are the starts that
--- the walk found, and the image has room.
+-- The blob has a meaning in blocks, with this header and this mask in force (demand 2 has calls that tell so: a whole read, or a walk). The ranges are those read from it.
+-- The lent mask's first bytes are the mask in force, and it may be longer; the list's first count entries are the starts; the image has room.
 pub record Opened (x : Case) : Type 0 where
-  pub header : headerSays (x .blob) ≡ ok (x .header)
-  pub mask : prepareSays (x .blob) (x .header) (x .reuse) (x .kept) (x .spare) ≡ ok (x .mask)
-  pub ranges : readRangesSays (x .blob) (x .header) ≡ ok (x .ranges)
-  pub walk : walkSays (x .blob) (x .header) (x .ranges) (inMask x) (x .entries) ≡ ok (x .chain)
+  pub means : meaning (x .blob) (x .reuse) (x .kept) ≡ ok (record { header = x .header; mask = x .means; body = blocks (x .chain) })
+  pub kept : maskLength (shape x) ≤ length (x .kept)
+  pub ranges : RangesFrom (x .blob) (x .header) (x .ranges)
+  pub mask : take (maskLength (shape x)) (x .mask) ≡ inMask x
   pub long : blocksOf x ≤ length (x .list)
   pub starts : (n : ℕ) → n < blocksOf x → getD (x .list) n 0 ≡ getD (x .chain .starts) n 0
   pub room : cells (shape x) ≤ length (x .image)
 
--- calls of fill, one for each number: any outcomes that its promise allows
-pub data Called (b : List ℕ) (h : Header) (r : Ranges) (m list : List ℕ) : List ℕ → List ℕ → List ℕ → Type 0 where
-  none : (image : List ℕ) → Called b h r m list [] image image
-  more : (n : ℕ) (ns old mid new : List ℕ) (answer : FillAnswer) → Filled b h r m list n answer old mid → Called b h r m list ns mid new → Called b h r m list (n ∷ ns) old new
+-- a call of fill, and calls one after the other
+abbrev pub Fill : Case → ℕ → FillAnswer → List ℕ → List ℕ → Type 0
+Fill x n said old new = FillCall (x .blob) (x .header) (x .ranges) (x .mask) (x .list) n said old new
 
--- what fill answers for a number
-abbrev pub answerTo : Case → ℕ → Res ℕ
-answerTo x n = fillSays (x .blob) (x .header) (x .ranges) (inMask x) (x .list) n (length (x .image)) >>= fillCount (x .header) (inMask x) n
+abbrev pub Fills : Case → List ℕ → List ℕ → Type 0
+Fills x ns new = FillCalls (x .blob) (x .header) (x .ranges) (x .mask) (x .list) ns (x .image) new
 
 -- the words that an answer reports; a refusal reports 0
-abbrev pub reported : Res ℕ → ℕ
-reported (ok n) = n
-reported (fail r) = 0
-
--- the image after a list of numbers
-abbrev pub filledBy : Case → List ℕ → List ℕ
-filledBy x ns = fillEach (x .blob) (x .header) (x .ranges) (inMask x) (x .list) ns (x .image)
-
--- the image after a whole read
-abbrev pub readImage : Case → Lent → List ℕ
-readImage x l = readAfter (readSays (x .blob) (x .reuse) l) (masked (x .blob) (x .reuse) l) l .image
+abbrev pub reported : FillAnswer → ℕ
+reported (fill-answer.Filled n) = n
+reported (fill-answer.Refused r) = 0
 
 -- how many of the numbers are below k
 abbrev pub below : ℕ → List ℕ → ℕ
@@ -91,29 +82,34 @@ below k (n ∷ ns) = cond (ltb n k) 1 0 + below k ns
 
 pub record DemandThree : Type 0 where
   -- what is handed back after preparing is the mask in force
-  pub mask-handed : (b : List ℕ) (h : Header) (reuse : Bool) (kept spare new : List ℕ) (f : InForce) (answer : MaskAnswer) → prepareSays b h reuse kept (length spare) ≡ ok f
-      → Prepared (prepareSays b h reuse kept (length spare)) answer spare new → inForce answer kept new ≡ bytesOf f
+  pub mask-handed : (b : List ℕ) (h : Header) (reuse : Bool) (kept spare new m : List ℕ) (f : InForce) (said : MaskAnswer)
+      → PrepareCall b h reuse kept said spare new → HandedCall kept new said m → prepareSays b h reuse kept (length spare) ≡ ok f → m ≡ bytesOf f
   -- the list that a walk leaves holds the starts that it found
-  pub walk-lists : (b : List ℕ) (h : Header) (r : Ranges) (m list : List ℕ) (c : Chain) → walkSays b h r m (length list) ≡ ok c
-      → (blockCount (shapeOf h) ≤ length (walkList b h r m list)) × ((n : ℕ) → n < blockCount (shapeOf h) → getD (walkList b h r m list) n 0 ≡ getD (c .starts) n 0)
-  -- any calls of fill leave the image that is spoken of below
-  pub calls-are : (b : List ℕ) (h : Header) (r : Ranges) (m list ns old new : List ℕ) → Called b h r m list ns old new → new ≡ fillEach b h r m list ns old
+  pub walk-lists : (b : List ℕ) (h : Header) (r : Ranges) (m old new : List ℕ) (n end : ℕ) (c : Chain) → WalkCall b h r m (walk-answer.Walked n end) old new → walkSays b h r m (length old) ≡ ok c
+      → (n ≡ blockCount (shapeOf h)) × (end ≡ c .end) × (n ≤ length new) × ((i : ℕ) → i < n → getD new i 0 ≡ getD (c .starts) i 0)
   -- a number below the count is filled, and the answer is its tile's valid pixels
-  pub fill-accepts : (x : Case) → Opened x → (n : ℕ) → n < blocksOf x → answerTo x n ≡ ok (tileValid (shape x) (inMask x) (tileOf (shape x) n))
+  pub fill-accepts : (x : Case) → Opened x → (n : ℕ) (said : FillAnswer) (new : List ℕ) → Fill x n said (x .image) new → n < blocksOf x
+      → said ≡ fill-answer.Filled (tileValid (shape x) (inMask x) (tileOf (shape x) n))
   -- a number at or above the count is refused 11, and leaves the image
-  pub fill-refuses : (x : Case) → Opened x → (n : ℕ) → blocksOf x ≤ n
-      → (answerTo x n ≡ fail (refuse 11)) × (fillImage (x .blob) (x .header) (x .ranges) (inMask x) (x .list) n (x .image) ≡ x .image)
+  pub fill-refuses : (x : Case) → Opened x → (n : ℕ) (said : FillAnswer) (new : List ℕ) → Fill x n said (x .image) new → blocksOf x ≤ n
+      → (said ≡ fill-answer.Refused (refuse 11)) × (new ≡ x .image)
   -- after any list of numbers the image has its length, and a cell holds its Lerc2 word if it is valid and its block is named; else it is as at the start
-  pub fills-long : (x : Case) → Opened x → (ns : List ℕ) → length (filledBy x ns) ≡ length (x .image)
-  pub fills-exact : (x : Case) → Opened x → (ns : List ℕ) (c : ℕ) → c < length (x .image)
-      → getD (filledBy x ns) c 0 ≡ cond (isValidCell (shape x) (inMask x) c && among ns (blockOf (shape x) c)) (cellWord (x .header) (inMask x) (blocks (x .chain)) c) (getD (x .image) c 0)
+  pub fills-long : (x : Case) → Opened x → (ns new : List ℕ) → Fills x ns new → length new ≡ length (x .image)
+  pub fills-exact : (x : Case) → Opened x → (ns new : List ℕ) → Fills x ns new → (c : ℕ) → c < length (x .image)
+      → getD new c 0 ≡ cond (isValidCell (shape x) (inMask x) c && among ns (blockOf (shape x) c)) (cellWord (x .header) (inMask x) (blocks (x .chain)) c) (getD (x .image) c 0)
   -- order and repeats do not matter: only which numbers below the count are named
-  pub fills-order : (x : Case) → Opened x → (ns ms : List ℕ) → ((n : ℕ) → n < blocksOf x → among ns n ≡ among ms n) → filledBy x ns ≡ filledBy x ms
-  -- as many of the numbers are filled as are below the count
-  pub fills-count : (x : Case) → Opened x → (ns : List ℕ)
-      → filledOf (x .blob) (x .header) (x .ranges) (inMask x) (x .list) (length (x .image)) ns ≡ below (blocksOf x) ns
+  pub fills-order : (x : Case) → Opened x → (ns ms new other : List ℕ) → Fills x ns new → Fills x ms other → ((n : ℕ) → n < blocksOf x → among ns n ≡ among ms n) → new ≡ other
+  -- one call with a list of numbers is as many calls: as many of them are filled as are below the count, and the image is the same
+  pub fills-each : (x : Case) → Opened x → (ns new : List ℕ) → Fills x ns new → (other : List ℕ) (filled : ℕ) → EachCall (x .blob) (x .header) (x .ranges) (x .mask) (x .list) ns filled (x .image) other
+      → (filled ≡ below (blocksOf x) ns) × (other ≡ new)
   -- every number named: the image is that of a whole read from the same start
-  pub fills-complete : (x : Case) → Opened x → (ns : List ℕ) → ((n : ℕ) → n < blocksOf x → among ns n ≡ true)
-      → (l : Lent) → room (x .header) l ≡ true → l .kept ≡ x .kept → l .image ≡ x .image → filledBy x ns ≡ readImage x l
+  pub fills-complete : (x : Case) → Opened x → (ns new : List ℕ) → Fills x ns new → ((n : ℕ) → n < blocksOf x → among ns n ≡ true)
+      → (said : ReadAnswer) (l left : Lent) → ReadCall (x .blob) (x .reuse) said l left → room (x .header) l ≡ true → l .kept ≡ x .kept → l .image ≡ x .image → new ≡ left .image
+  -- all blocks at once, from the first start on: the count and the end, the starts, each valid cell's word; every other cell is as it was
+  pub tiles-exact : (x : Case) → Opened x → (said : WalkAnswer) (list image : List ℕ)
+      → TilesCall (x .blob) (x .header) (x .mask) (x .ranges .max) (getD (x .list) 0 0) said (x .list) list (x .image) image
+      → (said ≡ walk-answer.Walked (blocksOf x) (x .chain .end)) × (list ≡ over (x .chain .starts) (x .list)) × (length image ≡ length (x .image))
+      × ((c : ℕ) → c < length (x .image) → getD image c 0 ≡ cond (isValidCell (shape x) (inMask x) c) (cellWord (x .header) (inMask x) (blocks (x .chain)) c) (getD (x .image) c 0))
   -- the words reported, over all numbers once, add to valid times depth
-  pub words-sum : (x : Case) → Opened x → total (blocksOf x) (λ n. reported (answerTo x n)) ≡ x .header .valid * x .header .depth
+  pub words-sum : (x : Case) → Opened x → (said : ℕ → FillAnswer) (new : ℕ → List ℕ) → ((n : ℕ) → n < blocksOf x → Fill x n (said n) (x .image) (new n))
+      → total (blocksOf x) (λ n. reported (said n)) ≡ x .header .valid * x .header .depth

@@ -1,7 +1,9 @@
 pub mod Cases
 pub mod Witness
 pub mod Promises
+pub mod Calls
 pub mod Refusals
+pub mod InC
 pub mod Writes
 pub mod BlockTable
 pub mod MaskTable

@@ -65,6 +65,9 @@ use Rattle.lerc_fills.proofs.fill_each.Reads as fill-each
 use Rattle.lerc.specs.Read.{Lent}
 use Rattle.lerc.proofs.ReadAnswer.refusal.Reads as read-refusal
 use Rattle.lerc.proofs.read.Reads as read
+use Rattle.lerc_text.proofs.put_line.Reads as put-line
+use Rattle.lerc_text.proofs.put_shape.Reads as put-shape
+use Rattle.lerc_text.proofs.put_cells.Reads as put-cells
 use Rattle.lerc_c.proofs.lerc2_read_header.Reads as c-read-header
 use Rattle.lerc_c.proofs.lerc2_prepare_mask.Reads as c-prepare-mask
 use Rattle.lerc_c.proofs.lerc2_read_ranges.Reads as c-read-ranges
@@ -171,6 +174,10 @@ pub record NoRoom : Type 0 where
   -- lerc
   pub read-refusal : Answers read-refusal.Pre read-refusal.Post
   pub read : Writes read.Pre read.Post lent
+  -- lerc_text
+  pub put-line : Writes put-line.Pre put-line.Post (λ o. o .0 .now)
+  pub put-shape : Writes put-shape.Pre put-shape.Post (λ o. o .0 .now)
+  pub put-cells : Writes put-cells.Pre put-cells.Post (λ o. o .0 .now)
 
 -- the slices that the C interface's whole read is lent, the record of what it says among them
 abbrev pub CRead : Type 0

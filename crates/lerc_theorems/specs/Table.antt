@@ -91,18 +91,18 @@ pub data HeaderRefused (b : List ℕ) : ℕ → Type 0 where
 -- ---- the mask: "mask section wrong", "Any breach is 6."
 
 -- all pixels are valid, or none is
-abbrev pub Even : Header → Type 0
-Even h = (h .valid ≡ 0) ⊎ (h .valid ≡ pixels (shapeOf h))
+abbrev pub Uniform : Header → Type 0
+Uniform h = (h .valid ≡ 0) ⊎ (h .valid ≡ pixels (shapeOf h))
 
 pub data MaskWrong (s : List ℕ) (h : Header) (reuse : Bool) (old : List ℕ) : Type 0 where
   -- "mask bytes must then be 0"
-  even-coded : Even h → h .mask ≢ 0 → MaskWrong s h reuse old
+  uniform-coded : Uniform h → h .mask ≢ 0 → MaskWrong s h reuse old
   -- "if the caller allows reuse"
-  not-allowed : (Even h → ⊥) → h .mask ≡ 0 → reuse ≡ false → MaskWrong s h reuse old
+  not-allowed : (Uniform h → ⊥) → h .mask ≡ 0 → reuse ≡ false → MaskWrong s h reuse old
   -- "Valid pixels must number `valid`."
-  miscounted : (Even h → ⊥) → h .mask ≡ 0 → reuse ≡ true → validBelow (pixels (shapeOf h)) (take (maskLength (shapeOf h)) old) ≢ h .valid → MaskWrong s h reuse old
+  miscounted : (Uniform h → ⊥) → h .mask ≡ 0 → reuse ≡ true → validBelow (pixels (shapeOf h)) (take (maskLength (shapeOf h)) old) ≢ h .valid → MaskWrong s h reuse old
   -- "Else runs"
-  runs-wrong : (Even h → ⊥) → h .mask ≢ 0 → CodedWrong (take (h .mask) (drop headerBytes s)) (pixels (shapeOf h)) (h .valid) → MaskWrong s h reuse old
+  runs-wrong : (Uniform h → ⊥) → h .mask ≢ 0 → CodedWrong (take (h .mask) (drop headerBytes s)) (pixels (shapeOf h)) (h .valid) → MaskWrong s h reuse old
 
 -- the runs of a section alone: 5 for a slice too short, 6
 pub data RunsRefused (s : List ℕ) (count valid room : ℕ) : ℕ → Type 0 where

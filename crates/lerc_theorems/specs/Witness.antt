@@ -1,24 +1,24 @@
 -- No promise is empty: a blob or call for each refusal number and for each kind of body, computed by the checker.
 -- Assumes nothing.
-use Prim.Native.Nat.{ℕ, zero, suc, _+_, _/_, _%_}
+use Prim.Native.Nat.{ℕ, _+_}
 use mathlib.Core.Path.{_≡_, refl}
-use mathlib.Core.Bool.{Bool, true, false}
+use mathlib.Core.Bool.{false}
 use mathlib.Core.List.{List, [], _∷_, _++_}
 use lib.ListN.{length, replicate, drop}
 use lib.Ieee.{size, span, climb}
-use Rattle.lerc_words.specs.declared.Refusal.{Refusal}
 use Rattle.lerc_words.specs.Res.{Res, ok, fail, _>>=_, refuse, wordAt, little, each}
 use Rattle.lerc_words.specs.Lists.{from, count, allTo}
 use Rattle.lerc_numeric.specs.Numeric.{mag, code, sum, scaled, less, same, lesser}
 use Rattle.lerc_numeric.specs.Kinds.{integer, valueOf, whole, cut}
 use Rattle.lerc_samples.specs.Samples.{sampleAt, stored, offsetKinds, offsetKind}
 use Rattle.lerc_bits.specs.Bits.{tabled, plan, digits, chosen, lookedUp, valuesOf, unpacked, counts}
+use Rattle.lerc_bits.specs.Packing.{bytesOf as bytes}
 use Rattle.lerc_mask.specs.Mask.{pixelValid, copyAt, repeatAt, endAt, signedAt, stepAt, runs, coded}
 use Rattle.lerc_header.specs.Shape.{strips}
 use Rattle.lerc_header.specs.Header.{errorRight, pairRight, fieldsRight, withinCeilings, held, keyRight, headerOf, headerSays}
 use Rattle.lerc_planes.specs.Validity.{uniform, kept, unrolled, maskSays}
 use Rattle.lerc_planes.specs.Ranges.{uniformRanges, numberAt, byDepth, codedRanges, pairsRight, rangesSays, readRangesSays, constantWords}
-use Rattle.lerc_block.specs.Block.{rawWords, levelBlock, stepValue, steppedBlock, offsetBlock, formed, blockSays}
+use Rattle.lerc_block.specs.Block.{rawWords, levelBlock, stepValue, steppedBlock, offsetAt, finiteOffset, offsetBlock, formed, flagAt, blockSays}
 use Rattle.lerc_image.specs.Geometry.{tileOf, pixelOf, blockOf, placeIn, rank, isValidCell}
 use Rattle.lerc_image.specs.Paint.{painted, indexOf}
 use Rattle.lerc_image.specs.Sweep.{modeAt, moded, swept}
@@ -26,11 +26,7 @@ use Rattle.lerc_image.specs.Blocks.{blockAt, chain}
 use Rattle.lerc_image.specs.Fill.{fillSays}
 use Rattle.lerc.specs.Meaning.{rawBody, blockBody, sweptBody, constantBody, bodySays, cellWord, meaningFrom}
 use Rattle.lerc.specs.Read.{Lent, room, masked, readSays, published, refusedAfter, readAfter, Whole, readCount}
-
--- x as n bytes, the lowest first
-abbrev pub bytes : ℕ → ℕ → List ℕ
-bytes zero x = []
-bytes (suc n) x = x % 256 ∷ bytes n (x / 256)
+use Rattle.lerc_c.specs.Records.{numberOf}
 
 pub record Fields : Type 0 where
   pub rows : ℕ
@@ -82,9 +78,25 @@ threeHundred = 0x4072C00000000000
 abbrev pub whole-blob : List ℕ
 whole-blob = row 8 3 ten twelve [] (0x0A ∷ 0x0C ∷ 0x00 ∷ 0x00 ∷ 0x01 ∷ 0x0A ∷ 0x82 ∷ 0x03 ∷ 0x24 ∷ [])
 
+-- 2 rows, 2 columns, depth 2, tiles of one pixel, kind 1, error 1, minima 0 and maxima 200: eight blocks with one offset each
+abbrev pub grid : List ℕ
+grid = blob (record {
+  rows = 2;
+  columns = 2;
+  depth = 2;
+  valid = 4;
+  side = 1;
+  kind = 1;
+  error = 0x3FF0000000000000;
+  min = 0;
+  max = 0x4069000000000000;
+  mask = [];
+  rest = 0x00 ∷ 0x00 ∷ 0xC8 ∷ 0xC8 ∷ 0x00 ∷ 0x03 ∷ 0x01 ∷ 0x03 ∷ 0x02 ∷ 0x03 ∷ 0x03 ∷ 0x03 ∷ 0x04 ∷ 0x03 ∷ 0x05 ∷ 0x03 ∷ 0x06 ∷ 0x03 ∷ 0x07 ∷ 0x03 ∷ 0x08 ∷ [];
+})
+
 -- slices with some room, marked so that what is not written shows
-abbrev pub lent : ℕ → Lent
-lent cells = record { kept = 7 ∷ []; spare = 7 ∷ 7 ∷ []; list = 7 ∷ 7 ∷ 7 ∷ []; image = replicate cells 7 }
+abbrev pub lent : ℕ → ℕ → Lent
+lent entries cells = record { kept = 7 ∷ []; spare = 7 ∷ 7 ∷ []; list = replicate entries 7; image = replicate cells 7 }
 
 -- ---- what each body gives: the answer, and every lent slice afterwards
 
@@ -92,8 +104,11 @@ pub record Shown : Type 0 where
   pub said : Res Whole
   pub left : Lent
 
+abbrev pub readInto : Lent → List ℕ → Shown
+readInto l b = record { said = readSays b false l >>= readCount; left = readAfter (readSays b false l) (masked b false l) l }
+
 abbrev pub shown : List ℕ → Shown
-shown b = record { said = readSays b false (lent 4) >>= readCount; left = readAfter (readSays b false (lent 4)) (masked b false (lent 4)) (lent 4) }
+shown = readInto (lent 3 4)
 
 abbrev pub gives : ℕ → ℕ → List ℕ → List ℕ → List ℕ → Shown
 gives blocks end mask list image = record {
@@ -114,16 +129,14 @@ bodies =
     ∷ shown (row 1 3 ten twelve [] (0x0A ∷ 0x0C ∷ 0x00 ∷ 0x00 ∷ 0x03 ∷ 0x0B ∷ 0x02 ∷ 0x00 ∷ 0x0C ∷ []))
     -- a block refused behind an accepted mask: only the spare changes
     ∷ shown (row 8 3 ten twelve [] (0x0A ∷ 0x0C ∷ 0x00 ∷ 0x00 ∷ 0x05 ∷ []))
+    -- blocks by depth, then across, then down
+    ∷ readInto (lent 8 9) grid
     ∷ []
 
 -- ---- a call for each number
 
-abbrev pub numberOf : {A : Type 0} → Res A → ℕ
-numberOf (ok a) = 0
-numberOf (fail r) = r .number
-
 abbrev pub refused : ℕ → List ℕ → ℕ
-refused cells b = numberOf (readSays b false (lent cells))
+refused cells b = numberOf (readSays b false (lent 3 cells))
 
 -- block n of the whole blob
 abbrev pub fill : ℕ → ℕ
@@ -153,11 +166,12 @@ pub witnesses :
     ∷ gives 0 70 (0 ∷ []) (7 ∷ 7 ∷ 7 ∷ []) (7 ∷ 7 ∷ 7 ∷ 7 ∷ [])
     ∷ gives 3 79 (255 ∷ []) (74 ∷ 76 ∷ 77 ∷ []) (11 ∷ 0 ∷ 12 ∷ 7 ∷ [])
     ∷ record { said = fail (refuse 8); left = record { kept = 7 ∷ []; spare = 255 ∷ 7 ∷ []; list = 7 ∷ 7 ∷ 7 ∷ []; image = replicate 4 7 } }
+    ∷ gives 8 91 (255 ∷ []) (75 ∷ 77 ∷ 79 ∷ 81 ∷ 83 ∷ 85 ∷ 87 ∷ 89 ∷ []) (1 ∷ 2 ∷ 3 ∷ 4 ∷ 5 ∷ 6 ∷ 7 ∷ 8 ∷ 7 ∷ [])
     ∷ [])
     × (numbers ≡ 1 ∷ 2 ∷ 3 ∷ 4 ∷ 5 ∷ 6 ∷ 7 ∷ 8 ∷ 9 ∷ 10 ∷ 11 ∷ 0 ∷ [])
 unfolding wordAt little each from count allTo mag code sum scaled less same lesser integer valueOf whole cut sampleAt stored offsetKinds offsetKind
-    counts plan tabled unpacked valuesOf lookedUp digits chosen pixelValid copyAt repeatAt endAt signedAt stepAt runs coded strips errorRight pairRight fieldsRight withinCeilings
+    bytes counts plan tabled unpacked valuesOf lookedUp digits chosen pixelValid copyAt repeatAt endAt signedAt stepAt runs coded strips errorRight pairRight fieldsRight withinCeilings
     held keyRight headerOf headerSays uniform kept unrolled maskSays uniformRanges numberAt byDepth codedRanges pairsRight rangesSays constantWords rawWords
-    levelBlock stepValue steppedBlock offsetBlock formed blockSays tileOf pixelOf blockOf placeIn rank isValidCell painted indexOf blockAt chain modeAt moded
+    levelBlock stepValue steppedBlock offsetAt finiteOffset offsetBlock formed flagAt blockSays tileOf pixelOf blockOf placeIn rank isValidCell painted indexOf blockAt chain modeAt moded
     swept rawBody blockBody sweptBody constantBody bodySays cellWord meaningFrom room masked readSays published refusedAfter size span climb readRangesSays fillSays
 witnesses = (refl, refl)

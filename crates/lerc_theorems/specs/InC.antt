@@ -1,0 +1,38 @@
+-- What a refusal leaves in the C interface, where every number but 0 is a refusal: each record and each slice as it was, the spare of a whole read apart.
+-- Assumes nothing.
+use mathlib.Core.Path.{_≡_}
+use mathlib.Core.Logic.{_≢_}
+use mathlib.Core.Bool.{true, false}
+use mathlib.Core.List.{List}
+use Prim.Native.Nat.{ℕ}
+use lib.ListN.{length}
+use lib.Dec.{leb}
+use Rattle.lerc_c.specs.Entries.{readRoom}
+use Rattle.lerc_c.proofs.lerc2_read_header.Reads as read-header
+use Rattle.lerc_c.proofs.lerc2_prepare_mask.Reads as prepare-mask
+use Rattle.lerc_c.proofs.lerc2_read_ranges.Reads as read-ranges
+use Rattle.lerc_c.proofs.lerc2_walk.Reads as walk
+use Rattle.lerc_c.proofs.lerc2_fill.Reads as fill
+use Rattle.lerc_c.proofs.lerc2_read.Reads as read
+use Rattle.lerc_c.proofs.lerc2_stored.Reads as stored
+use Rattle.lerc_theorems.specs.Promises.{CRead, c-lent}
+use Rattle.lerc_theorems.specs.Refusals.{WholeKeeps}
+
+-- a promise by which any number but 0 leaves what was lent: `before` of the inputs is `left` of the outputs
+abbrev pub KeepsInC : {K A O S : Type 0} → (K → A → ℕ → O → Type 0) → (A → S) → (O → S) → Type 0
+KeepsInC {K} {A} {O} Post before left = (k : K) (a : A) (n : ℕ) (x : O) → Post k a n x → n ≢ 0 → left x ≡ before a
+
+-- a whole read that is refused: where its record is long enough, the four slices are as `lerc::read` leaves them, else as they were
+pub record ReadKeepsInC (a x : CRead) : Type 0 where
+  pub said : c-lent x .1 ≡ c-lent a .1
+  pub room : leb readRoom (length (c-lent a .1)) ≡ true → WholeKeeps (a .0 .now) (a .1 .0) (c-lent a .0) (c-lent x .0)
+  pub short : leb readRoom (length (c-lent a .1)) ≡ false → c-lent x .0 ≡ c-lent a .0
+
+pub record RefusalsKeepInC : Type 0 where
+  pub read-header : KeepsInC read-header.Post (λ a. a .1 .0 .now) (λ o. o .1 .0 .now)
+  pub prepare-mask : KeepsInC {S = List ℕ × List ℕ} prepare-mask.Post (λ a. (a .1 .1 .1 .1 .0 .now, a .1 .1 .1 .1 .1 .0 .now)) (λ o. (o .1 .1 .1 .1 .0 .now, o .1 .1 .1 .1 .1 .0 .now))
+  pub read-ranges : KeepsInC read-ranges.Post (λ a. a .1 .1 .0 .now) (λ o. o .1 .1 .0 .now)
+  pub walk : KeepsInC {S = List ℕ × List ℕ} walk.Post (λ a. (a .1 .1 .1 .1 .0 .now, a .1 .1 .1 .1 .1 .0 .now)) (λ o. (o .1 .1 .1 .1 .0 .now, o .1 .1 .1 .1 .1 .0 .now))
+  pub fill : KeepsInC {S = List ℕ × List ℕ} fill.Post (λ a. (a .1 .1 .1 .1 .1 .1 .0 .now, a .1 .1 .1 .1 .1 .1 .1 .0 .now)) (λ o. (o .1 .1 .1 .1 .1 .1 .0 .now, o .1 .1 .1 .1 .1 .1 .1 .0 .now))
+  pub read : (k : _) (a x : CRead) (n : ℕ) → read.Post k a n x → n ≢ 0 → ReadKeepsInC a x
+  pub stored : KeepsInC stored.Post (λ a. a .1 .1 .0 .now) (λ o. o .1 .1 .0 .now)
