@@ -26,7 +26,7 @@ use Rattle.lerc_header.specs.declared.Header.{Header}
 use Rattle.lerc_header.specs.Header.{shapeOf}
 use Rattle.lerc_header.specs.Shape.{Shaped, cells, blockCount}
 use Rattle.lerc_bits.specs.Bits.{Counts, counts}
-use Rattle.lerc_block.specs.Block.{Block, rawWords, levelBlock, stepValue, steppedBlock, offsetBlock, formed, blockSays}
+use Rattle.lerc_block.specs.Block.{Block, Offset, rawWords, levelBlock, stepValue, steppedBlock, offsetAt, finiteOffset, offsetBlock, formed, flagAt, blockSays}
 use Rattle.lerc_image.specs.declared.Tile.{Tile}
 use Rattle.lerc_image.specs.Geometry.{tileOf, tileValid}
 use Rattle.lerc_image.specs.Paint.{scattered}
@@ -303,12 +303,18 @@ module _ (h : Header) (mask : List ℕ) (n : ℕ) (start : List ℕ) (g : Shaped
             (stepped-is s (record { at = c .next; flag = f; offset = v; quant = at + 1 + typeSize k; next = c .next }) maximum (c .values) o)
         go (fail r) q = rw (offset-none s at f k v e d y few r q, q)
 
+    -- what is left of a block whose offset is v
+    abbrev left : ℕ → ℕ → ℕ → Res Block
+    left f k v =
+        let o : Offset = record { value = v; next = at + 1 + typeSize k } in
+        (require (finite v) 8 >>= λ _. ok o) >>= λ o. cond (eqb f 3) (levelBlock (o .next) (h .kind) (o .value) many) (steppedBlock s (o .next) (h .kind) (h .error) maximum (o .value) many)
+
     offset-rest : (f k v : ℕ) → f < 4 → (eqb f 0 || eqb f 2) ≡ false → onSome (modeOffset s at f k v) rest
-        ≡ said (result h mask n start) (require (finite v) 8 >>= λ _. cond (eqb f 3) (levelBlock (at + 1 + typeSize k) (h .kind) v many) (steppedBlock s (at + 1 + typeSize k) (h .kind) (h .error) maximum v many))
+        ≡ said (result h mask n start) (left f k v)
     offset-rest f k v l o = go (finite v) refl (eqb f 3) refl
       where
         go : (t : Bool) → finite v ≡ t → (u : Bool) → eqb f 3 ≡ u → onSome (modeOffset s at f k v) rest
-            ≡ said (result h mask n start) (require (finite v) 8 >>= λ _. cond (eqb f 3) (levelBlock (at + 1 + typeSize k) (h .kind) v many) (steppedBlock s (at + 1 + typeSize k) (h .kind) (h .error) maximum v many))
+            ≡ said (result h mask n start) (left f k v)
         go false e u d = rw (e)
         go true e true d =
             let f3 = eqb-true f 3 d in
@@ -321,7 +327,7 @@ module _ (h : Header) (mask : List ℕ) (n : ℕ) (start : List ℕ) (g : Shaped
             rw (e, d) (rw (e, d) at (steps-rest f k v f1 e d))
 
     pub block-is : block s h (tileOf (shapeOf h) n) mask maximum at start ≡ said (result h mask n start) (blockSays s at (h .kind) (h .error) maximum (tileOf (shapeOf h) n .x) many)
-    unfolding block blockSays formed offsetBlock
+    unfolding block blockSays flagAt formed offsetBlock finiteOffset offsetAt
     block-is = within (decLt at (length s))
       where
         t : Tile

@@ -31,8 +31,8 @@ use Rattle.lerc_mask.proofs.Steps.{bytes-part}
 use Rattle.lerc_planes.specs.declared.Ranges.{Ranges}
 use Rattle.lerc_planes.specs.Ranges.{pairsRight}
 use Rattle.lerc_block.specs.declared.BlockAnswer.{BlockAnswer}
-use Rattle.lerc_block.specs.Block.{Block, blockSays, readBlockSays, blockSaid, BlockRead, tileLimit}
-use Rattle.lerc_block.proofs.Answers.{sample-inside}
+use Rattle.lerc_block.specs.Block.{Block, flagAt, blockSays, readBlockSays, blockSaid, BlockRead, tileLimit}
+use Rattle.lerc_samples.proofs.Reading.{sample-is}
 use Rattle.lerc_block.proofs.Accepted.{block-ends}
 use Rattle.lerc_image.specs.declared.Tile.{Tile}
 use Rattle.lerc_image.specs.declared.FillAnswer.{FillAnswer}
@@ -136,7 +136,7 @@ module _ (s : List ℕ) (y : Bytes s) (few : length s ≤ lengthMax) (at : ℕ) 
       flag = getD s at 0
 
       numbers : (l : at < length s) (c : eqb (flag / 4 % 16) (t .x / 8 % 16) ≡ true) (o : (eqb (flag % 4) 0 || eqb (flag % 4) 2) ≡ false) (k : ℕ) → offsetKind (h .kind) (flag / 64) ≡ ok k → (v : Res ℕ) → sampleAt k s (at + 1) ≡ v → Keeps s at (mode s at h t)
-      numbers l c o k e (ok v) d = rw (mode-offset s at h t l c o k e v d) (offset-kept (flag % 4) k v (omega arith) (sample-inside k s (at + 1) d))
+      numbers l c o k e (ok v) d = rw (mode-offset s at h t l c o k e v d) (offset-kept (flag % 4) k v (omega arith) (sample-is k s (at + 1) v d .inside))
       numbers l c o k e (fail r) d = rw (mode-number s at h t l c o k e r d) tt
 
       kinds : (l : at < length s) (c : eqb (flag / 4 % 16) (t .x / 8 % 16) ≡ true) (o : (eqb (flag % 4) 0 || eqb (flag % 4) 2) ≡ false) (k : Res ℕ) → offsetKind (h .kind) (flag / 64) ≡ k → Keeps s at (mode s at h t)
@@ -236,7 +236,7 @@ module _ (s : List ℕ) (h : Header) (t : Tile) (m : Mode) (q mask : List ℕ) (
 
 -- 4.20, 4.37, 4.60, 4.73, 5.24: a start past the end
 pub start-past : (s : List ℕ) (at kind error top x n : ℕ) → length s ≤ at → blockSays s at kind error top x n ≡ fail (refuse 1)
-unfolding blockSays
+unfolding blockSays flagAt
 start-past s at kind error top x n l = rw (wordAt-no 1 s at (omega arith))
 
 -- 4.22: more valid pixels than a tile has

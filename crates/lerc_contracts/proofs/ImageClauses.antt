@@ -258,7 +258,9 @@ module _ (b : List ℕ) (h : Header) (ranges : Ranges) (mask words : List ℕ) (
 -- 5.42
 pub raw-start : (s : List ℕ) (h : Header) (at : ℕ) → length s < at → rawBody s h at ≡ fail (refuse 1)
 unfolding rawBody rawWords
-raw-start s h at l = let k : length s < at + h .valid * h .depth * typeSize (h .kind) = omega arith in rw (lt-leb (at + h .valid * h .depth * typeSize (h .kind)) (length s) k)
+raw-start s h at l =
+    let k : length s < at + h .valid * h .depth * typeSize (h .kind) = omega arith in
+    rw (lt-leb (at + h .valid * h .depth * typeSize (h .kind)) (length s) k)
 
 -- from what a whole read promises
 module _ (b : List ℕ) (reuse : Bool) (r : ReadAnswer) (old new : Lent) (promise : WholeRead b reuse r old new) where

@@ -10,4 +10,9 @@ pub mod Linear
 pub mod BlockClauses
 pub mod ImageClauses
 pub mod Numeric
+pub mod Rounding
+pub mod Pack
+pub mod Software
+pub mod Narrow
+pub mod Plus
 pub mod Native

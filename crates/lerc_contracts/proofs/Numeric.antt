@@ -6,8 +6,7 @@ use mathlib.Core.Logic.{_⊎_, inl, inr}
 use mathlib.Core.Option.{none, some}
 use Prim.Native.Nat.{ℕ, zero, suc, _+_, _-_, _*_, _/_, _%_, _^_, _≤_, _<_, min}
 use native.Mathlib.Omega.{arith}
-use native.Mathlib.Numerals.{add-one}
-use native.Mathlib.Nat.{mul-assoc, mul-comm, mod-mod, mod-self, mod-eq-of-lt, pow-suc, div-add-mod, mul-le-mul}
+use native.Mathlib.Nat.{mod-mod, mod-self, mod-eq-of-lt, pow-suc, div-add-mod, mul-le-mul}
 use native.Mathlib.Decide.{decLt, decLe}
 use borrow.Author.Tests.{lt-ltb, le-ltb, le-leb, lt-leb, eq-eqb, ne-eqb}
 use lib.Dec.{ltb, leb, eqb}
@@ -17,7 +16,7 @@ use lib.Ieee.Digits.{size-lt, size-le}
 use lib.Ieee.Nearest.{closest}
 use Rattle.lerc_words.specs.Res.{ok, fail, _>>=_, refuse, require, accepts}
 use Rattle.lerc_numeric.specs.declared.IntegerAnswer.{IntegerAnswer}
-use Rattle.lerc_numeric.specs.Numeric.{negative, field, sig, exp, mag, signed, bits64, scaled, less, lesser}
+use Rattle.lerc_numeric.specs.Numeric.{negative, field, finite, sig, exp, less, lesser}
 use Rattle.lerc_numeric.specs.Kinds as kinds
 use Rattle.lerc_numeric.specs.Kinds.{typeSize, valueOf, integerSaid, cut}
 use Rattle.lerc_numeric.specs.Inside.{jam}
@@ -29,12 +28,20 @@ use Rattle.lerc_numeric.proofs.Magnitude.{sig-lt}
 use Rattle.lerc_numeric.proofs.Integers.{cut-kind, cut-large, modulus-last, modulus-le, modulus-ge, whole-zero, whole-some}
 use Rattle.lerc_contracts.proofs.Answers.{said-some}
 use Rattle.lerc_contracts.specs.Outside.{said, is-some}
-use Rattle.lerc_contracts.specs.Numeric.{fieldOf, sign, mantissa, exponent, rounded, sticky, lessThan, sizeOf, modulusOf, cutOf, integer}
+use Rattle.lerc_contracts.specs.Numeric.{fieldOf, finiteOf, sign, mantissa, exponent, rounded, sticky, lessThan, sizeOf, modulusOf, cutOf, integer}
 
 -- ---- `parts`
 
-field-is : (v : ℕ) → v < 2 ^ 64 → fieldOf v ≡ field v
+pub field-is : (v : ℕ) → v < 2 ^ 64 → fieldOf v ≡ field v
 field-is v l = omega arith
+
+-- the test for an offset and a range
+pub finite-is : (v : ℕ) → v < 2 ^ 64 → finiteOf v ≡ finite v
+finite-is v l = rw (field-is v l) (go (decLt (field v) 2047))
+  where
+    go : Dec (field v < 2047) → not (eqb (field v) 2047) ≡ ltb (field v) 2047
+    go (yes h) = rw (ne-eqb (field v) 2047 (λ e. omega arith), lt-ltb (field v) 2047 h)
+    go (no h) = rw (eq-eqb (field v) 2047 (omega arith), le-ltb (field v) 2047 (omega arith))
 
 -- 1.1
 module _ (v : ℕ) (l : v < 2 ^ 64) where
@@ -60,12 +67,12 @@ module _ (v : ℕ) (l : v < 2 ^ 64) where
 
 -- ---- `highest64`
 
-module _ (v : ℕ) (s : 0 < v) (l : v < 2 ^ 64) where
-  -- 1.9
-  pub top-small : size v - 1 < 64
-  top-small = omega (arith, size-le v 64 l)
+-- 1.9
+pub top-small : (v : ℕ) → v < 2 ^ 64 → size v - 1 < 64
+top-small v l = omega (arith, size-le v 64 l)
 
-  -- 1.8, 1.10, 1.11: the highest digit is at `size` less 1
+module _ (v : ℕ) (s : 0 < v) where
+  -- 1.8, 1.10, 1.11, 1.15: the highest digit is at `size` less 1
   pub top-is : (2 ^ (size v - 1) ≤ v) × (v < 2 * 2 ^ (size v - 1))
   top-is =
       let a : 0 < size v = some (size v) refl in
@@ -76,33 +83,6 @@ module _ (v : ℕ) (s : 0 < v) (l : v < 2 ^ 64) where
       some : (n : ℕ) → size v ≡ n → 0 < n
       some zero e = absurd (let k = rw (e) at (size-lt v) in omega arith)
       some (suc n) e = omega arith
-
--- ---- `pack`, `scale_software`, `number_software`
-
--- `packed(negative,v,e)`, the power plus 1074: v times 2^e, rounded once
-abbrev pub packed : Bool → ℕ → ℕ → ℕ
-packed s v e = signed s (bits64 (v * 2 ^ e))
-
--- 1.25, 1.27: the promise of `pack`, with its sign
-pub packed-is : (s : Bool) (v e r : ℕ) → r ≡ bits64 (v * 2 ^ e) → cond s (2 ^ 63) 0 + r ≡ packed s v e
-packed-is s v e r d = rw (d)
-
--- 1.28, 1.42: the product, as its body packs it
-pub scaled-packed : (a q : ℕ) → a < 2 ^ 64 → scaled a q ≡ packed (sign a) (mantissa a * q) (exponent a + 1)
-unfolding scaled mag
-scaled-packed a q l =
-    let p : 2 ^ (exp a + 1) ≡ 2 ^ exp a * 2 = rw (add-one) (pow-suc 2 (exp a)) in
-    let e : 2 * q * (sig a * 2 ^ exp a) ≡ sig a * q * (2 ^ exp a * 2) = ring-like (sig a) q (2 ^ exp a) in
-    rw (mantissa-is a l, exponent-is a l, p, e)
-  where
-    ring-like : (s q x : ℕ) → 2 * q * (s * x) ≡ s * q * (x * 2)
-    ring-like s q x =
-        mul-assoc 2 q (s * x) ∙ mul-comm 2 (q * (s * x)) ∙ ap (λ (y : ℕ). y * 2) (sym (mul-assoc q s x) ∙ ap (λ (y : ℕ). y * x) (mul-comm q s)) ∙ mul-assoc (s * q) x 2
-
--- 1.37, 1.47: a whole number, as its body packs it
-pub integer-packed : (kind v : ℕ) → kinds.integer kind v ≡ (let s : Bool = kinds.signedKind kind && leb (kinds.modulus kind / 2) v in packed s (cond s (kinds.modulus kind - v) v) 1074)
-unfolding kinds.integer
-integer-packed kind v = refl
 
 -- ---- `minimum`
 
@@ -256,7 +236,7 @@ number-kind kind v h = rw (le-ltb kind 6 (omega arith), ne-eqb kind 6 (λ e. ome
 pub integer-kind : (v kind : ℕ) (r : IntegerAnswer) → integerSaid r ≡ cut kind v → 6 ≤ kind → integerSaid r ≡ fail (refuse 9)
 integer-kind v kind r e l = e ∙ sym (cut-kind kind v l)
 
-modulus-is : (kind : ℕ) → kind < 6 → modulusOf kind ≡ kinds.modulus kind
+pub modulus-is : (kind : ℕ) → kind < 6 → modulusOf kind ≡ kinds.modulus kind
 modulus-is zero l = refl
 modulus-is (suc zero) l = refl
 modulus-is (suc (suc zero)) l = refl
