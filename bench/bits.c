@@ -1,27 +1,13 @@
 // Nanoseconds for packed counts in the plain form: 256 values, widths 0 to 31, least of many rounds, beside a reader
 // that goes bit by bit, whose values must agree. Built by measure.sh.
-#include <stdint.h>
+#include "common.h"
+
 #include <stdio.h>
 #include <stdlib.h>
 #include <string.h>
-#include <time.h>
 
 uint64_t measured_decode(const uint8_t *s, size_t len, size_t start, uint32_t *out);
 uint64_t measured_inspect(const uint8_t *s, size_t len, size_t start);
-
-static double now(void) {
-    struct timespec t;
-    clock_gettime(CLOCK_MONOTONIC, &t);
-    return t.tv_sec * 1e9 + t.tv_nsec;
-}
-
-static uint64_t state = 88172645463325252u;
-static uint64_t rnd(void) {
-    state ^= state << 13;
-    state ^= state >> 7;
-    state ^= state << 17;
-    return state;
-}
 
 static uint32_t bitwise(const uint8_t *p, size_t bit, int w) {
     uint32_t v = 0;

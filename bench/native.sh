@@ -1,8 +1,8 @@
 #!/usr/bin/env bash
-# bench/native.sh NAME [clang's words]: an archive of the crate NAME for this arm64 machine, for measuring only.
-# The kit compiles for x86-64 alone, and under an emulator times say nothing. So the kit's own `rt staticlib NAME` is run
-# through a view of the kit whose clang first keeps the LLVM module that it is handed; the same clang then compiles the same
-# module at the same level for this machine. The kit is not touched, and nothing is proved of what comes out.
+# bench/native.sh NAME [clang's words]: an archive of the crate NAME for arm64, made on arm64 or x86-64, for measuring only.
+# The kit compiles for x86-64 alone. So the kit's own `rt staticlib NAME` is run through a view of the kit whose clang first
+# keeps the LLVM module that it is handed; the same clang then compiles the same module at the same level for arm64. The kit
+# is not touched, and nothing is proved of what comes out.
 # Leaves target/staticlib/libNAME.a (x86-64, as always), target/native/libNAME.a (arm64) and target/native/NAME.ll.
 set -eu
 if [ $# -lt 1 ]; then
@@ -12,13 +12,13 @@ fi
 name=$1
 shift
 machine=$(uname -m)
-if [ "$machine" != aarch64 ]; then
-    echo "native: this is $machine: \`rt staticlib $name\` compiles for it already" >&2
-    exit 2
-fi
 cd "$(dirname "$0")/.."
 kit=${RATTLE_KIT:-$(dirname "$(dirname "$(readlink -f "$(command -v rt)")")")}
 tools=$kit/on/$machine/toolchain
+if [ ! -x "$tools/bin/clang" ]; then
+    echo "native: the kit has no clang for $machine in $tools" >&2
+    exit 2
+fi
 view=$(mktemp -d)
 trap 'rm -rf "$view"' EXIT
 

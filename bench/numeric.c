@@ -1,9 +1,9 @@
 // Nanoseconds of the word arithmetic, least of 200 rounds over 4,096 operands, beside the machine's own binary64.
 // Built by measure.sh.
-#include <stdint.h>
+#include "common.h"
+
 #include <stdio.h>
 #include <string.h>
-#include <time.h>
 
 uint64_t measured_plus(uint64_t a, uint64_t b);
 uint64_t measured_scale(uint64_t a, uint32_t q);
@@ -13,20 +13,6 @@ uint64_t measured_number(uint64_t v, uint32_t kind);
 #define N 4096
 static uint64_t a[N], b[N];
 static uint32_t q[N];
-
-static double now(void) {
-    struct timespec t;
-    clock_gettime(CLOCK_MONOTONIC, &t);
-    return t.tv_sec * 1e9 + t.tv_nsec;
-}
-
-static uint64_t state = 88172645463325252u;
-static uint64_t rnd(void) {
-    state ^= state << 13;
-    state ^= state >> 7;
-    state ^= state << 17;
-    return state;
-}
 
 static uint64_t bits(double x) {
     uint64_t u;

@@ -8,18 +8,14 @@ const ARCHIVE: &str = "liblerc_c.a";
 
 fn main() {
     println!("cargo:rerun-if-env-changed=LERC2_LIBDIR");
-    let folder = match env::var_os("LERC2_LIBDIR") {
-        Some(folder) => PathBuf::from(folder),
-        None => own_folder(),
-    };
+    let (place, command) = own();
+    let folder = env::var_os("LERC2_LIBDIR").map_or(place, PathBuf::from);
     let archive = folder.join(ARCHIVE);
     println!("cargo:rerun-if-changed={}", archive.display());
     if !archive.is_file() {
         eprintln!(
             "lerc2: {} is not there.\n\
-             x86-64: run `rt staticlib lerc_c` at the root of the repository.\n\
-             arm64: run `bench/native.sh lerc_c`, whose archive is for measuring.\n\
-             Or name the folder of {ARCHIVE} in LERC2_LIBDIR.",
+             Run `{command}` at the root of the repository, or name the folder of {ARCHIVE} in LERC2_LIBDIR.",
             archive.display()
         );
         std::process::exit(1);
@@ -28,12 +24,13 @@ fn main() {
     println!("cargo:rustc-link-lib=static=lerc_c");
 }
 
-fn own_folder() -> PathBuf {
+/// The folder for the machine that is built for, and what makes the archive.
+fn own() -> (PathBuf, &'static str) {
     let root = PathBuf::from(env::var_os("CARGO_MANIFEST_DIR").unwrap()).join("../..");
-    let arm = env::var("CARGO_CFG_TARGET_ARCH").is_ok_and(|arch| arch == "aarch64");
-    root.join(if arm {
-        "target/native"
-    } else {
-        "target/staticlib"
-    })
+    let machine = env::var("CARGO_CFG_TARGET_ARCH").unwrap();
+    match machine.as_str() {
+        // Made from what is proved, by the kit's compiler for another machine.
+        "aarch64" => (root.join("target/native"), "bench/native.sh lerc_c"),
+        _ => (root.join("target/staticlib"), "rt staticlib lerc_c"),
+    }
 }

@@ -1,9 +1,11 @@
 //! Measures whole reads, and walks with all fills, of the proved reader and of
 //! the plain one (with the feature `esri` of Esri's library too): least times
-//! of interleaved rounds, and exact counts of instructions by callgrind.
+//! of interleaved rounds, and exact counts of instructions by callgrind or by
+//! an emulator, under which times are not taken.
 //!
 //!     whole [--folder FOLDER] [--only NAME] [--rounds N] [--svg FILE] [--no-counts]
-//!     whole one FILE WAY READER      one call, for callgrind
+//!           [--counted-by 'EMULATOR AND ITS WORDS' --no-times]
+//!     whole one FILE WAY READER [CALLS]      for the counter; one call is usual
 
 mod clock;
 mod make;
@@ -27,8 +29,11 @@ const LINEAR: f64 = 1.3;
 const GROWTH: f64 = 1.1;
 /// Rounds of one line go on for so long.
 const SECONDS: f64 = 2.0;
-/// Larger images are not run under callgrind, which takes fifty times as long.
+/// Larger images are not run under a counter, which takes fifty times as long.
 const COUNTED: usize = 1 << 20;
+/// An emulator counts a run of so many calls and one of twice as many; the
+/// difference has neither start nor end of the program.
+const CALLS: u64 = 2;
 
 struct Image {
     name: String,
@@ -59,7 +64,8 @@ fn main() -> ExitCode {
     let words: Vec<String> = std::env::args().skip(1).collect();
     let words: Vec<&str> = words.iter().map(String::as_str).collect();
     let done = match words.as_slice() {
-        ["one", file, way, reader] => one(file, way, reader),
+        ["one", file, way, reader] => one(file, way, reader, "1"),
+        ["one", file, way, reader, calls] => one(file, way, reader, calls),
         _ => measure(&words),
     };
     if let Err(error) = done {
@@ -74,22 +80,39 @@ fn option<'a>(words: &[&'a str], name: &str) -> Option<&'a str> {
     words.get(at + 1).copied()
 }
 
-fn one(file: &str, way: &str, reader: &str) -> Result<(), Box<dyn Error>> {
+fn one(file: &str, way: &str, reader: &str, calls: &str) -> Result<(), Box<dyn Error>> {
     let way = Way::ALL.into_iter().find(|w| w.name() == way);
     let reader = Reader::ALL.iter().find(|r| r.name() == reader);
     let (Some(way), Some(&reader)) = (way, reader) else {
         return Err("no such way or reader".into());
     };
     let mut task = Task::new(&fs::read(file)?).ok_or("the header is refused")?;
-    if !task.go(way, reader) {
-        return Err("refused".into());
+    for _ in 0..calls.parse::<u64>()? {
+        if !task.go(way, reader) {
+            return Err("refused".into());
+        }
     }
     Ok(())
 }
 
+/// How to measure: rounds of time, and what counts instructions.
+struct How<'a> {
+    /// None where times say nothing.
+    rounds: Option<usize>,
+    counts: bool,
+    /// The words in front of this program, callgrind where there are none.
+    emulator: Option<&'a str>,
+    scratch: PathBuf,
+}
+
 fn measure(words: &[&str]) -> Result<(), Box<dyn Error>> {
     let rounds: usize = option(words, "--rounds").unwrap_or("15").parse()?;
-    let counts = !words.contains(&"--no-counts");
+    let how = How {
+        rounds: (!words.contains(&"--no-times")).then_some(rounds),
+        counts: !words.contains(&"--no-counts"),
+        emulator: option(words, "--counted-by"),
+        scratch: std::env::temp_dir().join(format!("whole-{}", std::process::id())),
+    };
     let mut images = Vec::new();
     if let Some(folder) = option(words, "--folder") {
         for file in compare::folder::files(Path::new(folder))? {
@@ -109,18 +132,17 @@ fn measure(words: &[&str]) -> Result<(), Box<dyn Error>> {
     if let Some(word) = option(words, "--only") {
         images.retain(|image| image.name.contains(word));
     }
-    let scratch = std::env::temp_dir().join(format!("whole-{}", std::process::id()));
-    fs::create_dir_all(&scratch)?;
+    fs::create_dir_all(&how.scratch)?;
     let mut lines = Vec::new();
     for image in &images {
         for way in Way::ALL {
-            if let Some(line) = line(image, way, rounds, counts, &scratch)? {
+            if let Some(line) = line(image, way, &how)? {
                 eprintln!("{} {}", line.name, line.way.name());
                 lines.push(line);
             }
         }
     }
-    fs::remove_dir_all(&scratch)?;
+    fs::remove_dir_all(&how.scratch)?;
     print!("{}", table(&lines));
     print!("{}", verdicts(&lines));
     if let Some(file) = option(words, "--svg") {
@@ -158,14 +180,9 @@ fn made() -> Vec<Image> {
     images
 }
 
-/// Nothing for a blob that is refused, or has no blocks to walk.
-fn line(
-    image: &Image,
-    way: Way,
-    rounds: usize,
-    counts: bool,
-    scratch: &Path,
-) -> Result<Option<Line>, Box<dyn Error>> {
+/// Nothing for a blob that is refused, or has no blocks to walk, or of which
+/// nothing would be measured.
+fn line(image: &Image, way: Way, how: &How) -> Result<Option<Line>, Box<dyn Error>> {
     let Some(mut task) = Task::new(&image.blob) else {
         return Ok(None);
     };
@@ -189,7 +206,14 @@ fn line(
         _ => FLOATS,
     };
     let count = cells.len();
-    let times = least_times(&mut task, way, rounds);
+    let counted = how.counts && count <= COUNTED;
+    if how.rounds.is_none() && !counted {
+        return Ok(None);
+    }
+    let times = match how.rounds {
+        Some(rounds) => least_times(&mut task, way, rounds),
+        None => vec![None; Reader::ALL.len()],
+    };
     let mut line = Line {
         name: image.name.clone(),
         way,
@@ -202,12 +226,15 @@ fn line(
             .collect(),
         counts: vec![None; Reader::ALL.len()],
     };
-    if counts && count <= COUNTED {
-        let file = scratch.join("image.lerc2");
+    if counted {
+        let file = how.scratch.join("image.lerc2");
         fs::write(&file, &image.blob)?;
         for (n, &reader) in Reader::ALL.iter().enumerate() {
             if reader.has(way) {
-                let found = instructions(&file, way, reader)?;
+                let found = match how.emulator {
+                    None => instructions(&file, way, reader)?,
+                    Some(words) => emulated(words, &file, way, reader)?,
+                };
                 line.counts[n] = Some(found as f64 / count as f64);
             }
         }
@@ -255,6 +282,26 @@ fn instructions(file: &Path, way: Way, reader: Reader) -> Result<u64, Box<dyn Er
     Ok(count.trim().parse()?)
 }
 
+/// The same by an emulator that ends with a line `insns N`.
+fn emulated(words: &str, file: &Path, way: Way, reader: Reader) -> Result<u64, Box<dyn Error>> {
+    let run = |calls: u64| -> Result<u64, Box<dyn Error>> {
+        let mut words = words.split_whitespace();
+        let output = Command::new(words.next().ok_or("no emulator")?)
+            .args(words)
+            .arg(own_path()?)
+            .args(["one".as_ref(), file.as_os_str()])
+            .args([way.name(), reader.name(), &calls.to_string()])
+            .output()?;
+        let text = String::from_utf8_lossy(&output.stderr);
+        let said = text.lines().find_map(|line| line.strip_prefix("insns "));
+        match said {
+            Some(count) if output.status.success() => Ok(count.parse()?),
+            _ => Err(format!("the emulator said: {text}").into()),
+        }
+    };
+    Ok((run(2 * CALLS)? - run(CALLS)?) / CALLS)
+}
+
 fn own_path() -> Result<PathBuf, Box<dyn Error>> {
     Ok(std::env::current_exe()?)
 }
@@ -263,30 +310,88 @@ fn shown(number: Option<f64>) -> String {
     number.map_or("-".into(), |number| format!("{number:.2}"))
 }
 
+fn timed(lines: &[Line]) -> bool {
+    lines.iter().any(|line| line.times[0].is_some())
+}
+
 fn table(lines: &[Line]) -> String {
+    let timed = timed(lines);
     let mut text = String::from("| image | way |");
     for reader in Reader::ALL {
-        text += &format!(" {} ns | {} instr |", reader.name(), reader.name());
+        if timed {
+            text += &format!(" {} ns |", reader.name());
+        }
+        text += &format!(" {} instr |", reader.name());
     }
-    text += " ratio, time | ratio, instr | bar |\n|---|---|";
-    text += &"---|".repeat(2 * Reader::ALL.len() + 3);
+    if timed {
+        text += " ratio, time |";
+    }
+    text += " ratio, instr | bar |\n|---|---|";
+    let columns = Reader::ALL.len() + 1;
+    text += &"---|".repeat(columns * if timed { 2 } else { 1 } + 1);
     text += "\n";
     for line in lines {
         text += &format!("| {} | {} |", line.name, line.way.name());
         for n in 0..Reader::ALL.len() {
-            text += &format!(" {} | {} |", shown(line.times[n]), shown(line.counts[n]));
+            if timed {
+                text += &format!(" {} |", shown(line.times[n]));
+            }
+            text += &format!(" {} |", shown(line.counts[n]));
         }
-        let ratios = [&line.times, &line.counts].map(|numbers| shown(Line::ratio(numbers)));
-        text += &format!(" {} | {} | {} |\n", ratios[0], ratios[1], line.bar);
+        if timed {
+            text += &format!(" {} |", shown(Line::ratio(&line.times)));
+        }
+        text += &format!(" {} | {} |\n", shown(Line::ratio(&line.counts)), line.bar);
     }
     text
 }
 
-/// Whether each bar holds, by the worst image.
+/// Whether each bar holds.
 fn verdicts(lines: &[Line]) -> String {
-    let mut text = String::from(
-        "\n| bar | worst by time | worst by instructions | holds |\n|---|---|---|---|\n",
-    );
+    let mut text = if timed(lines) {
+        "\n| bar | worst by time | worst by instructions | holds |\n|---|---|---|---|\n"
+    } else {
+        "\n| bar | worst by instructions | holds |\n|---|---|---|\n"
+    }
+    .to_string();
+    text += &bars(lines);
+    text += &growths(lines);
+    text
+}
+
+/// A number with the words for it, and whether it holds.
+struct Verdict {
+    words: String,
+    holds: &'static str,
+}
+
+impl Verdict {
+    fn of(number: Option<f64>, bar: f64, name: &str) -> Verdict {
+        let holds = match number {
+            Some(number) if number <= bar => "yes",
+            Some(_) => "no",
+            None => "-",
+        };
+        Verdict {
+            words: shown(number) + name,
+            holds,
+        }
+    }
+}
+
+fn verdict(name: &str, time: Option<Verdict>, count: Verdict) -> String {
+    match time {
+        Some(time) => format!(
+            "| {name} | {} | {} | time {}, instructions {} |\n",
+            time.words, count.words, time.holds, count.holds
+        ),
+        None => format!("| {name} | {} | {} |\n", count.words, count.holds),
+    }
+}
+
+/// By the worst image of each sort.
+fn bars(lines: &[Line]) -> String {
+    let mut text = String::new();
     let classes = [
         ("integer kinds in blocks, at most 3", INTEGERS),
         ("float kinds in blocks, at most 6", FLOATS),
@@ -295,27 +400,29 @@ fn verdicts(lines: &[Line]) -> String {
     for way in Way::ALL {
         for (name, bar) in classes {
             let of_class = |line: &&Line| line.way == way && line.bar == bar;
+            if !lines.iter().any(|line| of_class(&line)) {
+                continue;
+            }
             let worst = |numbers: fn(&Line) -> &Vec<Option<f64>>| {
-                lines
+                let worst = lines
                     .iter()
                     .filter(of_class)
-                    .filter_map(|line| Some((Line::ratio(numbers(line))?, line.name.as_str())))
-                    .max_by(|a, b| a.0.total_cmp(&b.0))
+                    .filter_map(|line| Some((Line::ratio(numbers(line))?, &line.name)))
+                    .max_by(|a, b| a.0.total_cmp(&b.0));
+                let name = worst.map_or(String::new(), |(_, name)| format!(" ({name})"));
+                Verdict::of(worst.map(|(ratio, _)| ratio), bar, &name)
             };
-            let (time, count) = (worst(|line| &line.times), worst(|line| &line.counts));
-            let Some(time) = time else { continue };
-            let holds = |worst: f64| if worst <= bar { "yes" } else { "no" };
-            let by_count = count.map_or("-".into(), |(ratio, name)| format!("{ratio:.2} ({name})"));
-            text += &format!(
-                "| {name}: {} | {:.2} ({}) | {by_count} | time {}, instructions {} |\n",
-                way.name(),
-                time.0,
-                time.1,
-                holds(time.0),
-                count.map_or("-", |(ratio, _)| holds(ratio)),
-            );
+            let time = timed(lines).then(|| worst(|line| &line.times));
+            let name = format!("{name}: {}", way.name());
+            text += &verdict(&name, time, worst(|line| &line.counts));
         }
     }
+    text
+}
+
+/// Whether a cell of the largest image costs what one of the smallest does.
+fn growths(lines: &[Line]) -> String {
+    let mut text = String::new();
     for way in Way::ALL {
         for kind in ["u16", "f32"] {
             let rows: Vec<&Line> = lines
@@ -330,25 +437,19 @@ fn verdicts(lines: &[Line]) -> String {
                 let last = rows.iter().rev().find_map(|line| numbers(line));
                 Some(last? / numbers(first)?)
             };
-            let time = growth(&|line| line.times[0]);
-            let plain = growth(&|line| line.times[1]);
-            let count = growth(&|line| line.counts[0]);
-            let holds = |growth: Option<f64>| match growth {
-                Some(growth) if growth <= GROWTH => "yes",
-                Some(_) => "no",
-                None => "-",
-            };
-            text += &format!(
-                "| linear: a cell of {} costs at most 1.1 times one of {}: {} | {} (plain {}) | {} | time {}, instructions {} |\n",
+            let time = timed(lines).then(|| {
+                let plain = shown(growth(&|line| line.times[1]));
+                let own = growth(&|line| line.times[0]);
+                Verdict::of(own, GROWTH, &format!(" (plain {plain})"))
+            });
+            let count = Verdict::of(growth(&|line| line.counts[0]), GROWTH, "");
+            let name = format!(
+                "linear: a cell of {} costs at most {GROWTH} times one of {}: {}",
                 last.name,
                 first.name,
-                way.name(),
-                shown(time),
-                shown(plain),
-                shown(count),
-                holds(time),
-                holds(count),
+                way.name()
             );
+            text += &verdict(&name, time, count);
         }
     }
     text

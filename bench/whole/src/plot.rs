@@ -2,7 +2,7 @@
 //! the size of an image.
 
 use crate::task::Way;
-use crate::Line;
+use crate::{timed, Line};
 
 const WIDTH: f64 = 980.0;
 const LEFT: f64 = 310.0;
@@ -18,11 +18,13 @@ pub fn svg(lines: &[Line]) -> String {
          font-family=\"sans-serif\" font-size=\"11\">\n\
          <rect width=\"100%\" height=\"100%\" fill=\"white\"/>\n"
     );
-    out += &text(
-        10.0,
-        18.0,
-        "Proved reader: times the plain one (dark: instructions, light: time, line: bar)",
-    );
+    let key = if timed(lines) {
+        "dark: instructions, light: time, line: bar"
+    } else {
+        "by instructions; line: bar"
+    };
+    let title = format!("Proved reader: times the plain one ({key})");
+    out += &text(10.0, 18.0, &title);
     for (n, line) in bars.iter().enumerate() {
         ratio_row(&mut out, line, 34.0 + ROW * n as f64);
     }
@@ -61,27 +63,32 @@ fn ratio_row(out: &mut String, line: &Line, y: f64) {
     );
 }
 
-/// Nanoseconds a cell of a whole read, by the logarithm of the cells.
+/// Nanoseconds a cell of a whole read, or instructions where there are no
+/// times, by the logarithm of the cells.
 fn curves(out: &mut String, lines: &[Line], top: f64) {
     let sized: Vec<&Line> = lines
         .iter()
         .filter(|line| line.sized && line.way == Way::Read)
         .collect();
+    let timed = timed(lines);
+    let costs = |line: &Line| [0, 1].map(|n| if timed { line.times[n] } else { line.counts[n] });
     let most = sized
         .iter()
-        .flat_map(|line| line.times[..2].iter().flatten())
-        .fold(1.0, |most: f64, &time| most.max(time));
+        .flat_map(|line| costs(line).into_iter().flatten())
+        .fold(1.0, |most: f64, cost| most.max(cost));
     let (bottom, right) = (top + 240.0, WIDTH - 120.0);
-    *out += &text(10.0, top, "Whole read: ns a cell, by cells (logarithmic)");
+    let unit = if timed { "ns" } else { "instructions" };
+    let title = format!("Whole read: {unit} a cell, by cells (logarithmic)");
+    *out += &text(10.0, top, &title);
     *out += &format!(
         "<path d=\"M{LEFT} {:.1} V{bottom:.1} H{right:.1}\" fill=\"none\" stroke=\"black\"/>\n",
         top + 10.0
     );
     let x_of = |cells: usize| LEFT + ((cells as f64).log2() - 12.0) / 10.0 * (right - LEFT);
-    let y_of = |time: f64| bottom - time / most * 220.0;
+    let y_of = |cost: f64| bottom - cost / most * 220.0;
     for mark in 0..=4 {
-        let time = most * f64::from(mark) / 4.0;
-        *out += &text(LEFT - 45.0, y_of(time) + 4.0, &format!("{time:.1}"));
+        let cost = most * f64::from(mark) / 4.0;
+        *out += &text(LEFT - 45.0, y_of(cost) + 4.0, &format!("{cost:.1}"));
     }
     let mut labels: Vec<(f64, String)> = Vec::new();
     for (kind, colour) in [("u16", "#2b5c8a"), ("f32", "#c07020")] {
@@ -89,7 +96,7 @@ fn curves(out: &mut String, lines: &[Line], top: f64) {
             let points: Vec<(f64, f64)> = sized
                 .iter()
                 .filter(|line| line.name.starts_with(kind))
-                .filter_map(|line| Some((x_of(line.cells), y_of(line.times[reader]?))))
+                .filter_map(|line| Some((x_of(line.cells), y_of(costs(line)[reader]?))))
                 .collect();
             let Some(&(_, y)) = points.last() else {
                 continue;

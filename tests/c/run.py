@@ -1,0 +1,72 @@
+#!/usr/bin/env python3
+"""Runs the C examples on the stored blobs of lerc_fill_cases and compares what they write with Esri's cells.
+
+    python3 tests/c/run.py FOLDER [EMULATOR AND ITS WORDS]      FOLDER has the programs read and blocks (target/examples)
+
+In data blob i is file 2i and what Esri's decoder gave for it file 2i + 1 (its form is in tests/fill/make.py). Ends with
+status 1 if anything differs.
+"""
+import glob
+import os
+import struct
+import subprocess
+import sys
+
+DATA = os.path.join(os.path.dirname(os.path.abspath(__file__)), '../../crates/lerc_fill_cases/data')
+WORD = ('B', 'B', 'H', 'H', 'I', 'I', 'I', 'Q')
+
+
+class Expected:
+    def __init__(self, path):
+        b = open(path, 'rb').read()
+        _, self.kind, self.rows, self.columns, self.depth, self.valid, self.blocks, self.end = struct.unpack_from('<8I', b, 8)
+        self.pixels = self.rows * self.columns
+        length = (self.pixels + 7) // 8
+        self.mask = b[48:48 + length]
+        self.cells = struct.unpack_from('<%d%s' % (self.pixels * self.depth, WORD[self.kind]), b, 48 + length)
+
+    def has(self, cell):
+        pixel = cell // self.depth
+        return self.mask[pixel // 8] >> (7 - pixel % 8) & 1
+
+    def read(self):
+        """All that `read` writes."""
+        head = (self.columns, self.rows, self.depth, self.kind, self.valid)
+        lines = ['width %d height %d depth %d kind %d valid %d' % head, 'blocks %d' % self.blocks]
+        lines += ['cell %d %s' % (c, word if self.has(c) else '-') for c, word in enumerate(self.cells)]
+        return lines + ['end %d' % self.end]
+
+    def filled(self):
+        """The cells that `blocks` writes, where no valid pixel is 0."""
+        return ['cell %d %d' % (c, word if self.has(c) else 0) for c, word in enumerate(self.cells)]
+
+
+def fits(e, lines):
+    """What `blocks` writes: the count and the end, each block once, as many words as there are valid cells, and the cells."""
+    fills = [line.split() for line in lines if line.startswith('block ')]
+    numbers, words = [int(f[1]) for f in fills], sum(int(f[5]) for f in fills)
+    return ('blocks %d end %d' % (e.blocks, e.end) in lines and numbers == list(reversed(range(e.blocks)))
+            and words == e.valid * e.depth and lines[-len(e.cells):] == e.filled())
+
+
+def main():
+    folder, emulator = sys.argv[1], sys.argv[2:]
+    files = sorted(glob.glob(os.path.join(DATA, '[0-9][0-9][0-9]')))
+    differ = cells = 0
+    for blob, expect in zip(files[0::2], files[1::2]):
+        e = Expected(expect)
+        said = {}
+        for name in ('read', 'blocks'):
+            ran = subprocess.run(emulator + [os.path.join(folder, name)], stdin=open(blob, 'rb'), stdout=subprocess.PIPE, text=True)
+            said[name] = ran.stdout.splitlines() if ran.returncode == 0 else []
+        for name, same in (('read', said['read'] == e.read()), ('blocks', fits(e, said['blocks']))):
+            if not same:
+                differ += 1
+                print('%s: %s differs' % (os.path.basename(blob), name))
+        cells += e.valid * e.depth
+    print('%d blobs, %d valid cells, by read and by blocks: %d differ' % (len(files) // 2, cells, differ))
+    return 1 if differ or not files else 0
+
+
+if __name__ == '__main__':
+    sys.exit(main())
