@@ -17,6 +17,16 @@ pub enum Op {
 }
 
 impl Op {
+    /// All but arithmetic.
+    pub const READING: [Op; 6] = [
+        Op::Header,
+        Op::Mask,
+        Op::Ranges,
+        Op::Walk,
+        Op::Fill,
+        Op::Read,
+    ];
+
     pub const ALL: [Op; 11] = [
         Op::Header,
         Op::Mask,
@@ -94,6 +104,43 @@ impl Case {
             ..Case::new(op)
         }
     }
+}
+
+/// What a slice has for elements.
+pub trait Element: Copy + Default + PartialEq + From<u8> {}
+
+impl Element for u8 {}
+impl Element for u64 {}
+impl Element for usize {}
+
+/// One slice of a call.
+pub type Part<T> = fn(&mut Case) -> &mut Vec<T>;
+
+const BYTES: [Part<u8>; 4] = [
+    |case| &mut case.blob,
+    |case| &mut case.mask,
+    |case| &mut case.kept,
+    |case| &mut case.spare,
+];
+
+const NUMBERS: [Part<u64>; 4] = [
+    |case| &mut case.header,
+    |case| &mut case.ranges,
+    |case| &mut case.image,
+    |case| &mut case.said,
+];
+
+const STARTS: [Part<usize>; 1] = [|case| &mut case.list];
+
+/// What is done with a slice, whatever its elements are.
+pub trait Visit {
+    fn part<T: Element>(&mut self, part: Part<T>);
+}
+
+pub fn each_part(visit: &mut impl Visit) {
+    BYTES.into_iter().for_each(|part| visit.part(part));
+    NUMBERS.into_iter().for_each(|part| visit.part(part));
+    STARTS.into_iter().for_each(|part| visit.part(part));
 }
 
 /// What a call left: its answer, the word of an arithmetic operation, every

@@ -1,7 +1,7 @@
 //! Calls made out of one form: every operation, with slices of lengths around
 //! what the rules ask for.
 
-use crate::case::{Case, Op};
+use crate::case::{each_part, Case, Element, Op, Part, Visit};
 use crate::damage;
 use crate::form::{any_form, form, Body, Fault, Form, Wanted};
 use crate::random::Random;
@@ -243,14 +243,7 @@ fn block_number(random: &mut Random, blocks: usize) -> u64 {
 
 /// The blob cut at every length, with room for everything.
 fn cuts(random: &mut Random, blob: &Blob, out: &mut Vec<Case>) {
-    let op = random.pick(&[
-        Op::Header,
-        Op::Mask,
-        Op::Ranges,
-        Op::Walk,
-        Op::Fill,
-        Op::Read,
-    ]);
+    let op = random.pick(&Op::READING);
     let with_size = random.once_in(2);
     for length in 0..blob.bytes.len() {
         let mut case = exact(random, blob, op);
@@ -271,49 +264,44 @@ fn cuts(random: &mut Random, blob: &Blob, out: &mut Vec<Case>) {
 
 /// Every slice in turn one short, exact, one long and empty.
 fn rooms(random: &mut Random, blob: &Blob, out: &mut Vec<Case>) {
-    for op in [
-        Op::Header,
-        Op::Mask,
-        Op::Ranges,
-        Op::Walk,
-        Op::Fill,
-        Op::Read,
-    ] {
+    for op in Op::READING {
         let case = exact(random, blob, op);
-        let lengths = |length: usize| [length.saturating_sub(1), length + 1, 0];
-        for turn in 0..3 {
-            let mut vary = |lent: bool, change: &dyn Fn(&mut Case)| {
-                if lent {
-                    let mut case = case.clone();
-                    change(&mut case);
-                    out.push(case);
-                }
-            };
-            vary(true, &|c| c.blob.resize(lengths(c.blob.len())[turn], 7));
-            vary(!case.header.is_empty(), &|c| {
-                c.header.resize(lengths(c.header.len())[turn], 7)
+        for change in [shorter, longer, empty] {
+            each_part(&mut Resized {
+                case: &case,
+                change,
+                out,
             });
-            vary(!case.ranges.is_empty(), &|c| {
-                c.ranges.resize(lengths(c.ranges.len())[turn], 7)
-            });
-            vary(!case.mask.is_empty(), &|c| {
-                c.mask.resize(lengths(c.mask.len())[turn], 7)
-            });
-            vary(!case.kept.is_empty(), &|c| {
-                c.kept.resize(lengths(c.kept.len())[turn], 7)
-            });
-            vary(!case.spare.is_empty(), &|c| {
-                c.spare.resize(lengths(c.spare.len())[turn], 7)
-            });
-            vary(!case.list.is_empty(), &|c| {
-                c.list.resize(lengths(c.list.len())[turn], 7)
-            });
-            vary(!case.image.is_empty(), &|c| {
-                c.image.resize(lengths(c.image.len())[turn], 7)
-            });
-            vary(!case.said.is_empty(), &|c| {
-                c.said.resize(lengths(c.said.len())[turn], 7)
-            });
+        }
+    }
+}
+
+fn shorter(length: usize) -> usize {
+    length.saturating_sub(1)
+}
+
+fn longer(length: usize) -> usize {
+    length + 1
+}
+
+fn empty(_length: usize) -> usize {
+    0
+}
+
+/// Each slice that is lent, in turn, with another length.
+struct Resized<'a> {
+    case: &'a Case,
+    change: fn(usize) -> usize,
+    out: &'a mut Vec<Case>,
+}
+
+impl Visit for Resized<'_> {
+    fn part<T: Element>(&mut self, part: Part<T>) {
+        let mut case = self.case.clone();
+        let slice = part(&mut case);
+        if !slice.is_empty() {
+            slice.resize((self.change)(slice.len()), T::from(7));
+            self.out.push(case);
         }
     }
 }

@@ -1,126 +1,106 @@
 //! Makes a failing call smaller while it still fails.
 
-use crate::case::Case;
+use crate::case::{each_part, Case, Element, Part, Visit};
 
 /// Tries of one shrinking; each is a call on both sides.
 const TRIES: usize = 20_000;
 
 pub fn shrunk(case: &Case, fails: &dyn Fn(&Case) -> bool) -> Case {
-    let mut best = case.clone();
-    let mut tries = 0;
+    let mut search = Search {
+        best: case.clone(),
+        tries: 0,
+        fails,
+    };
     loop {
-        let before = best.clone();
-        shorten(&mut best, &mut tries, fails);
-        clear(&mut best, &mut tries, fails);
-        if best == before || tries >= TRIES {
-            return best;
+        let before = search.best.clone();
+        each_part(&mut Shorten(&mut search));
+        each_part(&mut Clear(&mut search));
+        search.lower_numbers();
+        if search.best == before || search.is_over() {
+            return search.best;
         }
     }
 }
 
-type Part<T> = fn(&mut Case) -> &mut Vec<T>;
+/// The smallest failing call so far.
+struct Search<'a> {
+    best: Case,
+    tries: usize,
+    fails: &'a dyn Fn(&Case) -> bool,
+}
 
-const BYTES: [Part<u8>; 4] = [
-    |case| &mut case.blob,
-    |case| &mut case.mask,
-    |case| &mut case.kept,
-    |case| &mut case.spare,
-];
-
-const NUMBERS: [Part<u64>; 4] = [
-    |case| &mut case.header,
-    |case| &mut case.ranges,
-    |case| &mut case.image,
-    |case| &mut case.said,
-];
-
-const STARTS: [Part<usize>; 1] = [|case| &mut case.list];
-
-fn shorten(best: &mut Case, tries: &mut usize, fails: &dyn Fn(&Case) -> bool) {
-    for part in BYTES {
-        shorten_part(best, part, tries, fails);
+impl Search<'_> {
+    fn is_over(&self) -> bool {
+        self.tries >= TRIES
     }
-    for part in NUMBERS {
-        shorten_part(best, part, tries, fails);
+
+    /// Keeps a smaller call that still fails.
+    fn offer(&mut self, smaller: Case) -> bool {
+        self.tries += 1;
+        let fails = (self.fails)(&smaller);
+        if fails {
+            self.best = smaller;
+        }
+        fails
     }
-    for part in STARTS {
-        shorten_part(best, part, tries, fails);
+
+    /// The two numbers toward zero, by ever smaller steps.
+    fn lower_numbers(&mut self) {
+        for n in 0..2 {
+            let mut step = self.best.numbers[n];
+            while step > 0 && !self.is_over() {
+                let mut smaller = self.best.clone();
+                smaller.numbers[n] = smaller.numbers[n].saturating_sub(step);
+                if smaller.numbers[n] == self.best.numbers[n] || !self.offer(smaller) {
+                    step /= 2;
+                }
+            }
+        }
     }
 }
 
 /// Takes pieces away, from the end on.
-fn shorten_part<T: Clone>(
-    best: &mut Case,
-    part: Part<T>,
-    tries: &mut usize,
-    fails: &dyn Fn(&Case) -> bool,
-) {
-    let mut piece = part(best).len();
-    while piece > 0 {
-        let mut end = part(best).len();
-        while end > 0 && *tries < TRIES {
-            let from = end.saturating_sub(piece);
-            let mut smaller = best.clone();
-            part(&mut smaller).drain(from..end);
-            *tries += 1;
-            if fails(&smaller) {
-                *best = smaller;
-            }
-            end = from;
-        }
-        piece /= 2;
-    }
-}
+struct Shorten<'a, 'b>(&'a mut Search<'b>);
 
-fn clear(best: &mut Case, tries: &mut usize, fails: &dyn Fn(&Case) -> bool) {
-    for part in BYTES {
-        clear_part(best, part, tries, fails);
-    }
-    for part in NUMBERS {
-        clear_part(best, part, tries, fails);
-    }
-    for part in STARTS {
-        clear_part(best, part, tries, fails);
-    }
-    for n in 0..2 {
-        // Toward zero by ever smaller steps.
-        let mut step = best.numbers[n];
-        while step > 0 && *tries < TRIES {
-            let mut smaller = best.clone();
-            smaller.numbers[n] = smaller.numbers[n].saturating_sub(step);
-            *tries += 1;
-            if smaller.numbers[n] < best.numbers[n] && fails(&smaller) {
-                *best = smaller;
-            } else {
-                step /= 2;
+impl Visit for Shorten<'_, '_> {
+    fn part<T: Element>(&mut self, part: Part<T>) {
+        let search = &mut *self.0;
+        let mut piece = part(&mut search.best).len();
+        while piece > 0 {
+            let mut end = part(&mut search.best).len();
+            while end > 0 && !search.is_over() {
+                let from = end.saturating_sub(piece);
+                let mut smaller = search.best.clone();
+                part(&mut smaller).drain(from..end);
+                search.offer(smaller);
+                end = from;
             }
+            piece /= 2;
         }
     }
 }
 
-/// Sets pieces to zero.
-fn clear_part<T: Clone + Default + PartialEq>(
-    best: &mut Case,
-    part: Part<T>,
-    tries: &mut usize,
-    fails: &dyn Fn(&Case) -> bool,
-) {
-    let zero = T::default();
-    let mut piece = part(best).len();
-    while piece > 0 {
-        let mut from = 0;
-        while from < part(best).len() && *tries < TRIES {
-            let to = (from + piece).min(part(best).len());
-            if part(best)[from..to].iter().any(|number| *number != zero) {
-                let mut smaller = best.clone();
-                part(&mut smaller)[from..to].fill(zero.clone());
-                *tries += 1;
-                if fails(&smaller) {
-                    *best = smaller;
+/// Puts zeros in place of pieces.
+struct Clear<'a, 'b>(&'a mut Search<'b>);
+
+impl Visit for Clear<'_, '_> {
+    fn part<T: Element>(&mut self, part: Part<T>) {
+        let search = &mut *self.0;
+        let zero = T::default();
+        let mut piece = part(&mut search.best).len();
+        while piece > 0 {
+            let mut from = 0;
+            while from < part(&mut search.best).len() && !search.is_over() {
+                let to = (from + piece).min(part(&mut search.best).len());
+                let mut smaller = search.best.clone();
+                let numbers = &mut part(&mut smaller)[from..to];
+                if numbers.iter().any(|number| *number != zero) {
+                    numbers.fill(zero);
+                    search.offer(smaller);
                 }
+                from = to;
             }
-            from = to;
+            piece /= 2;
         }
-        piece /= 2;
     }
 }
