@@ -1,5 +1,6 @@
 pub mod Pixels
 pub mod Bodies
-pub mod Answers
 pub mod Whole
+pub mod Checking
+pub mod Writing
 pub mod Masked

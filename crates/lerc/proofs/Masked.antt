@@ -5,22 +5,25 @@ use mathlib.Core.Bool.{Bool, true, false, cond, _&&_}
 use mathlib.Core.List.{List, []}
 use Prim.Native.Nat.{ℕ, _≤_}
 use native.Mathlib.Omega.{arith}
-use lib.ListN.{length, take, length-append}
+use lib.ListN.{length, take, length-append, length-take}
+use lib.Seq.{take-all}
 use lib.Dec.{leb}
 use borrow.Author.Tests.{le-leb, leb-true}
 use Rattle.lerc_words.specs.declared.Refusal.{Refusal}
-use Rattle.lerc_words.specs.Res.{Res, ok, fail, _>>=_, after}
+use Rattle.lerc_words.specs.Res.{Res, ok, fail, _>>=_, require, after}
 use Rattle.lerc_words.specs.Lists.{over}
-use Rattle.lerc_words.proofs.Laws.{and-is}
+use Rattle.lerc_slices.specs.Slices.{copied}
+use Rattle.lerc_words.proofs.Binding.{and-is, bind-is, require-is}
 use Rattle.lerc_header.specs.declared.Header.{Header}
 use Rattle.lerc_header.specs.declared.Extent.{Extent}
-use Rattle.lerc_header.specs.Header.{shapeOf, held, headerSays}
+use Rattle.lerc_header.specs.Header.{shapeOf, extentOf, fieldsRight, withinCeilings, held, headerSays}
 use Rattle.lerc_header.specs.Shape.{cells, maskLength, blockCount}
-use Rattle.lerc_header.proofs.Kept.{held-is, header-held}
-use Rattle.lerc_planes.specs.declared.MaskAnswer.{MaskAnswer}
-use Rattle.lerc_planes.specs.declared.MaskAnswer.the-variants as mask
-use Rattle.lerc_planes.specs.Validity.{InForce, reused, new, bytesOf, maskSays, prepareSays, spareWith, maskSaid, which, Prepared, inForce}
-use Rattle.lerc_planes.proofs.ValidityLaws.{prepared-right, in-force}
+use Rattle.lerc_header.proofs.Kept.{held-size, header-held}
+use Rattle.lerc_validity.specs.declared.MaskAnswer.{MaskAnswer}
+use Rattle.lerc_validity.specs.declared.MaskAnswer.the-variants as mask
+use Rattle.lerc_validity.specs.Validity.{InForce, reused, new, bytesOf, maskSays, findSays, prepareSays, spareWith, maskSaid, which, Prepared, inForce}
+use Rattle.lerc_validity.proofs.Preparing.{prepare-find, prepare-says}
+use Rattle.lerc_validity.proofs.Prepared.{Right, prepared-right, in-force}
 use Rattle.lerc.specs.declared.ReadAnswer.{ReadAnswer}
 use Rattle.lerc.specs.declared.ReadAnswer.the-variants as answer
 use Rattle.lerc.specs.Meaning.{Body, bodySays}
@@ -33,9 +36,11 @@ use Rattle.lerc.proofs.Whole.{read-refused, read-body, body-refused, bo
 
 module _ (kept spare : List ℕ) where
   -- a new mask is copied
-  pub keep-new : {said : MaskAnswer} (n : ℕ) → said ≡ mask.Spare n → n ≤ length spare → over (take n spare) kept ≡ over (inForce said kept spare) kept
+  pub keep-new : {said : MaskAnswer} (n : ℕ) → said ≡ mask.Spare n → (n ≤ length kept) × (n ≤ length spare) → copied (take n spare) kept ≡ over (inForce said kept spare) kept
   unfolding inForce
-  keep-new n e l = rw (e, le-leb n (length spare) l)
+  keep-new n e (k, l) =
+      let t : take (length kept) (take n spare) ≡ take n spare = take-all (length kept) (take n spare) (simp length-take (omega arith)) in
+      rw (e, le-leb n (length spare) l, t)
 
   -- a reused one stands there
   pub keep-old : {said : MaskAnswer} (n : ℕ) → said ≡ mask.Kept n → kept ≡ over (inForce said kept spare) kept
@@ -58,8 +63,19 @@ module _ {y : Res Body} {h : Header} {m : List ℕ} {old : List ℕ} {list list'
   kept-no t = let e = body-refused t in record { body = t; kept = rw (e) }
 
   -- an accepted one makes it the mask in force
-  pub kept-yes : {n end : ℕ} {next : List ℕ} → BodyRead y h m (answer.Whole n end) list list' image image' → next ≡ over m old → KeptRead y h m (answer.Whole n end) old next list list' image image'
+  pub kept-yes : {g : Header} {n end : ℕ} {next : List ℕ} → BodyRead y h m (answer.Whole g n end) list list' image image' → next ≡ over m old → KeptRead y h m (answer.Whole g n end) old next list list' image image'
   kept-yes t d = let (b, e) = body-read t in record { body = t; kept = rw (e, d) }
+
+-- ---- the blob's own bytes
+
+-- the header of a longer slice is held by them as well
+pub held-own : (h : Header) (n k : ℕ) {e : Extent} → held h n ≡ ok e → h .size ≤ k → held h k ≡ ok e
+unfolding held
+held-own h n k p l =
+    let (_, t3, p) = bind-is (require (fieldsRight h) 3) _ p in
+    let (_, t4, p) = bind-is (require (withinCeilings h) 4) _ p in
+    let (_, t1, p) = bind-is (require (leb (h .size) n) 1) _ p in
+    rw (require-is (fieldsRight h) 3 t3, require-is (withinCeilings h) 4 t4, le-leb (h .size) k l) p
 
 -- ---- the mask section
 
@@ -77,7 +93,7 @@ named {m} {said} {next} p e = go m (sym e ∙ p .says)
 
 module _ (b : List ℕ) (reuse : Bool) (l : Lent) (h : Header) (e : headerSays b ≡ ok h) (d : room h l ≡ true) where
   abbrev m : Res InForce
-  m = prepareSays b h reuse (l .kept) (length (l .spare))
+  m = findSays (take (h .size) b) h reuse (l .kept) (length (l .spare))
 
   pub record Rooms : Type 0 where
     pub kept : maskLength (shapeOf h) ≤ length (l .kept)
@@ -93,9 +109,18 @@ module _ (b : List ℕ) (reuse : Bool) (l : Lent) (h : Header) (e : headerSays b
       let (k1, k2) = and-is _ _ v in
       record { kept = leb-true _ _ k1; spare = leb-true _ _ k2; list = leb-true _ _ k3; image = leb-true _ _ k4 }
 
+  kept-header : held h (length b) ≡ ok (extentOf h)
+  kept-header = header-held b h e .1
+
+  -- the blob's own bytes
+  own : length (take (h .size) b) ≡ h .size
+  own = let (_, fits, _) = held-size h (length b) kept-header in simp length-take (omega arith)
+
+  prepare-is : prepareSays b h reuse (l .kept) (length (l .spare)) ≡ m
+  prepare-is = prepare-find b h reuse (l .kept) (length (l .spare)) kept-header
+
   mask-is : m ≡ maskSays (take (h .size) b) h reuse (l .kept)
-  unfolding prepareSays
-  mask-is = rw (header-held b h e .1, le-leb _ _ (rooms .kept), le-leb _ _ (rooms .spare))
+  mask-is = sym prepare-is ∙ prepare-says b h reuse (l .kept) (length (l .spare)) kept-header (rooms .kept) (rooms .spare)
 
   module _ {said : MaskAnswer} {newer : List ℕ} (p : Prepared m said (l .spare) newer) where
     -- a refused mask leaves everything
@@ -109,8 +134,11 @@ module _ (b : List ℕ) (reuse : Bool) (l : Lent) (h : Header) (e : headerSays b
         go (fail r) i u v = let z : r ≡ why = cc in rw (v) (read-refused b reuse l (mask-no b reuse l e d (sym mask-is ∙ i ∙ ap fail z)))
 
     module _ (f : InForce) (i : m ≡ ok f) where
+      right : Right (take (h .size) b) h (l .kept) f
+      right = prepared-right b h reuse (l .kept) (length (l .spare)) f (prepare-is ∙ i)
+
       part : inForce said (l .kept) newer ≡ bytesOf f
-      part = in-force f m said (l .kept) (l .spare) newer i (prepared-right b h reuse (l .kept) (length (l .spare)) f i .part) p
+      part = in-force f m said (l .kept) (l .spare) newer i (right .part) p
 
       fits : Fits said (l .kept) newer
       fits n q = go f i (sym (ap maskSaid q) ∙ p .says ∙ ap (λ (x : Res InForce). x >>= which) i) (p .spare ∙ ap (λ (x : Res InForce). after x (l .spare) (λ g. spareWith g (l .spare))) i)
@@ -119,20 +147,20 @@ module _ (b : List ℕ) (reuse : Bool) (l : Lent) (h : Header) (e : headerSays b
           go (reused w) j u v = absurd (let z : _≡_ {A = ℕ} 0 1 = cc in omega arith)
           go (new w) j u v =
               let z : n ≡ length w = cc in
-              let k : length w ≡ maskLength (shapeOf h) = prepared-right b h reuse (l .kept) (length (l .spare)) (new w) j .size in
+              let k : length w ≡ maskLength (shapeOf h) = prepared-right b h reuse (l .kept) (length (l .spare)) (new w) (prepare-is ∙ j) .size in
               (omega (arith, z, k, rooms .kept), rw (v, length-append) (omega (arith, z)))
 
       -- what the rest needs
-      pub behind : Behind b h said (l .kept) newer (l .list) (l .image)
+      pub behind : Behind (take (h .size) b) h said (l .kept) newer (l .list) (l .image)
       behind =
-          let right = prepared-right b h reuse (l .kept) (length (l .spare)) f i in
           record {
             ready = rw (part) (record {
-              header = header-held b h e .1;
+              header = held-own h (length b) (length (take (h .size) b)) kept-header (omega (arith, own));
+              whole = own;
               counts = right .counts;
               mask = omega (arith, right .size);
-              room = rooms .image;
             });
+            room = rooms .image;
             blocks = rooms .list;
             fits = fits;
           }
@@ -149,7 +177,7 @@ module _ (b : List ℕ) (reuse : Bool) (l : Lent) (h : Header) (e : headerSays b
 -- ---- room
 
 -- the tests of the code, over the sizes that it has, are room
-pub room-is : (h : Header) (n : ℕ) (x : Extent) (l : Lent) → held h n ≡ ok x
+pub room-is : (h : Header) (x : Extent) (l : Lent) → x ≡ extentOf h
     → (leb (x .mask) (length (l .kept)) && leb (x .mask) (length (l .spare)) && leb (x .blocks) (length (l .list)) && leb (x .cells) (length (l .image))) ≡ room h l
 unfolding room
-room-is h n x l k = rw (held-is h n k)
+room-is h x l k = rw (k)

@@ -1,4 +1,5 @@
--- What the code that writes a constant or raw body pixel by pixel does; not part of the rules.
+-- What private functions promise; not part of the rules.
+-- What writes a constant or raw body, pixel by pixel.
 -- Assumes nothing.
 use Prim.Native.Nat.{ℕ, _+_, _*_, _/_, _%_, _≤_}
 use mathlib.Core.Bool.{Bool, _&&_}

@@ -9,11 +9,11 @@ use Rattle.lerc_words.specs.Res.{Res, ok, _>>=_}
 use Rattle.lerc_header.specs.declared.Header.{Header}
 use Rattle.lerc_header.specs.Header.{shapeOf, headerBytes, headerSays}
 use Rattle.lerc_mask.specs.Mask.{validBelow}
-use Rattle.lerc_planes.specs.declared.Ranges.{Ranges}
-use Rattle.lerc_planes.specs.Validity.{InForce, bytesOf, maskSays}
-use Rattle.lerc_planes.specs.Ranges.{rangesSays, constantWords}
+use Rattle.lerc_ranges.specs.declared.Ranges.{Ranges}
+use Rattle.lerc_validity.specs.Validity.{InForce, bytesOf, maskSays}
+use Rattle.lerc_ranges.specs.Ranges.{rangesSays, constantWords}
 use Rattle.lerc_block.specs.Block.{rawWords}
-use Rattle.lerc_image.specs.Sweep.{Way, rawFrom, blocksFrom, swept}
+use Rattle.lerc_sweep.specs.Sweep.{Way, rawFrom, blocksFrom, swept}
 use Rattle.lerc_image.specs.Blocks.{Chain, allBlocks}
 use Rattle.lerc_image.specs.Paint.{wordOf}
 

@@ -12,7 +12,7 @@ use Rattle.lerc_words.specs.Lists.{over}
 use Rattle.lerc_header.specs.declared.Header.{Header}
 use Rattle.lerc_header.specs.Header.{shapeOf, headerSays}
 use Rattle.lerc_header.specs.Shape.{cells, maskLength, blockCount}
-use Rattle.lerc_planes.specs.Validity.{InForce, bytesOf, maskSays, spareWith}
+use Rattle.lerc_validity.specs.Validity.{InForce, bytesOf, maskSays, spareWith}
 use Rattle.lerc_image.specs.Geometry.{isValidCell}
 use Rattle.lerc_image.specs.Paint.{painted}
 use Rattle.lerc.specs.declared.ReadAnswer.{ReadAnswer}
@@ -78,20 +78,21 @@ readAfter (fail r) k l = refusedAfter k l
 -- ---- the answer
 
 pub record Whole : Type 0 where
+  pub header : Header
   pub blocks : ℕ
   pub end : ℕ
 
 abbrev pub readSaid : ReadAnswer → Res Whole
-readSaid (answer.Whole blocks end) = ok (record { blocks = blocks; end = end })
+readSaid (answer.Whole h blocks end) = ok (record { header = h; blocks = blocks; end = end })
 readSaid (answer.Refused r) = fail r
 
-abbrev pub readRefused : ReadAnswer → Refusal
-readRefused (answer.Whole blocks end) = refuse 0
-readRefused (answer.Refused r) = r
+abbrev pub refusalOfRead : ReadAnswer → Refusal
+refusalOfRead (answer.Whole h blocks end) = refuse 0
+refusalOfRead (answer.Refused r) = r
 
 -- what is reported of a meaning
 abbrev pub readCount : Meaning → Res Whole
-readCount m = ok (record { blocks = length (startsOf (m .body)); end = endOf (m .body) })
+readCount m = ok (record { header = m .header; blocks = length (startsOf (m .body)); end = endOf (m .body) })
 
 -- "answer, number, and every lent byte afterwards"
 pub record WholeRead (b : List ℕ) (reuse : Bool) (r : ReadAnswer) (old new : Lent) : Type 0 where

@@ -1,23 +1,72 @@
 // The body of a blob whose header and mask were accepted: all checking first, then writing that cannot fail.
 ghost use mathlib.Core.Path.{_≡_};
+ghost use mathlib.Core.List.{List};
 ghost use Prim.Native.Nat.{ℕ, _≤_};
-ghost use Rattle.lerc_header.specs.Shape.{blockCount};
-ghost use lib.ListN.{length, take};
+ghost use lib.ListN.{length};
+ghost use Rattle.lerc_words.specs.Res.{after};
+ghost use Rattle.lerc_words.specs.Lists.{over};
 ghost use Rattle.lerc_header.specs.Limits.{depthLimit};
 ghost use Rattle.lerc_header.specs.Header.{shapeOf};
-ghost use Rattle.lerc.specs.Meaning.{rawBody, blockBody, constantBody, sweptBody, bodySays};
-ghost use Rattle.lerc.specs.Parts.{Ready, LinearRead, BodyRead};
+ghost use Rattle.lerc_header.specs.Shape.{blockCount, cells};
+ghost use Rattle.lerc.specs.declared.ReadAnswer.the-variants as Answer;
+ghost use Rattle.lerc.specs.Meaning.{rawBody, blockBody, constantBody, sweptBody, bodySays, startsOf};
+ghost use Rattle.lerc.specs.Parts.{Ready, answerOf, bodyIn, bodyImage, Checked, ToWrite, Listed, Written};
 use super::ReadAnswer;
 use super::linear;
 use lerc_header::DEPTHS;
+use lerc_header::HEADER;
 use lerc_header::Header;
 use lerc_header::Shape;
 use lerc_image::WalkAnswer;
-use lerc_image::WayAnswer;
-use lerc_planes::ConstantsAnswer;
-use lerc_planes::Ranges;
-use lerc_planes::RangesAnswer;
+use lerc_ranges::ConstantsAnswer;
+use lerc_ranges::Ranges;
+use lerc_ranges::RangesAnswer;
+use lerc_sweep::WayAnswer;
 use lerc_words::Refusal;
+
+// What a body is, where its words or blocks begin, and where it ends.
+pub(crate) enum BodyFound {
+    Empty,
+    Constant { end: usize },
+    Raw { at: usize, end: usize },
+    Blocks { at: usize, count: usize, end: usize },
+    Refused(Refusal),
+}
+
+// A body that was checked. `words` are the words of a constant body, and the maxima of another.
+pub(crate) struct BodyChecked {
+    found: BodyFound,
+    words: [u64; DEPTHS],
+}
+
+impl BodyChecked {
+    pub(crate) fn answer(self, h: Header) -> ReadAnswer
+        ensures { λ r. ⌜ r ≡ answerOf h (self .found) ⌝ }
+    {
+        let found = self.found;
+        match found {
+            BodyFound::Empty => whole(h, 0, HEADER),
+            BodyFound::Constant { end } => whole(h, 0, end),
+            BodyFound::Raw { at: _at, end } => whole(h, 0, end),
+            BodyFound::Blocks {
+                at: _at,
+                count,
+                end,
+            } => whole(h, count, end),
+            BodyFound::Refused(why) => ReadAnswer::Refused(why),
+        }
+    }
+}
+
+fn whole(header: Header, blocks: usize, end: usize) -> ReadAnswer
+    ensures { λ r. ⌜ r ≡ Answer.Whole header blocks end ⌝ }
+{
+    ReadAnswer::Whole {
+        header,
+        blocks,
+        end,
+    }
+}
 
 fn shape(h: Header) -> Shape
     ensures { λ r. ⌜ r ≡ shapeOf h ⌝ }
@@ -31,114 +80,160 @@ fn shape(h: Header) -> Shape
 }
 
 // the minimum of each depth, stored: 9
-fn read_constant(blob: &[u8], h: Header, r: Ranges, mask: &[u8], image: &mut [u64]) -> ReadAnswer
-    requires { ⌜ (Ready (now blob) h (now mask) (now image)) × (length (r .min) ≡ depthLimit) ⌝ }
-    ensures { λ a. ⌜ LinearRead (constantBody h r) h (now (mask .entry)) a (now (image .entry)) (now (image .exit)) ⌝ }
+fn check_constant(h: Header, r: Ranges) -> BodyChecked
+    requires { ⌜ (h .depth ≤ depthLimit) × (length (r .min) ≡ depthLimit) ⌝ }
+    ensures { λ a. ⌜ ((s m : List ℕ) → Checked (constantBody h r) s h m (a .words) (a .found)) ⌝ }
 {
     let low = r.min;
-    let got = lerc_planes::convert(low, h.depth, h.kind);
+    let got = lerc_ranges::convert(low, h.depth, h.kind);
+    let words = got.words;
     let answer = got.answer;
     let ConstantsAnswer::Stored = answer else {
         let why = answer.refusal();
-        return ReadAnswer::Refused(why);
+        return BodyChecked {
+            found: BodyFound::Refused(why),
+            words,
+        };
     };
-    let words = got.words;
-    let s = shape(h);
-    linear::write_constant(s, &words, mask, &mut image[..]);
-    ReadAnswer::Whole {
-        blocks: 0,
-        end: r.at,
+    BodyChecked {
+        found: BodyFound::Constant { end: r.at },
+        words,
     }
 }
 
 // raw words, which must all fit: 1
-fn read_raw(blob: &[u8], h: Header, at: usize, mask: &[u8], image: &mut [u64]) -> ReadAnswer
-    requires { ⌜ Ready (now blob) h (now mask) (now image) ⌝ }
-    ensures { λ a. ⌜ LinearRead (rawBody (take (h .size) (now (blob .entry))) h at) h (now (mask .entry)) a (now (image .entry)) (now (image .exit)) ⌝ }
+fn check_raw(s: &[u8], h: Header, at: usize, mask: &[u8]) -> BodyFound
+    requires { ⌜ Ready (now s) h (now mask) ⌝ }
+    ensures { λ a. ⌜ ((words : List ℕ) → Checked (rawBody (now (s .entry)) h at) (now (s .entry)) h (now (mask .entry)) words a) ⌝ }
 {
-    let end = h.size as usize;
-    let size = lerc_numeric::size(h.kind);
-    let bytes = h.valid as usize * h.depth as usize * size;
-    if end < bytes {
-        return ReadAnswer::Refused(Refusal { number: 1 });
+    let bytes = h.valid as usize * h.depth as usize * lerc_numeric::size(h.kind);
+    if s.len() < bytes {
+        return BodyFound::Refused(Refusal { number: 1 });
     }
-    if end - bytes < at {
-        return ReadAnswer::Refused(Refusal { number: 1 });
+    if s.len() - bytes < at {
+        return BodyFound::Refused(Refusal { number: 1 });
     }
-    let s = shape(h);
-    linear::write_raw(s, &blob[..end], at, size, mask, &mut image[..]);
-    ReadAnswer::Whole {
-        blocks: 0,
+    BodyFound::Raw {
+        at,
         end: at + bytes,
     }
 }
 
 // blocks: 1, 8, 9
-fn read_blocks(
-    blob: &[u8],
-    h: Header,
-    maxima: &[u64; DEPTHS],
-    at: usize,
-    mask: &[u8],
-    list: &mut [usize],
-    image: &mut [u64],
-) -> ReadAnswer
-    requires { ⌜ (Ready (now blob) h (now mask) (now image)) × (blockCount (shapeOf h) ≤ length (now list)) ⌝ }
-    ensures { λ a. ⌜ BodyRead (blockBody (take (h .size) (now (blob .entry))) h (now (maxima .entry)) (now (mask .entry)) at) h (now (mask .entry)) a (now (list .entry)) (now (list .exit)) (now (image .entry)) (now (image .exit)) ⌝ }
+fn check_blocks(s: &[u8], h: Header, maxima: &[u64; DEPTHS], at: usize, mask: &[u8]) -> BodyFound
+    requires { ⌜ Ready (now s) h (now mask) ⌝ }
+    ensures { λ a. ⌜ Checked (blockBody (now (s .entry)) h (now (maxima .entry)) (now (mask .entry)) at) (now (s .entry)) h (now (mask .entry)) (now (maxima .entry)) a ⌝ }
 {
-    let walked = lerc_image::decode_tiles(blob, h, mask, maxima, at, &mut list[..], &mut image[..]);
+    let walked = lerc_image::check_tiles(s, h, mask, maxima, at);
     let WalkAnswer::Walked { blocks, end } = walked else {
-        return ReadAnswer::Refused(walked.refusal());
+        return BodyFound::Refused(walked.refusal());
     };
-    ReadAnswer::Whole { blocks, end }
+    BodyFound::Blocks {
+        at,
+        count: blocks,
+        end,
+    }
 }
 
 // the body that a sweep byte announces
-fn read_swept(
-    blob: &[u8],
-    h: Header,
-    r: Ranges,
-    mask: &[u8],
-    list: &mut [usize],
-    image: &mut [u64],
-) -> ReadAnswer
-    requires { ⌜ (Ready (now blob) h (now mask) (now image)) × (blockCount (shapeOf h) ≤ length (now list)) ⌝ }
-    ensures { λ a. ⌜ BodyRead (sweptBody (take (h .size) (now (blob .entry))) h r (now (mask .entry))) h (now (mask .entry)) a (now (list .entry)) (now (list .exit)) (now (image .entry)) (now (image .exit)) ⌝ }
+fn check_swept(s: &[u8], h: Header, ranges: Ranges, mask: &[u8]) -> BodyFound
+    requires { ⌜ Ready (now s) h (now mask) ⌝ }
+    ensures { λ a. ⌜ Checked (sweptBody (now (s .entry)) h ranges (now (mask .entry))) (now (s .entry)) h (now (mask .entry)) (ranges .max) a ⌝ }
 {
-    let size = h.size as usize;
-    let way = lerc_image::read_sweep(&blob[..size], r.at, h.kind, h.error);
+    let way = lerc_sweep::read_sweep(s, ranges.at, h.kind, h.error);
     match way {
-        WayAnswer::Raw(at) => read_raw(blob, h, at, mask, &mut image[..]),
-        WayAnswer::Blocks(at) => {
-            read_blocks(blob, h, &r.max, at, mask, &mut list[..], &mut image[..])
-        }
-        WayAnswer::Refused(why) => ReadAnswer::Refused(why),
+        WayAnswer::Raw(at) => check_raw(s, h, at, mask),
+        WayAnswer::Blocks(at) => check_blocks(s, h, &ranges.max, at, mask),
+        WayAnswer::Refused(why) => BodyFound::Refused(why),
     }
 }
 
-// the body: empty, constant, raw or in blocks
-pub(crate) fn read_body(
-    blob: &[u8],
-    h: Header,
-    mask: &[u8],
-    list: &mut [usize],
-    image: &mut [u64],
-) -> ReadAnswer
-    requires { ⌜ (Ready (now blob) h (now mask) (now image)) × (blockCount (shapeOf h) ≤ length (now list)) ⌝ }
-    ensures { λ a. ⌜ BodyRead (bodySays (take (h .size) (now (blob .entry))) h (now (mask .entry))) h (now (mask .entry)) a (now (list .entry)) (now (list .exit)) (now (image .entry)) (now (image .exit)) ⌝ }
+// What the body is: empty, constant, raw or in blocks. Nothing is written.
+pub(crate) fn check_body(s: &[u8], h: Header, mask: &[u8]) -> BodyChecked
+    requires { ⌜ Ready (now s) h (now mask) ⌝ }
+    ensures { λ a. ⌜ Checked (bodySays (now (s .entry)) h (now (mask .entry))) (now (s .entry)) h (now (mask .entry)) (a .words) (a .found) ⌝ }
 {
     if h.valid == 0 {
-        return ReadAnswer::Whole { blocks: 0, end: 70 };
+        return BodyChecked {
+            found: BodyFound::Empty,
+            words: [0; DEPTHS],
+        };
     }
-    let got = lerc_planes::read_ranges(blob, h);
+    let got = lerc_ranges::ranges_in(s, h);
     let answer = got.answer;
     let RangesAnswer::Read = answer else {
         let why = answer.refusal();
-        return ReadAnswer::Refused(why);
+        return BodyChecked {
+            found: BodyFound::Refused(why),
+            words: [0; DEPTHS],
+        };
     };
     let r = got.ranges;
     if r.constant {
-        return read_constant(blob, h, r, mask, &mut image[..]);
+        return check_constant(h, r);
     }
-    read_swept(blob, h, r, mask, &mut list[..], &mut image[..])
+    let found = check_swept(s, h, r, mask);
+    let words = r.max;
+    BodyChecked { found, words }
+}
+
+// the starts of the blocks of a checked body
+fn list_body(s: &[u8], h: Header, mask: &[u8], body: BodyChecked, list: &mut [usize])
+    requires { ⌜ (ToWrite (now s) h (now mask) (body .words) (body .found)) × (blockCount (shapeOf h) ≤ length (now list)) ⌝ }
+    ensures { λ r. ⌜ now (list .exit) ≡ after (bodyIn (now (s .entry)) h (now (mask .entry)) (body .words) (body .found)) (now (list .entry)) (λ y. over (startsOf y) (now (list .entry))) ⌝ }
+{
+    let found = body.found;
+    match found {
+        BodyFound::Blocks {
+            at,
+            count: _n,
+            end: _end,
+        } => lerc_image::list_tiles(s, h, mask, at, &mut list[..]),
+        BodyFound::Empty => {}
+        BodyFound::Constant { end: _end } => {}
+        BodyFound::Raw { at: _at, end: _end } => {}
+        BodyFound::Refused(_why) => {}
+    }
+}
+
+// the words of a checked body, whose blocks are listed
+fn fill_body(s: &[u8], h: Header, mask: &[u8], body: BodyChecked, list: &[usize], image: &mut [u64])
+    requires { ⌜ (ToWrite (now s) h (now mask) (body .words) (body .found)) × (Listed (now s) h (now mask) (body .words) (body .found) (now list)) × (blockCount (shapeOf h) ≤ length (now list)) × (cells (shapeOf h) ≤ length (now image)) ⌝ }
+    ensures { λ r. ⌜ now (image .exit) ≡ after (bodyIn (now (s .entry)) h (now (mask .entry)) (body .words) (body .found)) (now (image .entry)) (bodyImage h (now (mask .entry)) (now (image .entry))) ⌝ }
+{
+    let found = body.found;
+    let words = body.words;
+    let form = shape(h);
+    let size = lerc_numeric::size(h.kind);
+    match found {
+        BodyFound::Constant { end: _end } => {
+            linear::write_constant(form, &words, mask, &mut image[..])
+        }
+        BodyFound::Raw { at, end: _end } => {
+            linear::write_raw(form, s, at, size, mask, &mut image[..])
+        }
+        BodyFound::Blocks {
+            at: _at,
+            count: _n,
+            end: _end,
+        } => lerc_image::fill_tiles(s, h, mask, &words, list, &mut image[..]),
+        BodyFound::Empty => {}
+        BodyFound::Refused(_why) => {}
+    }
+}
+
+// List and image of a checked body; nothing is left that could be refused.
+pub(crate) fn write_body(
+    s: &[u8],
+    h: Header,
+    mask: &[u8],
+    body: BodyChecked,
+    list: &mut [usize],
+    image: &mut [u64],
+)
+    requires { ⌜ (ToWrite (now s) h (now mask) (body .words) (body .found)) × (blockCount (shapeOf h) ≤ length (now list)) × (cells (shapeOf h) ≤ length (now image)) ⌝ }
+    ensures { λ r. ⌜ Written (bodyIn (now (s .entry)) h (now (mask .entry)) (body .words) (body .found)) h (now (mask .entry)) (now (list .entry)) (now (list .exit)) (now (image .entry)) (now (image .exit)) ⌝ }
+{
+    list_body(s, h, mask, body, &mut list[..]);
+    fill_body(s, h, mask, body, &list[..], &mut image[..]);
 }

@@ -14,12 +14,12 @@ use Rattle.lerc_bits.specs.Bits as bits
 use Rattle.lerc_mask.specs.Mask.{pixelValid, copyAt, repeatAt, endAt, signedAt, stepAt, runs, coded}
 use Rattle.lerc_header.specs.Shape.{strips}
 use Rattle.lerc_header.specs.Header.{errorRight, pairRight, fieldsRight, withinCeilings, held, keyRight, headerOf, headerSays}
-use Rattle.lerc_planes.specs.Validity.{uniform, kept, unrolled, maskSays}
-use Rattle.lerc_planes.specs.Ranges.{uniformRanges, numberAt, byDepth, codedRanges, pairsRight, rangesSays, constantWords}
+use Rattle.lerc_validity.specs.Validity.{uniform, kept, unrolled, maskSays}
+use Rattle.lerc_ranges.specs.Ranges.{uniformRanges, numberAt, byDepth, codedRanges, pairsRight, rangesSays, constantWords}
 use Rattle.lerc_block.specs.Block.{rawWords, levelBlock, stepValue, steppedBlock, offsetAt, finiteOffset, offsetBlock, formed, flagAt, blockSays}
 use Rattle.lerc_image.specs.Geometry.{tileOf, pixelOf, blockOf, placeIn, rank}
 use Rattle.lerc_image.specs.Paint.{indexOf}
-use Rattle.lerc_image.specs.Sweep.{modeAt, moded, swept}
+use Rattle.lerc_sweep.specs.Sweep.{modeAt, moded, swept}
 use Rattle.lerc_image.specs.Blocks.{blockAt, chain}
 use Rattle.lerc_text.specs.Ascii.{ascii}
 use Rattle.lerc_text.specs.Text.{digits, line, shapeLine, cellLine, cellLines}

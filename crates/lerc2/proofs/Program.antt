@@ -2,7 +2,7 @@
 -- Assumes nothing.
 use Prim.Native.Nat.{ℕ, zero, suc, _+_, _/_, _≤_, _<_}
 use mathlib.Core.Path.{_≡_, _∙_, sym, ap, refl}
-use mathlib.Core.Bool.{true, false}
+use mathlib.Core.Bool.{Bool, true, false, _&&_, and-false}
 use mathlib.Core.List.{List, [], _∷_, _++_}
 use native.Mathlib.Decide.{decLe}
 use native.Mathlib.Nat.{le-trans}
@@ -14,14 +14,14 @@ use lib.Seq.{getD-drop, take-all, length-take-le, take-append-seam}
 use Rattle.lerc_words.specs.declared.Refusal.{Refusal}
 use Rattle.lerc_words.specs.Res.{Res, ok, fail, _>>=_, refuse, require}
 use Rattle.lerc_words.specs.Lists.{over}
-use Rattle.lerc_words.proofs.Laws.{bind-is, require-is, ok-is, bind-counts, bind-fail}
+use Rattle.lerc_words.proofs.Binding.{bind-is, require-is, ok-is, bind-counts, bind-fail}
 use Rattle.lerc_header.specs.declared.Header.{Header}
 use Rattle.lerc_header.specs.Header.{shapeOf, headerSays}
 use Rattle.lerc_header.specs.Shape.{cells, maskLength, blockCount, Shaped}
 use Rattle.lerc_header.proofs.Kept.{held-shaped, header-held}
 use Rattle.lerc_header.proofs.Sizes.{pixels-le, blocks-le}
 use Rattle.lerc_mask.specs.Mask.{pixelValid}
-use Rattle.lerc_planes.specs.Validity.{InForce, bytesOf, kept, maskSays}
+use Rattle.lerc_validity.specs.Validity.{InForce, bytesOf, kept, maskSays}
 use Rattle.lerc_image.specs.Geometry.{isValidCell}
 use Rattle.lerc_image.proofs.Painting.{painted-cell}
 use Rattle.lerc.specs.declared.ReadAnswer.the-variants as answer
@@ -40,18 +40,6 @@ module _ (b : List ℕ) where
   unfolding programSays
   long-says l = rw (lt-leb (length b) bytesMost l)
 
-  pub header-says : {why : Refusal} → length b ≤ bytesMost → headerSays b ≡ fail why → programSays b ≡ fail why
-  unfolding programSays
-  header-says l e = rw (le-leb (length b) bytesMost l, e)
-
-  pub cells-say : {h : Header} → length b ≤ bytesMost → headerSays b ≡ ok h → cellsMost < cells (shapeOf h) → programSays b ≡ fail (refuse 5)
-  unfolding programSays
-  cells-say {h} l e m = rw (le-leb (length b) bytesMost l, e, lt-leb (cells (shapeOf h)) cellsMost m)
-
-  pub meaning-says : {h : Header} → length b ≤ bytesMost → headerSays b ≡ ok h → cells (shapeOf h) ≤ cellsMost → programSays b ≡ meaning b false []
-  unfolding programSays
-  meaning-says {h} l e m = rw (le-leb (length b) bytesMost l, e, le-leb (cells (shapeOf h)) cellsMost m)
-
 -- one byte more than the most is enough of an input to tell its text
 pub front-text : (b : List ℕ) → programText (take (suc bytesMost) b) ≡ programText b
 front-text b = go (decLe (length b) bytesMost)
@@ -69,10 +57,6 @@ front-text b = go (decLe (length b) bytesMost)
 mask-unkept : (s : List ℕ) (h : Header) (old : List ℕ) → maskSays s h false old ≡ maskSays s h false []
 unfolding maskSays kept
 mask-unkept s h old = refl
-
--- an answer is one of the two
-pub never-both : {A : Type 0} {x : Res A} {a : A} {r : Refusal} → x ≡ ok a → x ≡ fail r → ⊥
-never-both e f = let z : _≡_ {A = ℕ} 0 1 = cc in omega arith
 
 -- the meaning of a blob has its header
 meaning-header : (b : List ℕ) {h : Header} {m : Meaning} → headerSays b ≡ ok h → meaning b false [] ≡ ok m → m .header ≡ h
@@ -123,47 +107,6 @@ module _ (m : Meaning) (l : Lent) (n : ℕ) (z : l .kept ≡ replicate n 0) (few
       let e = cells-same (cells (shapeOf head)) (validIn (head .depth) mask) (validIn (head .depth) (published m l .kept)) (cellWord head mask (m .body)) (wordIn (published m l .image)) (λ c h. valid-left c) (λ c h v. word-left c h (valid-left c ∙ v)) in
       ap (λ (t : List ℕ). shapeLine (head .columns) (head .rows) (head .depth) (head .kind) (head .valid) ++ line (ascii "blocks ") blocks ++ t ++ line (ascii "end ") end) e
 
-module _ (b : List ℕ) (h : Header) (n : ℕ) (l : Lent) (y : Ready b h n l) where
-  shaped : Shaped (shapeOf h)
-  shaped = held-shaped h (length b) (header-held b h (y .header) .1)
-
-  few : cells (shapeOf h) ≤ cellsMost
-  few = rw (y .cells) at (y .few)
-
-  roomy : room h l ≡ true
-  unfolding room
-  roomy =
-      let s = shapeOf h in
-      let p : maskLength s ≤ 512 = omega (arith, pixels-le s shaped, few) in
-      let q : blockCount s ≤ cellsMost = le-trans (blocks-le s shaped) few in
-      rw (y .kept, y .spare, y .list, y .image, length-replicate, le-leb (maskLength s) 512 p, le-leb (blockCount s) cellsMost q, le-leb (cells s) cellsMost few)
-
-  read-means : readSays b false l ≡ meaning b false []
-  unfolding readSays masked meaning
-  read-means = rw (y .header, roomy, mask-unkept (take (h .size) b) h (l .kept)) (go (maskSays (take (h .size) b) h false []))
-    where
-      go : (x : Res InForce) → ((x >>= λ m. ok (record { header = h; mask = m })) >>= λ (k : Masked). meaningFrom b (k .header) (k .mask)) ≡ (x >>= λ m. meaningFrom b h m)
-      go (ok m) = refl
-      go (fail r) = refl
-
-  pub refused-text : {why : Refusal} {new : Lent} → WholeRead b false (answer.Refused why) l new → saidText (meaning b false []) ≡ refusalText why
-  refused-text w = rw (← read-means, bind-fail (readSays b false l) _ (sym (w .says)))
-
-  whole-by : (m : Meaning) {blocks end : ℕ} {new : Lent} → readSays b false l ≡ ok m → blocks ≡ length (startsOf (m .body)) → end ≡ endOf (m .body) → new ≡ published m l
-      → saidText (meaning b false []) ≡ imageText h blocks end (validIn (h .depth) (new .kept)) (wordIn (new .image))
-  whole-by m r x z e =
-      let k : m .header ≡ h = meaning-header b (y .header) (sym read-means ∙ r) in
-      let f : cells (shapeOf (m .header)) ≤ length (l .image) = rw (k, y .image) few in
-      rw (← read-means, r, ← k, e, x, z) (text-left m l 512 (y .kept) f (length (startsOf (m .body))) (endOf (m .body)))
-
-  pub whole-text : {blocks end : ℕ} {new : Lent} → WholeRead b false (answer.Whole blocks end) l new
-      → saidText (meaning b false []) ≡ imageText h blocks end (validIn (h .depth) (new .kept)) (wordIn (new .image))
-  whole-text w =
-      let (m, r, c) = bind-counts (readSays b false l) _ (sym (w .says)) in
-      whole-by m r (ap (λ (v : Whole). v .blocks) c) (ap (λ (v : Whole). v .end) c) (w .lent ∙ ap (λ (x : Res Meaning). readAfter x (masked b false l) l) r)
-
--- ---- how long the text is
-
 -- a blob that the program accepts has few cells
 few-cells : (b : List ℕ) (m : Meaning) → programSays b ≡ ok m → cells (shapeOf (m .header)) ≤ cellsMost
 unfolding programSays
@@ -173,6 +116,74 @@ few-cells b m p =
     let (_, t, p) = bind-is (require (leb (cells (shapeOf h)) cellsMost) 5) _ p in
     let k : m .header ≡ h = meaning-header b e p in
     rw (k) (leb-true (cells (shapeOf h)) cellsMost (require-is _ _ t))
+
+module _ (b : List ℕ) (l : Lent) (y : Ready b l) where
+  -- masks and list have room
+  abbrev othersFit : Header → Bool
+  othersFit h = leb (maskLength (shapeOf h)) (length (l .kept)) && leb (maskLength (shapeOf h)) (length (l .spare)) && leb (blockCount (shapeOf h)) (length (l .list))
+
+  -- the slices have room for the most cells, and not for more
+  room-is : (h : Header) → headerSays b ≡ ok h → room h l ≡ leb (cells (shapeOf h)) cellsMost
+  unfolding room
+  room-is h e = go (decLe (cells (shapeOf h)) cellsMost)
+    where
+      shaped : Shaped (shapeOf h)
+      shaped = held-shaped h (length b) (header-held b h e .1)
+
+      go : Dec (cells (shapeOf h) ≤ cellsMost) → (othersFit h && leb (cells (shapeOf h)) (length (l .image))) ≡ leb (cells (shapeOf h)) cellsMost
+      go (yes few) =
+          let p : maskLength (shapeOf h) ≤ 512 = omega (arith, pixels-le (shapeOf h) shaped, few) in
+          let q : blockCount (shapeOf h) ≤ cellsMost = le-trans (blocks-le (shapeOf h) shaped) few in
+          rw (y .kept, y .spare, y .list, y .image, length-replicate, le-leb (maskLength (shapeOf h)) 512 p, le-leb (blockCount (shapeOf h)) cellsMost q, le-leb (cells (shapeOf h)) cellsMost few)
+      go (no many) =
+          let p : cellsMost < cells (shapeOf h) = omega arith in
+          rw (y .image, lt-leb (cells (shapeOf h)) cellsMost p) (and-false (othersFit h))
+
+  abbrev behindHeader : Res Header → Res Meaning
+  behindHeader x = x >>= λ h. maskSays (take (h .size) b) h false [] >>= λ m. meaningFrom b h m
+
+  read-says : readSays b false l ≡ programSays b
+  unfolding readSays masked programSays meaning
+  read-says = rw (le-leb (length b) bytesMost (y .short)) (go (headerSays b) refl)
+    where
+      after-mask : (h : Header) (x : Res InForce) → ((x >>= λ m. ok (record { header = h; mask = m })) >>= λ (k : Masked). meaningFrom b (k .header) (k .mask)) ≡ (x >>= λ m. meaningFrom b h m)
+      after-mask h (ok m) = refl
+      after-mask h (fail r) = refl
+
+      after-room : (h : Header) (t : Bool) → ((require t 5 >>= λ _. maskSays (take (h .size) b) h false (l .kept) >>= λ m. ok (record { header = h; mask = m })) >>= λ (k : Masked). meaningFrom b (k .header) (k .mask)) ≡ (require t 5 >>= λ _. behindHeader (ok h))
+      after-room h true = rw (mask-unkept (take (h .size) b) h (l .kept)) (after-mask h (maskSays (take (h .size) b) h false []))
+      after-room h false = refl
+
+      go : (x : Res Header) → headerSays b ≡ x
+          → ((x >>= λ h. require (room h l) 5 >>= λ _. maskSays (take (h .size) b) h false (l .kept) >>= λ m. ok (record { header = h; mask = m })) >>= λ (k : Masked). meaningFrom b (k .header) (k .mask))
+          ≡ (x >>= λ h. require (leb (cells (shapeOf h)) cellsMost) 5 >>= λ _. behindHeader (headerSays b))
+      go (ok h) e = rw (room-is h e, e) (after-room h (leb (cells (shapeOf h)) cellsMost))
+      go (fail r) e = refl
+
+  pub refused-text : {why : Refusal} {new : Lent} → WholeRead b false (answer.Refused why) l new → programText b ≡ refusalText why
+  refused-text w = rw (← read-says, bind-fail (readSays b false l) _ (sym (w .says)))
+
+  -- the text by what an accepted read left
+  text-by : (m : Meaning) {new : Lent} → programSays b ≡ ok m → new ≡ published m l
+      → programText b ≡ imageText (m .header) (length (startsOf (m .body))) (endOf (m .body)) (validIn (m .header .depth) (new .kept)) (wordIn (new .image))
+  text-by m r e =
+      let f : cells (shapeOf (m .header)) ≤ length (l .image) = rw (y .image) (few-cells b m r) in
+      rw (r, e) (text-left m l 512 (y .kept) f (length (startsOf (m .body))) (endOf (m .body)))
+
+  -- an accepted read has few cells
+  module _ {h : Header} {blocks end : ℕ} {new : Lent} (w : WholeRead b false (answer.Whole h blocks end) l new) where
+    pub whole-few : cells (shapeOf h) ≤ cellsMost
+    whole-few =
+        let (m, r, c) = bind-counts (readSays b false l) _ (sym (w .says)) in
+        rw (ap (λ (v : Whole). v .header) c) (few-cells b m (sym read-says ∙ r))
+
+    pub whole-text : programText b ≡ imageText h blocks end (validIn (h .depth) (new .kept)) (wordIn (new .image))
+    whole-text =
+        let (m, r, c) = bind-counts (readSays b false l) _ (sym (w .says)) in
+        let t = text-by m (sym read-says ∙ r) (w .lent ∙ ap (λ (x : Res Meaning). readAfter x (masked b false l) l) r) in
+        t ∙ ap (λ (v : Whole). imageText (v .header) (v .blocks) (v .end) (validIn (v .header .depth) (new .kept)) (wordIn (new .image))) (sym c)
+
+-- ---- how long the text is
 
 pub text-long : (b : List ℕ) → length (programText b) ≤ 131072
 unfolding imageText

@@ -12,7 +12,7 @@ use Rattle.lerc_words.specs.Lists.{over}
 use Rattle.lerc_header.specs.declared.Header.{Header}
 use Rattle.lerc_header.specs.Header.{shapeOf, headerSays}
 use Rattle.lerc_header.specs.Shape.{cells}
-use Rattle.lerc_planes.specs.Validity.{bytesOf}
+use Rattle.lerc_validity.specs.Validity.{bytesOf}
 use Rattle.lerc_text.specs.Ascii.{ascii}
 use Rattle.lerc_text.specs.Text.{line, shapeLine, cellLines, validIn}
 use Rattle.lerc.specs.Meaning.{Meaning, meaning, startsOf, endOf, cellWord}

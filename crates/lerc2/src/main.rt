@@ -1,19 +1,13 @@
 // One blob from standard input, its cells as text to standard output; a refusal is one line with its number.
 // No mask is reused. `answer` makes the whole text; `main` reads what it is made from, and writes it.
-ghost use mathlib.Core.Path.{_≡_};
-ghost use mathlib.Core.Bool.{false};
-ghost use mathlib.Core.List.{[]};
-ghost use Prim.Native.Nat.{ℕ};
+ghost use Prim.Native.Nat.{ℕ, _≤_};
 ghost use Rattle.lerc_header.specs.Header.{shapeOf};
-ghost use Rattle.lerc_header.specs.Shape.{cells as Shape·cells};
+ghost use Rattle.lerc_header.specs.Shape.{cells};
 ghost use Rattle.lerc_text.specs.Text.{Put, validIn, wordIn};
-ghost use Rattle.lerc.specs.Meaning.{meaning};
-ghost use Rattle.lerc2.specs.Program.{imageText, refusalText, saidText, programText, Answered};
+ghost use Rattle.lerc2.specs.Program.{cellsMost, imageText, refusalText, programText, Answered};
 ghost use Rattle.lerc2.specs.Parts.{Ready};
 use lerc::ReadAnswer;
 use lerc_header::Header;
-use lerc_header::HeaderAnswer;
-use lerc_header::HeldAnswer;
 use lerc_words::Refusal;
 use libc::STDIN_FILENO;
 use libc::STDOUT_FILENO;
@@ -37,35 +31,33 @@ fn refuse(why: Refusal, out: &mut [u8]) -> usize
 
 fn put_image(
     h: Header,
-    cells: usize,
     blocks: usize,
     end: usize,
     mask: &[u8],
     image: &[u64],
     out: &mut [u8],
 ) -> usize
-    requires { ⌜ cells ≡ Shape·cells (shapeOf h) ⌝ }
+    requires { ⌜ cells (shapeOf h) ≤ cellsMost ⌝ }
     ensures { λ r. ⌜ Put (now (out .entry)) 0 (imageText h blocks end (validIn (h .depth) (now (mask .entry))) (wordIn (now (image .entry)))) r (now (out .exit)) ⌝ }
 {
+    let cells = h.rows as usize * h.columns as usize * h.depth as usize;
     let p = lerc_text::put_shape(&mut out[..], 0, h.columns, h.rows, h.depth, h.kind, h.valid);
     let p = lerc_text::put_line(&mut out[..], p, b"blocks ", blocks as u64);
     let p = lerc_text::put_cells(&mut out[..], p, cells, h.depth as usize, mask, image);
     lerc_text::put_line(&mut out[..], p, b"end ", end as u64)
 }
 
-// a whole read into lent zeros
+// A whole read into lent zeros, which have room for as many cells as the program takes: more are refused by it (5).
 fn decode(
     blob: &[u8],
-    h: Header,
-    cells: usize,
     kept: &mut [u8],
     spare: &mut [u8],
     list: &mut [usize],
     image: &mut [u64],
     out: &mut [u8],
 ) -> usize
-    requires { ⌜ Ready (now blob) h cells (record { kept = now kept; spare = now spare; list = now list; image = now image }) ⌝ }
-    ensures { λ r. ⌜ Put (now (out .entry)) 0 (saidText (meaning (now (blob .entry)) false [])) r (now (out .exit)) ⌝ }
+    requires { ⌜ Ready (now blob) (record { kept = now kept; spare = now spare; list = now list; image = now image }) ⌝ }
+    ensures { λ r. ⌜ Put (now (out .entry)) 0 (programText (now (blob .entry))) r (now (out .exit)) ⌝ }
 {
     let answer = lerc::read(
         blob,
@@ -75,10 +67,15 @@ fn decode(
         &mut list[..],
         &mut image[..],
     );
-    let ReadAnswer::Whole { blocks, end } = answer else {
+    let ReadAnswer::Whole {
+        header,
+        blocks,
+        end,
+    } = answer
+    else {
         return refuse(answer.refusal(), &mut out[..]);
     };
-    put_image(h, cells, blocks, end, &kept[..], &image[..], &mut out[..])
+    put_image(header, blocks, end, &kept[..], &image[..], &mut out[..])
 }
 
 // the text at the start of `out`, as much as there is room for
@@ -88,25 +85,12 @@ fn put_answer(input: &[u8], out: &mut [u8]) -> usize
     if BYTES < input.len() {
         return refuse(Refusal { number: 4 }, &mut out[..]);
     }
-    let found = lerc_header::read_header(input);
-    let HeaderAnswer::Read(h) = found else {
-        return refuse(found.refusal(), &mut out[..]);
-    };
-    let held = h.held(input.len());
-    let HeldAnswer::Held(e) = held else {
-        return refuse(held.refusal(), &mut out[..]);
-    };
-    if CELLS < e.cells {
-        return refuse(Refusal { number: 5 }, &mut out[..]);
-    }
     let mut kept = [0u8; MASK];
     let mut spare = [0u8; MASK];
     let mut list = [0usize; CELLS];
     let mut image = [0u64; CELLS];
     decode(
         input,
-        h,
-        e.cells,
         &mut kept,
         &mut spare,
         &mut list,

@@ -15,7 +15,7 @@ use Rattle.lerc_bits.specs.declared.PlanAnswer.{PlanAnswer}
 use Rattle.lerc_bits.specs.declared.PlanAnswer.the-variants as found
 use Rattle.lerc_bits.specs.declared.CountsAnswer.{CountsAnswer}
 use Rattle.lerc_bits.specs.declared.CountsAnswer.the-variants as answer
-use Rattle.lerc_bits.specs.Bits.{countBytes, plainPlan, tablePlan, fits, tabled, plan, planSaid, planRefused, run, chosen, allBelow, lookedUp, valuesOf, unpacked, Counts, counts, Span, spanned, countsSaid, countsRefused, Decoded}
+use Rattle.lerc_bits.specs.Bits.{countBytes, plainPlan, tablePlan, fits, tabled, plan, planSaid, refusalOfPlan, run, chosen, allBelow, lookedUp, valuesOf, unpacked, Counts, counts, Span, spanned, countsSaid, refusalOfCounts, Decoded}
 
 -- ---- plans
 
@@ -147,8 +147,8 @@ counted values n e l = rw (e, l)
 pub inspect-ok : (s : List ℕ) (at : ℕ) {r : PlanAnswer} {p : Plan} → planSaid r ≡ plan s at → r ≡ found.Plan p → plan s at ≡ ok p
 inspect-ok s at e d = sym e ∙ ap planSaid d
 
-pub inspect-no : (s : List ℕ) (at : ℕ) {r : PlanAnswer} {q why : Refusal} → planSaid r ≡ plan s at → r ≡ found.Refused q → why ≡ planRefused r → plan s at ≡ fail why
-inspect-no s at e d f = sym e ∙ ap planSaid d ∙ ap fail (sym (f ∙ ap planRefused d))
+pub inspect-no : (s : List ℕ) (at : ℕ) {r : PlanAnswer} {q why : Refusal} → planSaid r ≡ plan s at → r ≡ found.Refused q → why ≡ refusalOfPlan r → plan s at ≡ fail why
+inspect-no s at e d f = sym e ∙ ap planSaid d ∙ ap fail (sym (f ∙ ap refusalOfPlan d))
 
 -- n values, which stand in front of what the array held, and their end
 pub record Given (m : Res Counts) (n next : ℕ) (old new : List ℕ) : Type 0 where
@@ -164,11 +164,11 @@ check-ok (ok c) e d =
     (c, refl, sym (ap (λ (z : Span). z .n) p), sym (ap (λ (z : Span). z .next) p))
 check-ok (fail q) e d = absurd (let f = ap countsSaid d in let z : _≡_ {A = ℕ} 0 1 = cc in omega arith)
 
-pub check-no : (m : Res Counts) {r : CountsAnswer} {q why : Refusal} → countsSaid r ≡ spanned m → r ≡ answer.Refused q → why ≡ countsRefused r → m ≡ fail why
+pub check-no : (m : Res Counts) {r : CountsAnswer} {q why : Refusal} → countsSaid r ≡ spanned m → r ≡ answer.Refused q → why ≡ refusalOfCounts r → m ≡ fail why
 check-no (ok c) e d f = absurd (let g = ap countsSaid d in let z : _≡_ {A = ℕ} 0 1 = cc in omega arith)
 check-no (fail w) {r} {q} {why} e d f =
     let a : q ≡ w = cc (e, ap countsSaid d) in
-    let b : why ≡ q = f ∙ ap countsRefused d in
+    let b : why ≡ q = f ∙ ap refusalOfCounts d in
     ap fail (sym (b ∙ a))
 
 pub decode-ok : (m : Res Counts) {r : CountsAnswer} {n next : ℕ} {old new : List ℕ} → Decoded m r old new → r ≡ answer.Counts n next → Given m n next old new
@@ -176,7 +176,7 @@ decode-ok m g d =
     let (c, e, l, x) = check-ok m (g .says) d in
     record { values = c .values; reads = e ∙ ap (λ (z : ℕ). ok (record { values = c .values; next = z })) x; many = l; left = rw (e) at (g .left) }
 
-pub decode-no : (m : Res Counts) {r : CountsAnswer} {q why : Refusal} {old new : List ℕ} → Decoded m r old new → r ≡ answer.Refused q → why ≡ countsRefused r
+pub decode-no : (m : Res Counts) {r : CountsAnswer} {q why : Refusal} {old new : List ℕ} → Decoded m r old new → r ≡ answer.Refused q → why ≡ refusalOfCounts r
     → (m ≡ fail why) × (new ≡ old)
 decode-no m g d f =
     let e = check-no m (g .says) d f in

@@ -8,7 +8,7 @@ use native.Mathlib.Nat.{add-assoc, add-zero, zero-add}
 use lib.ListN.{length, length-append}
 use lib.Seq.{getD-append-add}
 use Rattle.lerc_words.specs.Res.{ok, wordAt}
-use Rattle.lerc_words.proofs.Laws.{Stays, wordAt-stays, little-same}
+use Rattle.lerc_words.proofs.Little.{Stays, wordAt-stays, little-same}
 use Rattle.lerc_bits.specs.declared.Plan.{Plan}
 use Rattle.lerc_bits.specs.Bits.{runBytes, indexWidth, countBytes, plainPlan, tablePlan, plan, digits, run, unpacked, Counts, counts}
 use Rattle.lerc_bits.proofs.Answers.{Headed, counts-by, unpacked-plain, unpacked-table}

@@ -1,21 +1,20 @@
 -- How an accepted plan was read, and what follows from it.
 -- Assumes nothing.
 use mathlib.Core.Path.{_≡_, refl, sym, ap, _∙_}
-use mathlib.Core.Bool.{Bool, true, false, cond}
+use mathlib.Core.Bool.{Bool, true, false, cond, _&&_}
 use mathlib.Core.List.{List}
 use Prim.Native.Nat.{ℕ, _+_, _-_, _/_, _%_, _≤_, _<_}
 use native.Mathlib.Omega.{arith}
-use borrow.Author.Tests.{ltb-true, leb-true, eqb-true, eqb-false}
+use borrow.Author.Tests.{ltb-true, leb-true, le-leb, eqb-true, eqb-false}
 use lib.Dec.{ltb, leb, eqb}
 use lib.ListN.{length}
-use Rattle.lerc_words.specs.Res.{ok, require, wordAt}
-use Rattle.lerc_words.proofs.Laws.{Bytes, byte-lt, bind-is, require-is}
+use Rattle.lerc_words.specs.Res.{ok, fail, refuse, require, wordAt}
+use Rattle.lerc_words.proofs.Binding.{bind-is, require-is, and-is}
+use Rattle.lerc_words.proofs.Little.{Bytes, byte-lt}
 use Rattle.lerc_bits.specs.declared.Plan.{Plan}
-use Rattle.lerc_bits.specs.declared.PlanAnswer.{PlanAnswer}
-use Rattle.lerc_bits.specs.declared.PlanAnswer.the-variants as found
-use Rattle.lerc_bits.specs.Bits.{runBytes, indexWidth, countBytes, plainPlan, tablePlan, fits, tabled, plan, planSaid, unpacked, counts, Kept}
+use Rattle.lerc_bits.specs.Bits.{runBytes, indexWidth, countBytes, plainPlan, tablePlan, fits, tabled, plan, unpacked, keeps, countsBy, counts, Kept}
 use Rattle.lerc_bits.proofs.IndexWidth.{index-least}
-use Rattle.lerc_bits.proofs.Answers.{Headed, fits-ok, tabled-more, plan-plain, plan-tabled, inspect-ok, counts-by}
+use Rattle.lerc_bits.proofs.Answers.{Headed, fits-ok, tabled-more, plan-plain, plan-tabled, counts-by}
 
 -- by the first byte h, what follows at `to` is a run, or a table and a run
 pub data Laid (s : List ℕ) (to h n : ℕ) (p : Plan) : Type 0 where
@@ -117,7 +116,41 @@ plan-kept s at y e =
     let d = plan-ends s at e in
     record { few = f .0; narrow = f .1; slim = l .1; short = l .0; tabled = d .1; begun = d .2; inside = d .3 }
 
--- counts that were inspected
-module _ (s : List ℕ) (at : ℕ) (y : Bytes s) {r : PlanAnswer} {p : Plan} (e : planSaid r ≡ plan s at) (d : r ≡ found.Plan p) where
-  pub inspected : (counts s at ≡ unpacked s p) × Kept (length s) p
-  inspected = let f = inspect-ok s at e d in (counts-by s at f, plan-kept s at y f)
+-- ---- counts by a plan
+
+and-four : (a b c d : Bool) → (a && b && c && d) ≡ true → (a ≡ true) × (b ≡ true) × (c ≡ true) × (d ≡ true)
+and-four a b c d e =
+    let f = and-is (a && b && c) d e in
+    let g = and-is (a && b) c (f .0) in
+    let h = and-is a b (g .0) in
+    (h .0, h .1, g .1, f .1)
+
+module _ (len : ℕ) (p : Plan) where
+  pub keeps-kept : keeps len p ≡ true → Kept len p
+  unfolding keeps
+  keeps-kept e =
+      let sized = leb (p .n) 256 && leb (p .bits) 31 && leb (p .width) 31 && leb (p .entries) 255 in
+      let placed = leb (p .table) (p .at) && leb (p .at) (p .next) && leb (p .next) len in
+      let b = and-is sized placed e in
+      let f = and-four (leb (p .n) 256) (leb (p .bits) 31) (leb (p .width) 31) (leb (p .entries) 255) (b .0) in
+      let g = and-is (leb (p .table) (p .at) && leb (p .at) (p .next)) (leb (p .next) len) (b .1) in
+      let h = and-is (leb (p .table) (p .at)) (leb (p .at) (p .next)) (g .0) in
+      record { few = leb-true _ _ (f .0); narrow = leb-true _ _ (f .1); slim = leb-true _ _ (f .2); short = leb-true _ _ (f .3); tabled = leb-true _ _ (h .0); begun = leb-true _ _ (h .1); inside = leb-true _ _ (g .1) }
+
+  pub kept-keeps : Kept len p → keeps len p ≡ true
+  unfolding keeps
+  kept-keeps k =
+      rw (le-leb _ _ (k .few), le-leb _ _ (k .narrow), le-leb _ _ (k .slim), le-leb _ _ (k .short), le-leb _ _ (k .tabled), le-leb _ _ (k .begun), le-leb _ _ (k .inside))
+
+module _ (s : List ℕ) (p : Plan) where
+  pub by-broken : keeps (length s) p ≡ false → countsBy s p ≡ fail (refuse 8)
+  unfolding countsBy
+  by-broken e = rw (e)
+
+  pub by-kept : Kept (length s) p → countsBy s p ≡ unpacked s p
+  unfolding countsBy
+  by-kept k = rw (kept-keeps (length s) p k)
+
+-- the counts of a plan that was found are those by it
+pub counts-by-plan : (s : List ℕ) (at : ℕ) {p : Plan} → Bytes s → plan s at ≡ ok p → counts s at ≡ countsBy s p
+counts-by-plan s at {p} y e = counts-by s at e ∙ sym (by-kept s p (plan-kept s at y e))

@@ -9,7 +9,7 @@ use native.Mathlib.Nat.{mul-assoc, mul-le-mul, mul-le-mul-right, suc-mul, add-mu
 use lib.Pow.{pow-add, pow-pos, pow-mono}
 use lib.ListN.{length, getD, List·getD-eq-default}
 use Rattle.lerc_words.specs.Res.{little}
-use Rattle.lerc_words.proofs.Laws.{Bytes, little-split, little-high, byte-pow}
+use Rattle.lerc_words.proofs.Little.{Bytes, little-split, little-high, byte-pow}
 use Rattle.lerc_words.proofs.Tables.{length-tabulate, getD-tabulate}
 use Rattle.lerc_bits.specs.Bits.{runBytes, digits}
 

@@ -14,7 +14,7 @@ use lib.Pow.{pow-add, pow-pos, pow-mono}
 use lib.ListN.{length, getD, length-append, List·getD-eq-default}
 use Rattle.lerc_words.specs.Res.{ok, little, wordAt}
 use Rattle.lerc_words.specs.Lists.{from, tabulate}
-use Rattle.lerc_words.proofs.Laws.{wordAt-ok, byte-pow, little-behind}
+use Rattle.lerc_words.proofs.Little.{wordAt-ok, byte-pow, little-behind}
 use Rattle.lerc_words.proofs.Tables.{length-tabulate, getD-tabulate, tabulate-same, from-shift, all-true}
 use Rattle.lerc_bits.specs.Bits.{runBytes, indexWidth, countBytes, plainPlan, tablePlan, digits, run, chosen, allBelow, counts}
 use Rattle.lerc_bits.specs.Packing.{packed, bytesOf, runOf, headOf, plainOf, placeOf, indicesOf, tableOf}

@@ -13,7 +13,7 @@ use lib.ListN.{length, getD, List·getD-eq-default}
 use lib.Pow.{pow-pos, pow-mono}
 use Rattle.lerc_words.specs.declared.Refusal.{Refusal}
 use Rattle.lerc_words.specs.Res.{ok, fail, refuse, require}
-use Rattle.lerc_words.proofs.Laws.{bind-is, require-is}
+use Rattle.lerc_words.proofs.Binding.{bind-is, require-is, ok-is}
 use Rattle.lerc_words.proofs.Tables.{getD-tabulate}
 use Rattle.lerc_bits.specs.declared.Plan.{Plan}
 use Rattle.lerc_bits.specs.Bits.{plan, digits, run, chosen, allBelow, lookedUp, valuesOf, unpacked, Counts, counts}
@@ -62,6 +62,13 @@ valued-length {s} {p} (valued-table h b e) = rw (e) (length-chosen (p .n) _ _)
 
 -- ---- how many there are, and where they end
 
+-- as many as the plan says, up to its end
+pub unpacked-is : (s : List ℕ) (p : Plan) {c : Counts} → unpacked s p ≡ ok c → (length (c .values) ≡ p .n) × (c .next ≡ p .next)
+unfolding unpacked
+unpacked-is s p {c} e =
+    let (vs, d, e) = bind-is (valuesOf s p) _ e in
+    rw (← ok-is e) (valued-length (values-is s p d), refl)
+
 -- accepted counts have a plan, of so many and with that end
 pub counts-planned : (s : List ℕ) (at : ℕ) {c : Counts} → counts s at ≡ ok c
     → (p : Plan) × (plan s at ≡ ok p) × (p .n ≡ length (c .values)) × (p .next ≡ c .next)
@@ -90,18 +97,18 @@ counts-few s at e =
     rw (valued-length (g .valued)) (plan-few s at (g .planned) .0)
 
 -- with a plan, only an index can still be refused
-pub counts-eight : (s : List ℕ) (at : ℕ) {p : Plan} {r : Refusal} → plan s at ≡ ok p → counts s at ≡ fail r → r ≡ refuse 8
-counts-eight s at {p} {r} d e = go (eqb (p .entries) 0) refl (allBelow (p .n) (p .entries) (run s (p .at) (p .n) (p .width))) refl
+pub unpacked-eight : (s : List ℕ) (p : Plan) {r : Refusal} → unpacked s p ≡ fail r → r ≡ refuse 8
+unpacked-eight s p {r} f = go (eqb (p .entries) 0) refl (allBelow (p .n) (p .entries) (run s (p .at) (p .n) (p .width))) refl
   where
-    f : unpacked s p ≡ fail r
-    f = sym (counts-by s at d) ∙ e
-
     go : (t : Bool) → eqb (p .entries) 0 ≡ t → (u : Bool) → allBelow (p .n) (p .entries) (run s (p .at) (p .n) (p .width)) ≡ u → r ≡ refuse 8
     go true t u b = absurd (let g = unpacked-plain s p (eqb-true _ _ t) in let z : _≡_ {A = ℕ} 0 1 = cc (f) in omega arith)
     go false t true b = absurd (let x : p .entries ≡ 0 → ⊥ = eqb-false _ _ t in let g = unpacked-table s p (omega arith) b in let z : _≡_ {A = ℕ} 0 1 = cc (f) in omega arith)
     go false t false b =
         let x : p .entries ≡ 0 → ⊥ = eqb-false _ _ t in
         cc (f, unpacked-bad s p (omega arith) b)
+
+pub counts-eight : (s : List ℕ) (at : ℕ) {p : Plan} {r : Refusal} → plan s at ≡ ok p → counts s at ≡ fail r → r ≡ refuse 8
+counts-eight s at {p} d e = unpacked-eight s p (sym (counts-by s at d) ∙ e)
 
 -- ---- how large they are
 

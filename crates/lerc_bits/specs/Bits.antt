@@ -3,7 +3,7 @@
 -- Assumes nothing.
 use Prim.Native.Nat.{ℕ, _+_, _*_, _-_, _/_, _%_, _^_, _≤_}
 use mathlib.Core.Path.{_≡_}
-use mathlib.Core.Bool.{Bool, cond}
+use mathlib.Core.Bool.{Bool, cond, _&&_}
 use mathlib.Core.List.{List, [], _∷_}
 use lib.ListN.{length, getD}
 use lib.Dec.{leb, ltb, eqb}
@@ -105,6 +105,18 @@ unpacked s p = do
   vs ← valuesOf s p
   ok (record { values = vs; next = p .next })
 
+-- whether a plan keeps to its bounds in a slice of `len` bytes (what it says: Kept)
+unfoldable pub keeps : ℕ → Plan → Bool
+keeps len p =
+    (leb (p .n) 256 && leb (p .bits) 31 && leb (p .width) 31 && leb (p .entries) 255)
+    && (leb (p .table) (p .at) && leb (p .at) (p .next) && leb (p .next) len)
+
+-- the same of any plan at all: one that does not keep to its bounds, which none that was found is (counts-by-plan), is 8
+unfoldable pub countsBy : List ℕ → Plan → Res Counts
+countsBy s p = do
+  _ ← require (keeps (length s) p) 8
+  unpacked s p
+
 -- the packed counts at `at`: "Reading goes front to back and the first failing read decides the number"
 unfoldable pub counts : List ℕ → ℕ → Res Counts
 counts s at = do
@@ -118,9 +130,9 @@ planSaid (found.Plan p) = ok p
 planSaid (found.Refused r) = fail r
 
 -- why; 0 where it was not refused
-abbrev pub planRefused : PlanAnswer → Refusal
-planRefused (found.Plan p) = refuse 0
-planRefused (found.Refused r) = r
+abbrev pub refusalOfPlan : PlanAnswer → Refusal
+refusalOfPlan (found.Plan p) = refuse 0
+refusalOfPlan (found.Refused r) = r
 
 -- how many, and where they end
 pub record Span : Type 0 where
@@ -138,9 +150,9 @@ countsSaid (answer.Counts n next) = ok (record { n = n; next = next })
 countsSaid (answer.Refused r) = fail r
 
 -- why; 0 where they were not refused
-abbrev pub countsRefused : CountsAnswer → Refusal
-countsRefused (answer.Counts n next) = refuse 0
-countsRefused (answer.Refused r) = r
+abbrev pub refusalOfCounts : CountsAnswer → Refusal
+refusalOfCounts (answer.Counts n next) = refuse 0
+refusalOfCounts (answer.Refused r) = r
 
 -- the values stand in front, and the entries behind them keep what they held;
 -- a refusal "leaves every lent slice unchanged"

@@ -2,12 +2,13 @@
 ghost use mathlib.Core.Path.{_≡_};
 ghost use Prim.Native.Nat.{_≤_};
 ghost use lib.ListN.{length};
-ghost use Rattle.lerc_bits.specs.Bits.{unpacked, counts, spanned, countsSaid, Kept};
+ghost use Rattle.lerc_bits.specs.Bits.{unpacked, countsBy, counts, spanned, countsSaid, Kept};
 use super::CountsAnswer;
 use super::Plan;
 use super::PlanAnswer;
 use super::all_below;
 use super::inspect;
+use super::keeps_bounds;
 use super::unpack;
 use lerc_words::Refusal;
 
@@ -27,6 +28,22 @@ fn check_table(s: &[u8], p: Plan) -> CountsAnswer
     CountsAnswer::Refused(Refusal { number: 8 })
 }
 
+// what `decode_plan` answers, without the values
+pub fn check_plan(s: &[u8], p: Plan) -> CountsAnswer
+    ensures { λ r. ⌜ countsSaid r ≡ spanned (countsBy (now (s .entry)) p) ⌝ }
+{
+    if !keeps_bounds(s.len(), p) {
+        return CountsAnswer::Refused(Refusal { number: 8 });
+    }
+    if p.entries == 0 {
+        return CountsAnswer::Counts {
+            n: p.n,
+            next: p.next,
+        };
+    }
+    check_table(s, p)
+}
+
 // what `decode` answers, without the values
 pub fn check(s: &[u8], start: usize) -> CountsAnswer
     ensures { λ r. ⌜ countsSaid r ≡ spanned (counts (now (s .entry)) start) ⌝ }
@@ -36,11 +53,5 @@ pub fn check(s: &[u8], start: usize) -> CountsAnswer
         let why = a.refusal();
         return CountsAnswer::Refused(why);
     };
-    if p.entries == 0 {
-        return CountsAnswer::Counts {
-            n: p.n,
-            next: p.next,
-        };
-    }
-    check_table(s, p)
+    check_plan(s, p)
 }

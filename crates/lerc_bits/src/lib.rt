@@ -4,13 +4,14 @@ ghost use mathlib.Core.List.{_++_};
 ghost use mathlib.Core.Bool.{true};
 ghost use Prim.Native.Nat.{_≤_};
 ghost use lib.ListN.{length, drop};
-ghost use Rattle.lerc_bits.specs.Bits.{runBytes, indexWidth, plainPlan, tablePlan, fits, tabled, plan, planSaid, planRefused, run, chosen, allBelow, unpacked, counts, countsRefused, Decoded, Kept};
+ghost use Rattle.lerc_bits.specs.Bits.{runBytes, indexWidth, plainPlan, tablePlan, fits, tabled, plan, planSaid, refusalOfPlan, run, chosen, allBelow, unpacked, keeps, countsBy, counts, refusalOfCounts, Decoded, Kept};
 use lerc_words::Refusal;
 use lerc_words::WordAnswer;
 
 mod checks;
 
 pub use checks::check;
+pub use checks::check_plan;
 
 // where packed counts stand: n values, or n indices into a table of `entries` values
 pub struct Plan {
@@ -36,7 +37,7 @@ pub enum PlanAnswer {
 impl PlanAnswer {
     // why it was refused; number 0 where it was not
     pub fn refusal(self) -> Refusal
-        ensures { λ r. ⌜ r ≡ planRefused self ⌝ }
+        ensures { λ r. ⌜ r ≡ refusalOfPlan self ⌝ }
     {
         match self {
             PlanAnswer::Plan(_p) => Refusal { number: 0 },
@@ -53,7 +54,7 @@ pub enum CountsAnswer {
 impl CountsAnswer {
     // why they were refused; number 0 where they were not
     pub fn refusal(self) -> Refusal
-        ensures { λ r. ⌜ r ≡ countsRefused self ⌝ }
+        ensures { λ r. ⌜ r ≡ refusalOfCounts self ⌝ }
     {
         match self {
             CountsAnswer::Counts { n: _n, next: _next } => Refusal { number: 0 },
@@ -229,6 +230,32 @@ fn decode_table(s: &[u8], p: Plan, out: &mut [u32; 256]) -> CountsAnswer
     CountsAnswer::Refused(Refusal { number: 8 })
 }
 
+// whether a plan keeps to its bounds in a slice of `len` bytes, as each that `inspect` gives does
+fn keeps_bounds(len: usize, p: Plan) -> bool
+    ensures { λ r. ⌜ r ≡ keeps len p ⌝ }
+{
+    let sized = (p.n <= 256) & (p.bits <= 31) & (p.width <= 31) & (p.entries <= 255);
+    let placed = (p.table <= p.at) & (p.at <= p.next) & (p.next <= len);
+    sized & placed
+}
+
+// the counts of a plan: their values to the front of `out`, or a refusal, which leaves `out`
+pub fn decode_plan(s: &[u8], p: Plan, out: &mut [u32; 256]) -> CountsAnswer
+    ensures { λ r. ⌜ Decoded (countsBy (now (s .entry)) p) r (now (out .entry)) (now (out .exit)) ⌝ }
+{
+    if !keeps_bounds(s.len(), p) {
+        return CountsAnswer::Refused(Refusal { number: 8 });
+    }
+    if p.entries == 0 {
+        unpack(s, p.at, p.n, p.width, out);
+        return CountsAnswer::Counts {
+            n: p.n,
+            next: p.next,
+        };
+    }
+    decode_table(s, p, out)
+}
+
 // packed counts at `start`: their values to the front of `out`, or a refusal, which leaves `out`
 pub fn decode(s: &[u8], start: usize, out: &mut [u32; 256]) -> CountsAnswer
     ensures { λ r. ⌜ Decoded (counts (now (s .entry)) start) r (now (out .entry)) (now (out .exit)) ⌝ }
@@ -238,12 +265,5 @@ pub fn decode(s: &[u8], start: usize, out: &mut [u32; 256]) -> CountsAnswer
         let why = a.refusal();
         return CountsAnswer::Refused(why);
     };
-    if p.entries == 0 {
-        unpack(s, p.at, p.n, p.width, out);
-        return CountsAnswer::Counts {
-            n: p.n,
-            next: p.next,
-        };
-    }
-    decode_table(s, p, out)
+    decode_plan(s, p, out)
 }

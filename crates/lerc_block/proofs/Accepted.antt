@@ -8,7 +8,8 @@ use borrow.Author.Tests.{leb-true, eqb-true}
 use lib.Dec.{leb, eqb}
 use lib.ListN.{length, replicate, length-replicate}
 use Rattle.lerc_words.specs.Res.{Res, ok, require, each}
-use Rattle.lerc_words.proofs.Laws.{bind-is, require-is, ok-is, cond-elim, each-length, wordAt-is}
+use Rattle.lerc_words.proofs.Binding.{bind-is, require-is, ok-is, cond-elim, each-length}
+use Rattle.lerc_words.proofs.Little.{wordAt-is}
 use Rattle.lerc_words.proofs.Tables.{length-tabulate}
 use Rattle.lerc_numeric.specs.Kinds.{typeSize}
 use Rattle.lerc_samples.specs.Samples.{stored}

@@ -1,25 +1,26 @@
 -- What each way of reading gives: one law for each place where the code returns.
 -- Assumes nothing.
 use mathlib.Core.Path.{_≡_, refl, sym, ap, _∙_}
-use mathlib.Core.Bool.{Bool, true, false}
+use mathlib.Core.Bool.{true}
 use mathlib.Core.List.{List, [], _++_}
-use Prim.Native.Nat.{ℕ, zero, suc, _+_, _*_, _/_, _%_, _≤_, _<_}
+use Prim.Native.Nat.{ℕ, zero, suc, _+_, _/_, _%_, _≤_, _<_}
 use native.Mathlib.Omega.{arith}
 use native.Mathlib.Nat.{not-suc-le-zero}
 use borrow.Author.Tests.{le-leb, lt-leb, leb-true, eq-eqb, ne-eqb}
 use lib.Dec.{leb, eqb}
 use lib.ListN.{length, drop, replicate}
 use Rattle.lerc_words.specs.declared.Refusal.{Refusal}
-use Rattle.lerc_words.specs.Res.{Res, ok, fail, _>>=_, refuse, require, wordAt, little, each}
-use Rattle.lerc_words.specs.Lists.{tabulate}
+use Rattle.lerc_words.specs.Res.{Res, ok, fail, refuse, require, wordAt, each}
 use Rattle.lerc_words.proofs.Each.{each-none}
-use Rattle.lerc_words.proofs.Laws.{Bytes, bind-is, bind-ok, bind-no, require-is, ok-is, wordAt-is, byte-lt}
+use Rattle.lerc_words.proofs.Binding.{bind-is, require-is, ok-is}
+use Rattle.lerc_words.proofs.Little.{Bytes, wordAt-is, byte-lt}
 use Rattle.lerc_numeric.specs.Numeric.{finite}
 use Rattle.lerc_numeric.specs.Kinds.{typeSize}
 use Rattle.lerc_samples.specs.Samples.{sampleAt, stored, offsetKind}
 use Rattle.lerc_block.specs.declared.BlockAnswer.{BlockAnswer}
 use Rattle.lerc_block.specs.declared.BlockAnswer.the-variants as answer
-use Rattle.lerc_block.specs.Block.{Block, Offset, rawWords, levelBlock, steppedBlock, offsetAt, finiteOffset, offsetBlock, formed, flagAt, blockSays, tileLimit, readFlag, readBlockSays, blockSaid, BlockRead}
+use Rattle.lerc_block.specs.Block.{Block, Offset, levelBlock, offsetAt, finiteOffset, flagAt, tileLimit, blockSaid, BlockRead}
+use Rattle.lerc_block.specs.Check.{readFlag}
 
 -- ---- an answer that was taken apart, and what it says
 
@@ -42,18 +43,6 @@ given words n e l d = rw (e, d) (record { says = refl; words = rw (l) })
 -- another way of saying the same
 pub likewise : {m k : Res Block} {r : BlockAnswer} {old new : List ℕ} → m ≡ k → BlockRead k r old new → BlockRead m r old new
 likewise e b = rw e b
-
--- ---- low bits 0 and 2
-
--- the size is the kind's, by whatever name
-module _ (s : List ℕ) (at kind n size : ℕ) (z : size ≡ typeSize kind) where
-  pub raw-ok : at + n * size ≤ length s → rawWords s at kind n ≡ ok (record { words = tabulate n (λ k. little size s (at + k * size)); next = at + n * size })
-  unfolding rawWords
-  raw-ok h = rw (← z, le-leb _ _ h)
-
-  pub raw-no : length s < at + n * size → rawWords s at kind n ≡ fail (refuse 1)
-  unfolding rawWords
-  raw-no h = rw (← z, lt-leb _ _ h)
 
 -- ---- low bits 3
 
@@ -81,36 +70,8 @@ pub level-none : (at kind offset n : ℕ) → n ≡ 0 → levelBlock at kind off
 unfolding levelBlock
 level-none at kind offset n e = rw (e, each-none (stored kind))
 
--- ---- an offset
+-- ---- an offset that was read
 
-module _ (s : List ℕ) (at kind flag : ℕ) where
-  pub offset-none : {r : Refusal} → offsetKind kind (flag / 64) ≡ fail r → fail r ≡ offsetAt s at kind flag
-  unfolding offsetAt
-  offset-none e = rw e
-
-  module _ (k : ℕ) (e : offsetKind kind (flag / 64) ≡ ok k) where
-    pub offset-no : {r : Refusal} → sampleAt k s at ≡ fail r → fail r ≡ offsetAt s at kind flag
-    unfolding offsetAt
-    offset-no d = rw (e, d)
-
-    pub offset-ok : (v size : ℕ) → sampleAt k s at ≡ ok v → size ≡ typeSize k → ok (record { value = v; next = at + size }) ≡ offsetAt s at kind flag
-    unfolding offsetAt
-    offset-ok v size d z = rw (e, d, z)
-
-  pub finite-no : {r : Refusal} → offsetAt s at kind flag ≡ fail r → fail r ≡ finiteOffset s at kind flag
-  unfolding finiteOffset
-  finite-no e = rw e
-
-  module _ {o : Offset} (e : offsetAt s at kind flag ≡ ok o) where
-    pub finite-endless : finite (o .value) ≡ false → fail (refuse 8) ≡ finiteOffset s at kind flag
-    unfolding finiteOffset
-    finite-endless f = rw (e, f)
-
-    pub finite-ok : finite (o .value) ≡ true → ok o ≡ finiteOffset s at kind flag
-    unfolding finiteOffset
-    finite-ok f = rw (e, f)
-
--- an offset that was read
 pub record Found (s : List ℕ) (at kind flag : ℕ) (o : Offset) : Type 0 where
   pub k : ℕ
   pub named : offsetKind kind (flag / 64) ≡ ok k
@@ -132,20 +93,6 @@ module _ (s : List ℕ) (at kind flag : ℕ) {o : Offset} where
       let (u, p, e) = bind-is (offsetAt s at kind flag) _ e in
       let (t, q, e) = bind-is (require (finite (u .value)) 8) _ e in
       rw (← ok-is e) (p, require-is _ 8 q)
-
-module _ (s : List ℕ) (at kind error top flag n : ℕ) where
-  pub offset-refused : {r : Refusal} → finiteOffset s at kind flag ≡ fail r → offsetBlock s at kind error top flag n ≡ fail r
-  unfolding offsetBlock
-  offset-refused e = rw e
-
-  module _ {o : Offset} (e : finiteOffset s at kind flag ≡ ok o) where
-    pub offset-level : flag % 4 ≡ 3 → offsetBlock s at kind error top flag n ≡ levelBlock (o .next) kind (o .value) n
-    unfolding offsetBlock
-    offset-level g = rw (e, eq-eqb _ _ g)
-
-    pub offset-stepped : (flag % 4 ≡ 3 → ⊥) → offsetBlock s at kind error top flag n ≡ steppedBlock s (o .next) kind error top (o .value) n
-    unfolding offsetBlock
-    offset-stepped g = rw (e, ne-eqb _ _ g)
 
 -- ---- the flag
 
@@ -189,38 +136,6 @@ read-flag-is s at x n {flag} e =
     let (t, p, e) = bind-is (require (leb n tileLimit) 8) _ e in
     let w = flag-is s at x e .0 in
     record { few = leb-true _ _ (require-is _ 8 p); inside = wordAt-is 1 s at flag w .inside; byte = λ y. byte-lt s at flag y w }
-
--- ---- the block
-
-module _ (s : List ℕ) (at kind error top x n : ℕ) where
-  read-flagged : readBlockSays s at kind error top x n ≡ (readFlag s at x n >>= λ flag. formed s (at + 1) kind error top flag n)
-  unfolding readBlockSays blockSays readFlag
-  read-flagged = go (leb n tileLimit)
-    where
-      go : (t : Bool)
-          → (require t 8 >>= λ _. flagAt s at x >>= λ flag. formed s (at + 1) kind error top flag n)
-          ≡ ((require t 8 >>= λ _. flagAt s at x) >>= λ flag. formed s (at + 1) kind error top flag n)
-      go true = refl
-      go false = refl
-
-  pub read-no : {r : Refusal} → readFlag s at x n ≡ fail r → readBlockSays s at kind error top x n ≡ fail r
-  read-no e = read-flagged ∙ bind-no _ e
-
-  pub read-formed : (flag : ℕ) → readFlag s at x n ≡ ok flag → readBlockSays s at kind error top x n ≡ formed s (at + 1) kind error top flag n
-  read-formed flag e = read-flagged ∙ bind-ok _ e
-
-module _ (s : List ℕ) (at kind error top flag n : ℕ) where
-  pub formed-raw : flag % 4 ≡ 0 → formed s at kind error top flag n ≡ rawWords s at kind n
-  unfolding formed
-  formed-raw d = rw (eq-eqb _ _ d)
-
-  pub formed-zero : flag % 4 ≡ 2 → formed s at kind error top flag n ≡ ok (record { words = replicate n 0; next = at })
-  unfolding formed
-  formed-zero d = rw (d)
-
-  pub formed-offset : (flag % 4 ≡ 0 → ⊥) → (flag % 4 ≡ 2 → ⊥) → formed s at kind error top flag n ≡ offsetBlock s at kind error top flag n
-  unfolding formed
-  formed-offset d e = rw (ne-eqb _ _ d, ne-eqb _ _ e)
 
 -- ---- the promise leaves no room
 

@@ -1,27 +1,29 @@
--- A block judged without its values: where they all fit, only its counts and its end can be refused.
+-- A block judged without its values: where they all fit, only its counts can be refused.
 -- Assumes nothing.
-use mathlib.Core.Path.{_≡_, refl, ap}
+use mathlib.Core.Path.{_≡_, ap, refl}
 use mathlib.Core.Bool.{Bool, true, false, not, _&&_, _||_}
 use mathlib.Core.List.{List, [], _∷_}
-use Prim.Native.Nat.{ℕ, _+_, _*_, _/_, _≤_, _<_}
+use Prim.Native.Nat.{ℕ, _/_, _≤_, _<_}
 use native.Mathlib.Omega.{arith}
-use borrow.Author.Tests.{leb-true, le-leb, lt-leb, eq-eqb, ne-eqb}
-use lib.Dec.{leb, eqb}
-use lib.ListN.{length}
+use borrow.Author.Tests.{leb-true, le-leb, lt-leb}
+use lib.Dec.{leb}
 use Rattle.lerc_words.specs.declared.Refusal.{Refusal}
-use Rattle.lerc_words.specs.Res.{Res, ok, fail, _>>=_, refuse, require, each, accepts, little}
-use Rattle.lerc_words.proofs.Laws.{and-is, accepts-is}
+use Rattle.lerc_words.specs.Res.{Res, ok, fail, each, accepts, little}
+use Rattle.lerc_words.proofs.Binding.{and-is, accepts-is}
 use Rattle.lerc_numeric.specs.Numeric.{negative}
 use Rattle.lerc_numeric.specs.Kinds.{typeSize}
 use Rattle.lerc_samples.specs.Samples.{stored}
 use Rattle.lerc_samples.proofs.Storable.{Storable, storable-float, storable-clamped, offset-storable}
 use Rattle.lerc_samples.proofs.Reading.{sample-is}
-use Rattle.lerc_bits.specs.Bits.{Counts, counts}
-use Rattle.lerc_block.specs.Block.{Block, Offset, rawWords, levelBlock, stepValue, steppedBlock, finiteOffset, nextBlock}
+use Rattle.lerc_bits.specs.Bits.{Counts, unpacked}
+use Rattle.lerc_block.specs.declared.plan.Steps.{Steps}
+use Rattle.lerc_block.specs.declared.plan.StoredOffset.{StoredOffset}
+use Rattle.lerc_block.specs.Block.{Block, Offset, levelBlock, stepValue, finiteOffset, nextBlock}
+use Rattle.lerc_block.specs.Plan.{offsetValue, steppedWords, ended}
 use Rattle.lerc_block.specs.Steps.{stepWord}
-use Rattle.lerc_block.specs.End.{rawEnd}
-use Rattle.lerc_block.specs.Check.{stepsFit, countedEnd}
+use Rattle.lerc_block.specs.Check.{stepsFit, Held}
 use Rattle.lerc_block.proofs.Answers.{level-ok, offset-is, finite-is}
+use Rattle.lerc_block.proofs.Steps.{steps-by}
 
 -- ---- when every step fits
 
@@ -73,16 +75,10 @@ offset-held s at kind flag {o} e =
 pub next-no : {m : Res Block} {r : Refusal} → m ≡ fail r → fail r ≡ nextBlock m
 next-no e = rw e
 
-require-next : (t : Bool) (b : Block) → nextBlock (require t 1 >>= λ _. ok b) ≡ (require t 1 >>= λ _. ok (b .next))
-require-next true b = refl
-require-next false b = refl
-
-pub raw-next : (s : List ℕ) (at kind n : ℕ) → nextBlock (rawWords s at kind n) ≡ rawEnd s at kind n
-unfolding rawWords rawEnd
-raw-next s at kind n = require-next (leb (at + n * typeSize kind) (length s)) _
-
-pub level-next : (at kind offset n : ℕ) → Storable kind offset → nextBlock (levelBlock at kind offset n) ≡ ok at
-level-next at kind offset n held = ap nextBlock (level-ok at kind offset n (held .0) (held .1))
+pub level-next : (next kind n : ℕ) (o : StoredOffset) → Held kind o → nextBlock (levelBlock next kind (offsetValue o) n) ≡ ok next
+level-next next kind n o h =
+    let (w, e) = accepts-is (stored kind (offsetValue o)) h in
+    ap nextBlock (level-ok next kind (offsetValue o) n w e)
 
 each-fits : (f : ℕ → Res ℕ) → ((x : ℕ) → (y : ℕ) × (f x ≡ ok y)) → (xs : List ℕ) → (ys : List ℕ) × (each f xs ≡ ok ys)
 unfolding each
@@ -92,37 +88,11 @@ each-fits f p (x ∷ xs) =
     let vs = each-fits f p xs in
     (v .0 ∷ vs .0, rw (v .1, vs .1))
 
-module _ (s : List ℕ) (at kind error top offset n : ℕ) (fit : stepsFit kind error top ≡ true) (held : Storable kind offset) where
-  words-fit : (qs : List ℕ) → (ws : List ℕ) × (each (stepWord kind error top offset) qs ≡ ok ws)
-  words-fit = each-fits (stepWord kind error top offset) (step-fits kind error top fit offset held)
-
-  pub stepped-next : nextBlock (steppedBlock s at kind error top offset n) ≡ countedEnd s at n
-  unfolding steppedBlock countedEnd
-  stepped-next = go (counts s at)
-    where
-      try : (c : Counts) (t : Bool)
-          → nextBlock (require t 8 >>= λ _. each (stepWord kind error top offset) (c .values) >>= λ ws. ok (record { words = ws; next = c .next })) ≡ (require t 8 >>= λ _. ok (c .next))
-      try c true = rw (words-fit (c .values) .1)
-      try c false = refl
-
-      go : (m : Res Counts)
-          → nextBlock (m >>= λ c. require (eqb (length (c .values)) n) 8 >>= λ _. each (stepWord kind error top offset) (c .values) >>= λ ws. ok (record { words = ws; next = c .next }))
-          ≡ (m >>= λ c. require (eqb (length (c .values)) n) 8 >>= λ _. ok (c .next))
-      go (ok c) = try c (eqb (length (c .values)) n)
-      go (fail r) = refl
-
--- ---- counts of a tile
-
-module _ (s : List ℕ) (at n : ℕ) where
-  pub counted-no : {r : Refusal} → counts s at ≡ fail r → fail r ≡ countedEnd s at n
-  unfolding countedEnd
-  counted-no e = rw e
-
-  module _ (c : Counts) (e : counts s at ≡ ok c) where
-    pub counted-other : (length (c .values) ≡ n → ⊥) → fail (refuse 8) ≡ countedEnd s at n
-    unfolding countedEnd
-    counted-other d = rw (e, ne-eqb _ _ d)
-
-    pub counted-ok : length (c .values) ≡ n → ok (c .next) ≡ countedEnd s at n
-    unfolding countedEnd
-    counted-ok d = rw (e, eq-eqb _ _ d)
+-- where every step fits, the counts decide
+pub steps-next : (s : List ℕ) (kind error top n : ℕ) (steps : Steps) (next : ℕ) → stepsFit kind error top ≡ true → Held kind (steps .offset) → steps .counts .n ≡ n
+    → {c : Counts} → unpacked s (steps .counts) ≡ ok c → ok next ≡ nextBlock (ended next (steppedWords s kind error top n steps))
+steps-next s kind error top n steps next fit h d {c} e =
+    let offset = offsetValue (steps .offset) in
+    let held = accepts-is (stored kind offset) h in
+    let (ws, f) = each-fits (stepWord kind error top offset) (step-fits kind error top fit offset held) (c .values) in
+    rw (steps-by s kind error top n steps d e, f)

@@ -1,8 +1,9 @@
-pub mod Filling
 pub mod Answers
+pub mod Finite
+pub mod Planning
+pub mod Leads
 pub mod Steps
 pub mod Accepted
-pub mod Finish
 pub mod Numbers
 pub mod Fitting
 pub mod Spared

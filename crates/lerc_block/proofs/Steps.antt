@@ -1,4 +1,4 @@
--- Packed counts as words: what was decoded, what was converted, and the block they make.
+-- Packed counts as words: what was decoded, what was converted, and the words they make.
 -- Assumes nothing.
 use mathlib.Core.Path.{_≡_, refl, sym, ap, _∙_}
 use mathlib.Core.List.{List}
@@ -10,22 +10,16 @@ use lib.Seq.{take-at}
 use Rattle.lerc_words.specs.declared.Refusal.{Refusal}
 use Rattle.lerc_words.specs.Res.{Res, ok, fail, _>>=_, refuse, each}
 use Rattle.lerc_words.specs.Lists.{over}
-use Rattle.lerc_words.proofs.Laws.{ok-is, each-length}
-use Rattle.lerc_bits.specs.Bits.{Counts, counts}
+use Rattle.lerc_words.proofs.Binding.{ok-is, each-length}
+use Rattle.lerc_bits.specs.Bits.{Counts, unpacked}
 use Rattle.lerc_bits.proofs.Answers.{Given}
+use Rattle.lerc_bits.proofs.Values.{unpacked-is}
 use Rattle.lerc_block.specs.declared.BlockAnswer.{BlockAnswer}
 use Rattle.lerc_block.specs.declared.BlockAnswer.the-variants as answer
-use Rattle.lerc_block.specs.Block.{Block, steppedBlock, blockSaid}
+use Rattle.lerc_block.specs.declared.plan.Steps.{Steps}
+use Rattle.lerc_block.specs.Block.{blockSaid}
+use Rattle.lerc_block.specs.Plan.{offsetValue, steppedWords}
 use Rattle.lerc_block.specs.Steps.{stepWord, Converted}
-
--- ---- n counts in front of an array
-
-module _ {m : Res Counts} {n next : ℕ} {old now : List ℕ} (t : Given m n next old now) where
-  pub counts-room : n ≤ length now
-  counts-room = rw (t .left, length-append) (omega (arith, t .many))
-
-  counts-front : take n now ≡ t .values
-  counts-front = rw (t .left) (take-at (t .values) (drop (length (t .values)) old) n (t .many))
 
 -- ---- words that were converted
 
@@ -42,47 +36,54 @@ converted-fails {m} {next} {r} {q} c e = go m (sym (c .says) ∙ ap blockSaid e)
     go (ok ws) g = absurd (let z : _≡_ {A = ℕ} 0 1 = cc in omega arith)
     go (fail p) g = let z : p ≡ q = cc in ap fail z
 
--- all words in front of an array, and where they end
-pub record Stepped (m : Res (List ℕ)) (next end : ℕ) (old new : List ℕ) : Type 0 where
+-- all words in front of an array
+pub record Stepped (m : Res (List ℕ)) (old new : List ℕ) : Type 0 where
   pub words : List ℕ
   pub is : m ≡ ok words
-  pub ends : end ≡ next
   pub front : new ≡ over words old
 
-pub converted-is : {m : Res (List ℕ)} {next end : ℕ} {r : BlockAnswer} {old new : List ℕ} → Converted m next r old new → r ≡ answer.Block end → Stepped m next end old new
+pub converted-is : {m : Res (List ℕ)} {next end : ℕ} {r : BlockAnswer} {old new : List ℕ} → Converted m next r old new → r ≡ answer.Block end → Stepped m old new
 converted-is {m} {next} {end} {r} {old} {new} c e = go m (sym (c .says) ∙ ap blockSaid e) (c .words)
   where
-    go : (m : Res (List ℕ)) → (m >>= λ words. ok next) ≡ ok end → ((front : List ℕ) → m ≡ ok front → new ≡ over front old) → Stepped m next end old new
-    go (ok ws) g f = record { words = ws; is = refl; ends = sym (ok-is g); front = f ws refl }
+    go : (m : Res (List ℕ)) → (m >>= λ words. ok next) ≡ ok end → ((front : List ℕ) → m ≡ ok front → new ≡ over front old) → Stepped m old new
+    go (ok ws) g f = record { words = ws; is = refl; front = f ws refl }
     go (fail p) g f = absurd (let z : _≡_ {A = ℕ} 0 1 = cc in omega arith)
 
--- ---- the block
+-- ---- the words of a plan's steps
 
-module _ (s : List ℕ) (at kind error top offset n : ℕ) where
-  pub stepped-no : {r : Refusal} → counts s at ≡ fail r → steppedBlock s at kind error top offset n ≡ fail r
-  unfolding steppedBlock
-  stepped-no e = rw e
+module _ (s : List ℕ) (kind error top n : ℕ) (steps : Steps) where
+  pub steps-other : (steps .counts .n ≡ n → ⊥) → steppedWords s kind error top n steps ≡ fail (refuse 8)
+  unfolding steppedWords
+  steps-other d = rw (ne-eqb _ _ d)
 
-  module _ {many next : ℕ} {old now : List ℕ} (t : Given (counts s at) many next old now) where
-    pub stepped-other : (many ≡ n → ⊥) → steppedBlock s at kind error top offset n ≡ fail (refuse 8)
-    unfolding steppedBlock
-    stepped-other d = rw (t .reads, t .many, ne-eqb many n d)
+  module _ (d : steps .counts .n ≡ n) where
+    pub steps-no : {r : Refusal} → unpacked s (steps .counts) ≡ fail r → steppedWords s kind error top n steps ≡ fail r
+    unfolding steppedWords
+    steps-no e = rw (eq-eqb _ _ d, e)
 
-    module _ (d : many ≡ n) where
-      each-front : each (stepWord kind error top offset) (take n now) ≡ each (stepWord kind error top offset) (t .values)
-      each-front = rw (← d, counts-front t)
+    pub steps-by : {c : Counts} → unpacked s (steps .counts) ≡ ok c → steppedWords s kind error top n steps ≡ each (stepWord kind error top (offsetValue (steps .offset))) (c .values)
+    unfolding steppedWords
+    steps-by e = rw (eq-eqb _ _ d, e)
 
-      pub stepped-fails : {r : Refusal} → each (stepWord kind error top offset) (take n now) ≡ fail r → steppedBlock s at kind error top offset n ≡ fail r
-      unfolding steppedBlock
-      stepped-fails e = rw (t .reads, t .many, eq-eqb many n d, sym each-front ∙ e)
+    -- n counts in front of an array
+    module _ {many next : ℕ} {old now : List ℕ} (t : Given (unpacked s (steps .counts)) many next old now) where
+      counts-many : length (t .values) ≡ n
+      counts-many = unpacked-is s (steps .counts) (t .reads) .0 ∙ d
 
-      module _ {end : ℕ} {spare new : List ℕ} (w : Stepped (each (stepWord kind error top offset) (take n now)) next end spare new) where
-        pub stepped-ok : steppedBlock s at kind error top offset n ≡ ok (record { words = w .words; next = end })
-        unfolding steppedBlock
-        stepped-ok = rw (t .reads, t .many, eq-eqb many n d, sym each-front ∙ w .is, w .ends)
+      pub counts-room : n ≤ length now
+      counts-room = rw (t .left, length-append) (omega (arith, counts-many))
 
-        pub stepped-long : length (w .words) ≡ n
-        stepped-long = each-length (stepWord kind error top offset) (t .values) (sym each-front ∙ w .is) ∙ t .many ∙ d
+      counts-front : take n now ≡ t .values
+      counts-front = rw (t .left) (take-at (t .values) (drop (length (t .values)) old) n counts-many)
 
-        pub stepped-front : take n new ≡ w .words
-        stepped-front = rw (w .front) (take-at (w .words) (drop (length (w .words)) spare) n stepped-long)
+      -- from an offset, which is the plan's by whatever name
+      module _ {offset : ℕ} (z : offset ≡ offsetValue (steps .offset)) where
+        pub steps-each : steppedWords s kind error top n steps ≡ each (stepWord kind error top offset) (take n now)
+        steps-each = rw (counts-front, z) (steps-by (t .reads))
+
+        module _ {spare new : List ℕ} (w : Stepped (each (stepWord kind error top offset) (take n now)) spare new) where
+          pub steps-long : length (w .words) ≡ n
+          steps-long = each-length (stepWord kind error top offset) (take n now) (w .is) ∙ ap length counts-front ∙ counts-many
+
+          pub steps-front : take n new ≡ w .words
+          steps-front = rw (w .front) (take-at (w .words) (drop (length (w .words)) spare) n steps-long)

@@ -15,8 +15,6 @@ use Rattle.lerc_samples.specs.Samples.{sampleAt, stored, offsetKind}
 use Rattle.lerc_bits.specs.Bits.{counts}
 use Rattle.lerc_block.specs.declared.BlockAnswer.{BlockAnswer}
 use Rattle.lerc_block.specs.declared.BlockAnswer.the-variants as answer
-use Rattle.lerc_block.specs.declared.fields.FieldAnswer.{FieldAnswer}
-use Rattle.lerc_block.specs.declared.fields.FieldAnswer.the-variants as field
 
 -- the word of each valid pixel of the tile, in order, and where the next block begins
 pub record Block : Type 0 where
@@ -97,12 +95,6 @@ blockSays s at kind error top x n = do
 abbrev pub tileLimit : ℕ
 tileLimit = 256
 
--- its flag
-unfoldable pub readFlag : List ℕ → ℕ → ℕ → ℕ → Res ℕ
-readFlag s at x n = do
-  _ ← require (leb n tileLimit) 8
-  flagAt s at x
-
 unfoldable pub readBlockSays : List ℕ → ℕ → ℕ → ℕ → ℕ → ℕ → ℕ → Res Block
 readBlockSays s at kind error top x n = do
   _ ← require (leb n tileLimit) 8
@@ -112,21 +104,13 @@ abbrev pub blockSaid : BlockAnswer → Res ℕ
 blockSaid (answer.Block next) = ok next
 blockSaid (answer.Refused r) = fail r
 
-abbrev pub fieldSaid : FieldAnswer → Res Offset
-fieldSaid (field.Offset v next) = ok (record { value = v; next = next })
-fieldSaid (field.Refused r) = fail r
-
-abbrev pub fieldRefused : FieldAnswer → Refusal
-fieldRefused (field.Offset v next) = refuse 0
-fieldRefused (field.Refused r) = r
-
 -- where the next block begins
 abbrev pub nextBlock : Res Block → Res ℕ
 nextBlock m = m >>= λ b. ok (b .next)
 
-abbrev pub blockRefused : BlockAnswer → Refusal
-blockRefused (answer.Block next) = refuse 0
-blockRefused (answer.Refused r) = r
+abbrev pub refusalOfBlock : BlockAnswer → Refusal
+refusalOfBlock (answer.Block next) = refuse 0
+refusalOfBlock (answer.Refused r) = r
 
 -- the words stand in front; a refusal leaves the array
 pub record BlockRead (m : Res Block) (r : BlockAnswer) (old new : List ℕ) : Type 0 where

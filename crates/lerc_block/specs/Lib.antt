@@ -1,4 +1,4 @@
 pub mod Block
+pub mod Plan
 pub mod Steps
-pub mod End
 pub mod Check

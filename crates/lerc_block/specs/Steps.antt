@@ -1,4 +1,4 @@
--- What the code that converts counts into a spare array does; not part of the rules.
+-- What private functions promise; not part of the rules.
 -- Assumes nothing.
 use Prim.Native.Nat.{ℕ}
 use mathlib.Core.Path.{_≡_}

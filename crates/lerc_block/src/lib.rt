@@ -6,20 +6,25 @@ ghost use lib.ListN.{length, take, drop, replicate};
 ghost use Rattle.lerc_words.specs.Res.{little, each};
 ghost use Rattle.lerc_words.specs.Lists.{tabulate};
 ghost use Rattle.lerc_samples.specs.Samples.{storedSaid};
-ghost use Rattle.lerc_block.specs.Block.{rawWords, levelBlock, steppedBlock, offsetBlock, readBlockSays, blockRefused, BlockRead};
+ghost use Rattle.lerc_bits.specs.Bits.{Kept};
+ghost use Rattle.lerc_block.specs.Block.{levelBlock, readBlockSays, refusalOfBlock, BlockRead};
+ghost use Rattle.lerc_block.specs.Plan.{offsetValue, steppedWords, ended, planned};
 ghost use Rattle.lerc_block.specs.Steps.{stepWord, Converted};
-use fields::FieldAnswer;
+ghost use Rattle.lerc_block.specs.Check.{Sound};
 use lerc_bits::CountsAnswer;
 use lerc_samples::StoredAnswer;
 use lerc_words::Refusal;
-use lerc_words::WordAnswer;
 
 mod checks;
-mod ends;
-mod fields;
+mod plan;
 
 pub use checks::check_block;
-pub use ends::block_end;
+pub use plan::BlockPlan;
+pub use plan::BlockPlanAnswer;
+pub use plan::Form;
+pub use plan::Steps;
+pub use plan::StoredOffset;
+pub use plan::inspect_block;
 
 // Where the next block begins.
 pub enum BlockAnswer {
@@ -30,7 +35,7 @@ pub enum BlockAnswer {
 impl BlockAnswer {
     // why it was refused; number 0 where it was not
     pub fn refusal(self) -> Refusal
-        ensures { λ r. ⌜ r ≡ blockRefused self ⌝ }
+        ensures { λ r. ⌜ r ≡ refusalOfBlock self ⌝ }
     {
         match self {
             BlockAnswer::Block(_next) => Refusal { number: 0 },
@@ -39,31 +44,8 @@ impl BlockAnswer {
     }
 }
 
-// one word n times
-fn fill(v: u64, n: usize, out: &mut [u64])
-    requires { ⌜ n ≤ length (now out) ⌝ }
-    ensures { λ r. ⌜ now (out .exit) ≡ replicate n v ++ drop n (now (out .entry)) ⌝ }
-{
-    let mut k = 0;
-    while k < n {
-        out[k] = v;
-        k += 1;
-    }
-}
-
-fn copy(from: &[u64], n: usize, out: &mut [u64])
-    requires { ⌜ (n ≤ length (now from)) × (n ≤ length (now out)) ⌝ }
-    ensures { λ r. ⌜ now (out .exit) ≡ take n (now (from .entry)) ++ drop n (now (out .entry)) ⌝ }
-{
-    let mut k = 0;
-    while k < n {
-        out[k] = from[k];
-        k += 1;
-    }
-}
-
 // n words of `size` bytes, one after the other
-fn copy_words(s: &[u8], at: usize, size: usize, n: usize, out: &mut [u64])
+fn read_words(s: &[u8], at: usize, size: usize, n: usize, out: &mut [u64])
     requires { ⌜ (size ≤ 8) × (at + n * size ≤ length (now s)) × (n ≤ length (now out)) ⌝ }
     ensures { λ r. ⌜ now (out .exit) ≡ tabulate n (λ k. little size (now (s .entry)) (at + k * size)) ++ drop n (now (out .entry)) ⌝ }
 {
@@ -76,35 +58,27 @@ fn copy_words(s: &[u8], at: usize, size: usize, n: usize, out: &mut [u64])
     }
 }
 
-// low bits 0
-fn read_raw(s: &[u8], at: usize, kind: u32, n: usize, words: &mut [u64; 256]) -> BlockAnswer
-    requires { ⌜ (n ≤ 256) × (at ≤ length (now s)) ⌝ }
-    ensures { λ r. ⌜ BlockRead (rawWords (now (s .entry)) at kind n) r (now (words .entry)) (now (words .exit)) ⌝ }
-{
-    let size = lerc_numeric::size(kind);
-    let whole = n * size;
-    if s.len() - at < whole {
-        return BlockAnswer::Refused(Refusal { number: 1 });
-    }
-    copy_words(s, at, size, n, words);
-    BlockAnswer::Block(at + whole)
-}
-
 // low bits 3: the offset is stored once, and not at all where there is no pixel
-fn read_level(at: usize, kind: u32, offset: u64, n: usize, words: &mut [u64; 256]) -> BlockAnswer
-    requires { ⌜ n ≤ 256 ⌝ }
-    ensures { λ r. ⌜ BlockRead (levelBlock at kind offset n) r (now (words .entry)) (now (words .exit)) ⌝ }
+fn read_level(
+    offset: StoredOffset,
+    next: usize,
+    kind: u32,
+    n: usize,
+    words: &mut [u64],
+) -> BlockAnswer
+    requires { ⌜ n ≤ length (now words) ⌝ }
+    ensures { λ r. ⌜ BlockRead (levelBlock next kind (offsetValue offset) n) r (now (words .entry)) (now (words .exit)) ⌝ }
 {
     if n == 0 {
-        return BlockAnswer::Block(at);
+        return BlockAnswer::Block(next);
     }
-    let a = lerc_samples::stored(offset, kind);
+    let a = lerc_samples::stored(lerc_numeric::number(offset.word, offset.kind), kind);
     let StoredAnswer::Word(v) = a else {
         let why = a.refusal();
         return BlockAnswer::Refused(why);
     };
-    fill(v, n, words);
-    BlockAnswer::Block(at)
+    lerc_slices::fill_words(v, &mut words[..n]);
+    BlockAnswer::Block(next)
 }
 
 // the word of count q
@@ -142,60 +116,65 @@ fn convert(
 }
 
 // low bits 1; the words are kept aside until all of them fit
-fn read_stepped(
+fn read_steps(
     s: &[u8],
-    at: usize,
+    steps: Steps,
+    next: usize,
     kind: u32,
     error: u64,
     top: u64,
-    offset: u64,
     n: usize,
-    words: &mut [u64; 256],
+    words: &mut [u64],
 ) -> BlockAnswer
-    requires { ⌜ n ≤ 256 ⌝ }
-    ensures { λ r. ⌜ BlockRead (steppedBlock (now (s .entry)) at kind error top offset n) r (now (words .entry)) (now (words .exit)) ⌝ }
+    requires { ⌜ (n ≤ 256) × (n ≤ length (now words)) × Kept (length (now s)) (steps .counts) ⌝ }
+    ensures { λ r. ⌜ BlockRead (ended next (steppedWords (now (s .entry)) kind error top n steps)) r (now (words .entry)) (now (words .exit)) ⌝ }
 {
-    let mut counts = [0u32; 256];
-    let a = lerc_bits::decode(s, at, &mut counts);
-    let CountsAnswer::Counts { n: found, next } = a else {
-        let why = a.refusal();
-        return BlockAnswer::Refused(why);
-    };
-    if found != n {
+    let plan = steps.counts;
+    if plan.n != n {
         return BlockAnswer::Refused(Refusal { number: 8 });
     }
-    let mut spare = [0u64; 256];
-    let b = convert(&counts[..n], next, kind, error, top, offset, &mut spare);
-    let BlockAnswer::Block(end) = b else {
-        return b;
-    };
-    copy(&spare, n, words);
-    BlockAnswer::Block(end)
-}
-
-// low bits 1 and 3
-fn read_offset(
-    s: &[u8],
-    at: usize,
-    kind: u32,
-    error: u64,
-    top: u64,
-    flag: u32,
-    n: usize,
-    words: &mut [u64; 256],
-) -> BlockAnswer
-    requires { ⌜ n ≤ 256 ⌝ }
-    ensures { λ r. ⌜ BlockRead (offsetBlock (now (s .entry)) at kind error top flag n) r (now (words .entry)) (now (words .exit)) ⌝ }
-{
-    let a = fields::finite_offset(s, at, kind, flag);
-    let FieldAnswer::Offset(offset, next) = a else {
+    let mut counts = [0u32; 256];
+    let a = lerc_bits::decode_plan(s, plan, &mut counts);
+    let CountsAnswer::Counts { n: _n, next: _next } = a else {
         let why = a.refusal();
         return BlockAnswer::Refused(why);
     };
-    if flag % 4 == 3 {
-        return read_level(next, kind, offset, n, words);
+    let offset = lerc_numeric::number(steps.offset.word, steps.offset.kind);
+    let mut spare = [0u64; 256];
+    let b = convert(&counts[..n], next, kind, error, top, offset, &mut spare);
+    let BlockAnswer::Block(_end) = b else {
+        return b;
+    };
+    lerc_slices::copy_words(&spare, &mut words[..n]);
+    BlockAnswer::Block(next)
+}
+
+// the words that a plan leads to
+fn read_planned(
+    s: &[u8],
+    p: BlockPlan,
+    kind: u32,
+    error: u64,
+    top: u64,
+    n: usize,
+    words: &mut [u64],
+) -> BlockAnswer
+    requires { ⌜ (n ≤ 256) × (n ≤ length (now words)) × Sound (now s) kind n (p .form) ⌝ }
+    ensures { λ r. ⌜ BlockRead (planned (now (s .entry)) kind error top n p) r (now (words .entry)) (now (words .exit)) ⌝ }
+{
+    let form = p.form;
+    match form {
+        Form::Raw(at) => {
+            read_words(s, at, lerc_numeric::size(kind), n, &mut words[..]);
+            BlockAnswer::Block(p.next)
+        }
+        Form::Zero => {
+            lerc_slices::fill_words(0, &mut words[..n]);
+            BlockAnswer::Block(p.next)
+        }
+        Form::Level(offset) => read_level(offset, p.next, kind, n, &mut words[..]),
+        Form::Stepped(steps) => read_steps(s, steps, p.next, kind, error, top, n, &mut words[..]),
     }
-    read_stepped(s, next, kind, error, top, offset, n, words)
 }
 
 // the words of the block at `at` to the front of `words`, or a refusal, which leaves them
@@ -211,17 +190,10 @@ pub fn read_block(
 ) -> BlockAnswer
     ensures { λ r. ⌜ BlockRead (readBlockSays (now (s .entry)) at kind error maximum x n) r (now (words .entry)) (now (words .exit)) ⌝ }
 {
-    let a = fields::flag_at(s, at, x, n);
-    let WordAnswer::Word(flag) = a else {
+    let a = inspect_block(s, at, kind, x, n);
+    let BlockPlanAnswer::Plan(p) = a else {
         let why = a.refusal();
         return BlockAnswer::Refused(why);
     };
-    if flag % 4 == 0 {
-        return read_raw(s, at + 1, kind, n, words);
-    }
-    if flag % 4 == 2 {
-        fill(0, n, words);
-        return BlockAnswer::Block(at + 1);
-    }
-    read_offset(s, at + 1, kind, error, maximum, flag as u32, n, words)
+    read_planned(s, p, kind, error, maximum, n, words)
 }

@@ -10,10 +10,12 @@ use borrow.Author.Tests.{lt-ltb}
 use lib.Seq.{take-at, drop-at}
 use Rattle.lerc_words.specs.Res.{ok, require, little}
 use Rattle.lerc_words.specs.Lists.{over}
-use Rattle.lerc_words.proofs.Laws.{Bytes, little-lt, bind-is, ok-is}
+use Rattle.lerc_words.proofs.Binding.{bind-is, ok-is}
+use Rattle.lerc_words.proofs.Little.{Bytes, little-lt}
 use Rattle.lerc_header.specs.Header.{headerBytes, keyRight, held, headerOf, headerSays}
 use Rattle.lerc_header.specs.declared.Header.{Header}
-use Rattle.lerc_planes.specs.declared.Ranges.{Ranges}
+use Rattle.lerc_header.specs.Limits.{depthLimit}
+use Rattle.lerc_ranges.specs.declared.Ranges.{Ranges}
 use Rattle.lerc_c.specs.Records.{headerNumbers, narrow, fieldsFit, headerFrom, rangesNumbers, rangesFrom}
 
 pub header-back : (h : Header) (l : List ℕ) → fieldsFit (headerNumbers h) ≡ true → headerFrom (over (headerNumbers h) l) ≡ ok h
@@ -42,10 +44,10 @@ mark-back : (c : Bool) → eqb (cond c 1 0) 1 ≡ c
 mark-back true = refl
 mark-back false = refl
 
-pub ranges-back : (r : Ranges) (l : List ℕ) → length (r .min) ≡ 64 → length (r .max) ≡ 64 → rangesFrom (over (rangesNumbers r) l) ≡ ok r
+pub ranges-back : (r : Ranges) (l : List ℕ) → length (r .min) ≡ depthLimit → length (r .max) ≡ depthLimit → rangesFrom (over (rangesNumbers r) l) ≡ ok r
 unfolding rangesFrom
 ranges-back r l p q =
     let rest : List ℕ = drop (length (rangesNumbers r)) l in
-    let low : take 64 (r .min ++ r .max ++ rest) ≡ r .min = rw (append-assoc (r .min) (r .max) rest) (take-at (r .min) (r .max ++ rest) 64 p) in
-    let behind : drop 64 (r .min ++ r .max ++ rest) ≡ r .max ++ rest = rw (append-assoc (r .min) (r .max) rest) (drop-at (r .min) (r .max ++ rest) 64 p) in
-    rw (mark-fits (r .constant), mark-back (r .constant), low, behind, take-at (r .max) rest 64 q)
+    let low : take depthLimit (r .min ++ r .max ++ rest) ≡ r .min = rw (append-assoc (r .min) (r .max) rest) (take-at (r .min) (r .max ++ rest) depthLimit p) in
+    let behind : drop depthLimit (r .min ++ r .max ++ rest) ≡ r .max ++ rest = rw (append-assoc (r .min) (r .max) rest) (drop-at (r .min) (r .max ++ rest) depthLimit p) in
+    rw (mark-fits (r .constant), mark-back (r .constant), low, behind, take-at (r .max) rest depthLimit q)

@@ -5,35 +5,34 @@ use mathlib.Core.Bool.{Bool, true, false, _&&_}
 use mathlib.Core.List.{List, [], _∷_}
 use Prim.Native.Nat.{ℕ, _≤_, _<_}
 use native.Mathlib.Omega.{arith}
-use lib.ListN.{length, take, set}
+use lib.ListN.{length, set}
 use lib.Dec.{leb}
 use lib.Seq.{paste}
 use borrow.Author.Tests.{le-leb, lt-leb}
 use Rattle.lerc_words.specs.declared.Refusal.{Refusal}
-use Rattle.lerc_words.specs.Res.{Res, ok, fail, _>>=_, require, after}
+use Rattle.lerc_words.specs.Res.{Res, ok, fail, _>>=_, after}
 use Rattle.lerc_words.specs.Lists.{over}
-use Rattle.lerc_words.proofs.Laws.{ok-is, bind-is, bind-fail, bind-counts}
+use Rattle.lerc_words.proofs.Binding.{bind-fail, bind-counts}
 use Rattle.lerc_header.specs.declared.Header.{Header}
 use Rattle.lerc_header.specs.Header.{shapeOf, headerSays}
 use Rattle.lerc.specs.declared.ReadAnswer.{ReadAnswer}
 use Rattle.lerc.specs.declared.ReadAnswer.the-variants as answer
 use Rattle.lerc_header.specs.Shape.{blockCount}
 use Rattle.lerc_samples.specs.Samples.{stored}
-use Rattle.lerc_planes.specs.declared.Ranges.{Ranges}
-use Rattle.lerc_planes.specs.declared.MaskAnswer.the-variants as mask
-use Rattle.lerc_planes.specs.Validity.{InForce, reused, new, bytesOf, maskSays, spareWith, prepareSays, which, Prepared}
-use Rattle.lerc_planes.specs.Ranges.{readRangesSays}
+use Rattle.lerc_ranges.specs.declared.Ranges.{Ranges}
+use Rattle.lerc_validity.specs.declared.MaskAnswer.the-variants as mask
+use Rattle.lerc_validity.specs.Validity.{InForce, reused, new, spareWith, prepareSays, which, Prepared}
+use Rattle.lerc_ranges.specs.Ranges.{readRangesSays}
 use Rattle.lerc_image.specs.declared.WalkAnswer.the-variants as walk
 use Rattle.lerc_image.specs.declared.FillAnswer.the-variants as fill
 use Rattle.lerc_image.specs.Geometry.{tileOf, tileValid}
 use Rattle.lerc_image.specs.Walk.{walkSays, Walk, walkList, Walked}
 use Rattle.lerc_image.specs.Fill.{fillSays, fillImage, Filled}
-use Rattle.lerc.specs.Meaning.{Meaning, bodySays, startsOf, endOf, meaningFrom}
-use Rattle.lerc.specs.Read.{Lent, room, Masked, masked, readSays, refusedAfter, Whole, WholeRead}
-use Rattle.lerc.proofs.Whole as whole
+use Rattle.lerc.specs.Meaning.{Meaning, startsOf, endOf}
+use Rattle.lerc.specs.Read.{Lent, room, readSays, refusedAfter, Whole, WholeRead}
 use Rattle.lerc_c.specs.Records.{headerRoom, headerNumbers, headerFrom, rangesRoom, rangesNumbers, rangesFrom}
 use Rattle.lerc_c.specs.Entries.{headerEntry, HeaderDone, readRoom, readEntry, maskedEntry, lentAfter, readNumbers, ReadDone, prepareEntry, PrepareDone, rangesEntry, RangesDone, walkEntry, WalkDone, fillEntry, FillDone, storedEntry, StoredDone}
-use Rattle.lerc_c.proofs.Laws.{long, over-behind, first-put}
+use Rattle.lerc_c.proofs.RecordParts.{long, over-behind, first-put}
 
 -- ---- read header
 
@@ -51,18 +50,6 @@ module _ (b header : List ℕ) where
   header-read h e d = rw (le-leb headerRoom (length header) h, e) (record { number = refl; header = d })
 
 -- ---- whole read
-
--- an accepted read has the blob's header
-read-header : (b : List ℕ) (reuse : Bool) (l : Lent) {h : Header} {m : Meaning} → headerSays b ≡ ok h → readSays b reuse l ≡ ok m → m .header ≡ h
-unfolding readSays masked meaningFrom
-read-header b reuse l {h} {m} e r =
-    let (k, p, q) = bind-is (masked b reuse l) _ r in
-    let (g, s, p) = bind-is (headerSays b) _ p in
-    let (_, _, p) = bind-is (require (room g l) 5) _ p in
-    let (f, _, p) = bind-is (maskSays (take (g .size) b) g reuse (l .kept)) _ p in
-    let (y, _, q) = bind-is (bodySays (take (k .header .size) b) (k .header) (bytesOf (k .mask))) _ q in
-    let t : g ≡ h = ok-is (sym s ∙ e) in
-    ap (λ (x : Meaning). x .header) (sym (ok-is q)) ∙ ap (λ (x : Masked). x .header) (sym (ok-is p)) ∙ t
 
 -- the header, and behind it the two counts
 read-said : (m : Meaning) (said : List ℕ) {h : Header} {n end : ℕ} {front said' : List ℕ} → m .header ≡ h → n ≡ length (startsOf (m .body)) → end ≡ endOf (m .body)
@@ -85,15 +72,12 @@ module _ (b : List ℕ) (reuse : Bool) (l : Lent) (said : List ℕ) where
       let e = bind-fail (readSays b reuse l) _ (sym (w .says)) in
       record { number = rw (le-leb readRoom (length said) h, e) d; lent = read-lent h w; said = rw (le-leb readRoom (length said) h, e) }
 
-  pub read-no : {why : Refusal} {n : ℕ} → readRoom ≤ length said → headerSays b ≡ fail why → n ≡ why .number → ReadDone b reuse n l l said said
-  read-no h e d = read-refused h (whole.read-refused b reuse l (whole.header-no b reuse l e)) d
-
-  pub read-whole : {h : Header} {n end : ℕ} {l' : Lent} {front said' : List ℕ} → readRoom ≤ length said → headerSays b ≡ ok h → WholeRead b reuse (answer.Whole n end) l l'
+  pub read-whole : {h : Header} {n end : ℕ} {l' : Lent} {front said' : List ℕ} → readRoom ≤ length said → WholeRead b reuse (answer.Whole h n end) l l'
       → front ≡ over (headerNumbers h) said → said' ≡ paste front headerRoom (n ∷ end ∷ []) 2 → ReadDone b reuse 0 l l' said said'
   unfolding readEntry
-  read-whole {h} {n} {end} {l'} {front} {said'} long e w p q =
+  read-whole long w p q =
       let (m, r, c) = bind-counts (readSays b reuse l) _ (sym (w .says)) in
-      let z = read-said m said (read-header b reuse l e r) (ap (λ (v : Whole). v .blocks) c) (ap (λ (v : Whole). v .end) c) p q in
+      let z = read-said m said (sym (ap (λ (v : Whole). v .header) c)) (ap (λ (v : Whole). v .blocks) c) (ap (λ (v : Whole). v .end) c) p q in
       record { number = rw (le-leb readRoom (length said) long, r); lent = read-lent long w; said = rw (le-leb readRoom (length said) long, r) z }
 
 -- ---- prepare a mask

@@ -1,4 +1,4 @@
-mod Laws
+mod RecordParts
 mod Entries
 pub mod Back
 pub mod Numbers

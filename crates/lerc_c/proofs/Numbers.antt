@@ -10,7 +10,7 @@ use lib.Dec.{leb, ltb, eqb}
 use borrow.Author.Tests.{leb-true}
 use Rattle.lerc_words.specs.declared.Refusal.{Refusal}
 use Rattle.lerc_words.specs.Res.{Res, ok, fail, _>>=_, refuse, require, each, wordAt}
-use Rattle.lerc_words.proofs.Laws.{and-is}
+use Rattle.lerc_words.proofs.Binding.{and-is}
 use Rattle.lerc_numeric.specs.Numeric.{negative, finite, same}
 use Rattle.lerc_numeric.specs.Kinds.{typeSize, whole, bound, cut}
 use Rattle.lerc_samples.specs.Samples.{stored, noKind, offsetKinds, offsetKind, sampleAt}
@@ -21,14 +21,14 @@ use Rattle.lerc_header.specs.Header.{shapeOf, headerBytes, fieldsRight, withinC
 use Rattle.lerc_header.specs.Shape.{pixels, maskLength, blockCount}
 use Rattle.lerc_mask.specs.Mask.{validBelow, coded}
 use Rattle.lerc_mask.proofs.Runs.{coded-six}
-use Rattle.lerc_planes.specs.declared.Ranges.{Ranges}
-use Rattle.lerc_planes.specs.Validity.{bytesOf, uniform, kept, unrolled, maskSays, prepareSays}
-use Rattle.lerc_planes.specs.Ranges.{rangesEnd, pairsRight, codedRanges, rangesSays, readRangesSays, constantWords}
+use Rattle.lerc_ranges.specs.declared.Ranges.{Ranges}
+use Rattle.lerc_validity.specs.Validity.{bytesOf, uniform, kept, unrolled, maskSays, prepareSays}
+use Rattle.lerc_ranges.specs.Ranges.{rangesEnd, pairsRight, codedRanges, rangesSays, readRangesSays, constantWords}
 use Rattle.lerc_block.specs.Block.{rawWords, levelBlock, stepValue, steppedBlock, offsetAt, finiteOffset, offsetBlock, formed, flagAt, blockSays}
 use Rattle.lerc_image.specs.Geometry.{tileOf, tileValid}
-use Rattle.lerc_image.specs.Sweep.{Way, rawFrom, blocksFrom, hasModeByte, modeAt, moded, swept}
+use Rattle.lerc_sweep.specs.Sweep.{Way, rawFrom, blocksFrom, hasModeByte, modeAt, moded, swept}
 use Rattle.lerc_image.specs.Blocks.{blockAt, chain, allBlocks}
-use Rattle.lerc_image.specs.Walk.{walked, bodyWalked, walkSays}
+use Rattle.lerc_image.specs.Walk.{wayWalked, bodyWalked, walkSays}
 use Rattle.lerc_image.specs.Fill.{fillSays}
 use Rattle.lerc.specs.Meaning.{rawBody, blockBody, bodyFrom, sweptBody, constantBody, bodySays, meaningFrom}
 use Rattle.lerc.specs.Read.{Lent, room, masked, readSays}
@@ -228,8 +228,8 @@ body-n s h m =
     either (r .constant) (andThen (constantWords (h .depth) (h .kind) (r .min)) (each-n (stored (h .kind)) (take (h .depth) (r .min)) (stored-n (h .kind))) (λ words. accepted _))
     (andThen (swept s (h .kind) (h .error) (r .at)) (swept-n s (h .kind) (h .error) (r .at)) (bodyFrom-n s h r m))))
 
-walked-n : (s : List ℕ) (h : Header) (maxima m : List ℕ) (w : Way) → Numbered (walked s h maxima m w)
-unfolding walked
+walked-n : (s : List ℕ) (h : Header) (maxima m : List ℕ) (w : Way) → Numbered (wayWalked s h maxima m w)
+unfolding wayWalked
 walked-n s h maxima m (rawFrom at) = refused 10 refl
 walked-n s h maxima m (blocksFrom at) = chain-n s h maxima m (blockCount (shapeOf h)) 0 at
 

@@ -1,7 +1,7 @@
 -- The entries of the C interface. Each definition refuses, or gives what is then written to the lent slices.
 -- A record slice that is too short is refused first (5), then a number that its field cannot hold (3), then what the reader refuses.
 -- Assumes nothing.
-use Prim.Native.Nat.{ℕ}
+use Prim.Native.Nat.{ℕ, _+_}
 use mathlib.Core.Path.{_≡_}
 use mathlib.Core.Bool.{Bool, _&&_}
 use mathlib.Core.List.{List, [], _∷_, _++_}
@@ -13,9 +13,9 @@ use Rattle.lerc_samples.specs.Samples.{stored}
 use Rattle.lerc_header.specs.declared.Header.{Header}
 use Rattle.lerc_header.specs.Header.{shapeOf, headerSays}
 use Rattle.lerc_header.specs.Shape.{blockCount}
-use Rattle.lerc_planes.specs.declared.Ranges.{Ranges}
-use Rattle.lerc_planes.specs.Validity.{InForce, reused, new, prepareSays, spareWith}
-use Rattle.lerc_planes.specs.Ranges.{readRangesSays}
+use Rattle.lerc_ranges.specs.declared.Ranges.{Ranges}
+use Rattle.lerc_validity.specs.Validity.{InForce, reused, new, prepareSays, spareWith}
+use Rattle.lerc_ranges.specs.Ranges.{readRangesSays}
 use Rattle.lerc_block.specs.Block.{Block}
 use Rattle.lerc_image.specs.Geometry.{tileOf, tileValid}
 use Rattle.lerc_image.specs.Paint.{scattered}
@@ -123,7 +123,7 @@ pub record FillDone (k : Res Filling) (m : List ℕ) (n r : ℕ) (image₀ image
 -- ---- whole read: blob, reuse, the four slices, said
 
 abbrev pub readRoom : ℕ
-readRoom = 13
+readRoom = headerRoom + 2
 
 unfoldable pub readEntry : List ℕ → Bool → Lent → List ℕ → Res Meaning
 readEntry b reuse l said = do

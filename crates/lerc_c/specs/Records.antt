@@ -1,6 +1,6 @@
 -- The records of the C interface: arrays of 64-bit numbers that stand for a header, for ranges or for what an entry says.
 -- Assumes nothing.
-use Prim.Native.Nat.{ℕ, _^_}
+use Prim.Native.Nat.{ℕ, _+_, _^_}
 use mathlib.Core.Bool.{Bool, cond, _&&_}
 use mathlib.Core.List.{List, [], _∷_, _++_}
 use lib.ListN.{getD, take, drop}
@@ -8,7 +8,7 @@ use lib.Dec.{ltb, eqb}
 use Rattle.lerc_words.specs.Res.{Res, ok, fail, _>>=_, require}
 use Rattle.lerc_header.specs.declared.Header.{Header}
 use Rattle.lerc_header.specs.Limits.{depthLimit}
-use Rattle.lerc_planes.specs.declared.Ranges.{Ranges}
+use Rattle.lerc_ranges.specs.declared.Ranges.{Ranges}
 
 -- what an entry returns: 0 where it accepts, else the number of the refusal
 abbrev pub numberOf : {A : Type 0} → Res A → ℕ
@@ -59,14 +59,18 @@ headerFrom l = do
 
 -- ---- ranges: the body's place, the constant mark, minima, maxima
 
+-- where the maxima stand
+abbrev pub maximaPlace : ℕ
+maximaPlace = 2 + depthLimit
+
 abbrev pub rangesRoom : ℕ
-rangesRoom = 130
+rangesRoom = maximaPlace + depthLimit
 
 abbrev pub rangesNumbers : Ranges → List ℕ
 rangesNumbers r = r .at ∷ cond (r .constant) 1 0 ∷ (r .min ++ r .max)
 
 abbrev pub rangesIn : List ℕ → Ranges
-rangesIn l = record { at = getD l 0 0; constant = eqb (getD l 1 0) 1; min = take depthLimit (drop 2 l); max = take depthLimit (drop 66 l) }
+rangesIn l = record { at = getD l 0 0; constant = eqb (getD l 1 0) 1; min = take depthLimit (drop 2 l); max = take depthLimit (drop maximaPlace l) }
 
 -- a constant mark that is neither 0 nor 1: 3
 unfoldable pub rangesFrom : List ℕ → Res Ranges

@@ -8,15 +8,15 @@ use lerc::ReadAnswer;
 use lerc_header::HeaderAnswer;
 use lerc_image::FillAnswer;
 use lerc_image::WalkAnswer;
-use lerc_planes::MaskAnswer;
-use lerc_planes::RangesAnswer;
+use lerc_ranges::RangesAnswer;
 use lerc_samples::StoredAnswer;
+use lerc_validity::MaskAnswer;
 
 mod ranges;
 mod records;
 
 // how many numbers a whole read says
-const READ: usize = 13;
+const READ: usize = records::HEADER + 2;
 
 // The header of a blob.
 #[no_mangle]
@@ -51,11 +51,6 @@ pub extern "C" fn lerc2_read(
     if said.len() < READ {
         return 5;
     }
-    let found = lerc_header::read_header(blob);
-    let HeaderAnswer::Read(h) = found else {
-        let why = found.refusal();
-        return why.number;
-    };
     let answer = lerc::read(
         blob,
         reuse,
@@ -64,11 +59,16 @@ pub extern "C" fn lerc2_read(
         &mut list[..],
         &mut image[..],
     );
-    let ReadAnswer::Whole { blocks, end } = answer else {
+    let ReadAnswer::Whole {
+        header,
+        blocks,
+        end,
+    } = answer
+    else {
         let why = answer.refusal();
         return why.number;
     };
-    records::put_header(h, &mut said[..]);
+    records::put_header(header, &mut said[..]);
     let counts = [blocks as u64, end as u64];
     records::put(&counts, records::HEADER, &mut said[..]);
     0
@@ -95,7 +95,7 @@ pub extern "C" fn lerc2_prepare_mask(
         let why = found.refusal();
         return why.number;
     };
-    let answer = lerc_planes::prepare_mask(blob, h, reuse, kept, &mut spare[..]);
+    let answer = lerc_validity::prepare_mask(blob, h, reuse, kept, &mut spare[..]);
     match answer {
         MaskAnswer::Kept(n) => records::say(1, n, &mut said[..]),
         MaskAnswer::Spare(n) => records::say(2, n, &mut said[..]),
@@ -117,7 +117,7 @@ pub extern "C" fn lerc2_read_ranges(blob: &[u8], header: &[u64], ranges: &mut [u
         let why = found.refusal();
         return why.number;
     };
-    let got = lerc_planes::read_ranges(blob, h);
+    let got = lerc_ranges::read_ranges(blob, h);
     let answer = got.answer;
     let RangesAnswer::Read = answer else {
         let why = answer.refusal();

@@ -3,17 +3,19 @@ ghost use mathlib.Core.Path.{_≡_};
 ghost use Prim.Native.Nat.{ℕ, _≤_};
 ghost use lib.ListN.{length};
 ghost use Rattle.lerc_words.specs.Lists.{over};
-ghost use Rattle.lerc_planes.specs.Ranges.{rangesSaid};
+ghost use Rattle.lerc_ranges.specs.Ranges.{rangesSaid};
 ghost use Rattle.lerc_c.specs.Records as Record;
 use super::records::put;
 use lerc_header::DEPTHS;
-use lerc_planes::Ranges;
-use lerc_planes::RangesAnswer;
-use lerc_planes::RangesRead;
+use lerc_ranges::Ranges;
+use lerc_ranges::RangesAnswer;
+use lerc_ranges::RangesRead;
 use lerc_words::Refusal;
 
-// how many numbers ranges have
-pub(crate) const RANGES: usize = 130;
+// where the maxima stand, and how many numbers ranges have
+const MAXIMA: usize = 2 + DEPTHS;
+
+pub(crate) const RANGES: usize = 2 + 2 * DEPTHS;
 
 pub(crate) fn put_ranges(r: Ranges, out: &mut [u64])
     requires { ⌜ Record.rangesRoom ≤ length (now out) ⌝ }
@@ -22,7 +24,7 @@ pub(crate) fn put_ranges(r: Ranges, out: &mut [u64])
     let front = [r.at as u64, r.constant as u64];
     put(&front, 0, &mut out[..]);
     put(&r.min, 2, &mut out[..]);
-    put(&r.max, 66, &mut out[..]);
+    put(&r.max, MAXIMA, &mut out[..]);
 }
 
 // ranges out of their record; a constant mark that is neither 0 nor 1: 3
@@ -43,8 +45,8 @@ pub(crate) fn ranges_from(l: &[u64]) -> RangesRead
             },
         };
     }
-    put(&l[2..66], 0, &mut min);
-    put(&l[66..130], 0, &mut max);
+    put(&l[2..MAXIMA], 0, &mut min);
+    put(&l[MAXIMA..RANGES], 0, &mut max);
     RangesRead {
         answer: RangesAnswer::Read,
         ranges: Ranges {

@@ -19,11 +19,8 @@ pub(crate) fn put(words: &[u64], at: usize, out: &mut [u64])
     requires { ⌜ at + length (now words) ≤ length (now out) ⌝ }
     ensures { λ r. ⌜ now (out .exit) ≡ paste (now (out .entry)) at (now (words .entry)) (length (now (words .entry))) ⌝ }
 {
-    let mut k = 0;
-    while k < words.len() {
-        out[at + k] = words[k];
-        k += 1;
-    }
+    let end = at + words.len();
+    lerc_slices::copy_words(words, &mut out[at..end]);
 }
 
 // two numbers that an accepting entry says; hands back its 0

@@ -8,7 +8,7 @@ use native.Mathlib.Omega.{arith}
 use lib.ListN.{length, getD}
 use Rattle.lerc_words.specs.declared.Refusal.{Refusal}
 use Rattle.lerc_words.specs.Res.{Res, ok, fail, each, accepts}
-use Rattle.lerc_words.proofs.Laws.{bind-is, ok-is}
+use Rattle.lerc_words.proofs.Binding.{bind-is, ok-is}
 use Rattle.lerc_contracts.specs.Outside.{said, is-some}
 
 -- a test of an answer without its number

@@ -15,7 +15,8 @@ use lib.ListN.{length, getD, take, drop}
 use lib.Seq.{take-append-seam}
 use Rattle.lerc_words.specs.Res.{Res, ok, fail, _>>=_, little, wordAt, accepts}
 use Rattle.lerc_words.specs.Lists.{tabulate, allTo, over}
-use Rattle.lerc_words.proofs.Laws.{Bytes, wordAt-ok, wordAt-no, ok-is}
+use Rattle.lerc_words.proofs.Binding.{ok-is}
+use Rattle.lerc_words.proofs.Little.{Bytes, wordAt-ok, wordAt-no}
 use Rattle.lerc_words.proofs.Tables.{tabulate-same, all-same}
 use Rattle.lerc_numeric.proofs.Digits.{size-exact}
 use Rattle.lerc_bits.specs.declared.Plan as our

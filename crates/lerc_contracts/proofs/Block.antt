@@ -17,7 +17,7 @@ use lib.ListN.{length, getD, replicate, length-replicate, getD-replicate}
 use Rattle.lerc_words.specs.declared.Refusal.{Refusal}
 use Rattle.lerc_words.specs.Res.{Res, ok, fail, _>>=_, require, little, each}
 use Rattle.lerc_words.specs.Lists.{tabulate}
-use Rattle.lerc_words.proofs.Laws.{Bytes, wordAt-no}
+use Rattle.lerc_words.proofs.Little.{Bytes, wordAt-no}
 use Rattle.lerc_words.proofs.Tables.{getD-tabulate}
 use Rattle.lerc_numeric.specs.Numeric.{finite, lesser}
 use Rattle.lerc_numeric.specs.Kinds.{typeSize}

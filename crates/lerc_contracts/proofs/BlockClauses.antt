@@ -15,7 +15,8 @@ use lib.Dec.{leb, eqb}
 use lib.ListN.{length, getD, set, take}
 use Rattle.lerc_words.specs.declared.Refusal.{Refusal}
 use Rattle.lerc_words.specs.Res.{Res, ok, fail, _>>=_, refuse, accepts}
-use Rattle.lerc_words.proofs.Laws.{Bytes, wordAt-no, ok-is, and-is, cond-elim}
+use Rattle.lerc_words.proofs.Binding.{ok-is, and-is, cond-elim}
+use Rattle.lerc_words.proofs.Little.{Bytes, wordAt-no}
 use Rattle.lerc_numeric.specs.Numeric.{finite, sum, scaled, less}
 use Rattle.lerc_numeric.specs.Kinds.{typeSize}
 use Rattle.lerc_samples.specs.Samples.{sampleAt, offsetKind}
@@ -28,8 +29,8 @@ use Rattle.lerc_bits.specs.Bits.{Counts, counts}
 use Rattle.lerc_bits.proofs.Values.{counts-ends, counts-few}
 use Rattle.lerc_mask.specs.Mask.{pixelValid}
 use Rattle.lerc_mask.proofs.Steps.{bytes-part}
-use Rattle.lerc_planes.specs.declared.Ranges.{Ranges}
-use Rattle.lerc_planes.specs.Ranges.{pairsRight}
+use Rattle.lerc_ranges.specs.declared.Ranges.{Ranges}
+use Rattle.lerc_ranges.specs.Ranges.{pairsRight}
 use Rattle.lerc_block.specs.declared.BlockAnswer.{BlockAnswer}
 use Rattle.lerc_block.specs.Block.{Block, flagAt, blockSays, readBlockSays, blockSaid, BlockRead, tileLimit}
 use Rattle.lerc_samples.proofs.Reading.{sample-is}

@@ -13,7 +13,7 @@ use borrow.Author.Tests.{lt-ltb, le-ltb, le-leb, lt-leb, eq-eqb, ne-eqb}
 use lib.Dec.{ltb, leb, eqb}
 use lib.ListN.{length, getD}
 use Rattle.lerc_words.specs.Res.{Res, ok, fail, _>>=_}
-use Rattle.lerc_words.proofs.Laws.{Bytes}
+use Rattle.lerc_words.proofs.Little.{Bytes}
 use Rattle.lerc_header.specs.declared.Header.{Header}
 use Rattle.lerc_header.specs.Header.{shapeOf}
 use Rattle.lerc_header.specs.Shape.{Shaped, cells, blockCount}

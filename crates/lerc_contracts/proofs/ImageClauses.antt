@@ -1,5 +1,5 @@
--- lerc_image.rs, clause by clause, from the promises of `lerc_image::decode_tiles` and of the functions of `lerc` that read a
--- constant and a raw body.
+-- lerc_image.rs, clause by clause, from the promises of `lerc_image::decode_tiles` and of what `lerc` does behind an accepted mask
+-- where the body is constant or raw.
 -- Assumes nothing.
 use mathlib.Core.Path.{_≡_, refl, sym, ap, _∙_}
 use mathlib.Core.Bool.{Bool, true, false, cond, _&&_}
@@ -14,17 +14,19 @@ use lib.ListN.{length, getD, take, drop, replicate}
 use Rattle.lerc_words.specs.declared.Refusal.{Refusal}
 use Rattle.lerc_words.specs.Res.{Res, ok, fail, _>>=_, refuse, require, accepts}
 use Rattle.lerc_words.specs.Lists.{over}
-use Rattle.lerc_words.proofs.Laws.{Bytes, ok-is, and-is, bind-is, require-is}
+use Rattle.lerc_words.proofs.Binding.{ok-is, and-is, bind-is, require-is}
+use Rattle.lerc_words.proofs.Little.{Bytes}
 use Rattle.lerc_numeric.specs.Kinds.{typeSize}
 use Rattle.lerc_header.specs.declared.Header.{Header}
 use Rattle.lerc_header.specs.declared.Extent.{Extent}
 use Rattle.lerc_header.specs.Header.{shapeOf, held, extentOf, headerSays}
+use Rattle.lerc_header.specs.Limits.{depthLimit}
 use Rattle.lerc_header.specs.Shape.{cells, blockCount}
 use Rattle.lerc_header.proofs.Kept.{held-is, held-shaped}
 use Rattle.lerc_mask.proofs.Steps.{bytes-part}
-use Rattle.lerc_planes.specs.declared.Ranges.{Ranges}
-use Rattle.lerc_planes.specs.Ranges.{constantWords}
-use Rattle.lerc_planes.proofs.RangesLaws.{length-constants}
+use Rattle.lerc_ranges.specs.declared.Ranges.{Ranges}
+use Rattle.lerc_ranges.specs.Ranges.{constantWords}
+use Rattle.lerc_ranges.proofs.Judged.{length-constants}
 use Rattle.lerc_block.specs.Block.{Block, rawWords}
 use Rattle.lerc_block.proofs.Accepted.{block-ends}
 use Rattle.lerc_image.specs.declared.WalkAnswer.{WalkAnswer}
@@ -39,7 +41,7 @@ use Rattle.lerc_image.proofs.Chain.{chain-none, chain-parts}
 use Rattle.lerc.specs.declared.ReadAnswer.{ReadAnswer}
 use Rattle.lerc.specs.Meaning.{Body, rawBody, constantBody, endOf, startsOf, cellWord}
 use Rattle.lerc.specs.Read.{Lent, room, masked, readSays, Whole, readSaid, WholeRead}
-use Rattle.lerc.specs.Parts.{Ready, bodyCount, bodyImage, LinearRead}
+use Rattle.lerc.specs.Parts.{Ready, bodyCount, bodyImage, BodyRead}
 use Rattle.lerc_contracts.specs.Outside.{said, is-some}
 use Rattle.lerc_contracts.specs.Block.{ResultModel}
 use Rattle.lerc_contracts.specs.Image.{tiles, linear}
@@ -155,7 +157,7 @@ module _ (b : List ℕ) (h : Header) (mask maxima : List ℕ) (at : ℕ) (r : Wa
 -- ---- `decode_linear`
 
 -- either body
-module _ (m : Res Body) (h : Header) (mask : List ℕ) (a : ReadAnswer) (old new : List ℕ) (promise : LinearRead m h mask a old new) where
+module _ (m : Res Body) (h : Header) (mask : List ℕ) (a : ReadAnswer) (list listed old new : List ℕ) (promise : BodyRead m h mask a list listed old new) where
   kept : (x : Res Body) → m ≡ x → (length new ≡ length old) × ((j : ℕ) → h .columns * h .rows * h .depth ≤ j → j < length old → getD new j 0 ≡ getD old j 0)
   kept (fail q) e = let p : new ≡ old = promise .image ∙ rw (e) in rw (p) (refl, λ j _ _. refl)
   kept (ok c) e =
@@ -173,7 +175,7 @@ module _ (m : Res Body) (h : Header) (mask : List ℕ) (a : ReadAnswer) (old new
   -- the body that was read
   read-body : (w : Whole) → readSaid a ≡ ok w → (x : Res Body) → m ≡ x → (c : Body) × (m ≡ ok c) × (w .end ≡ endOf c) × (new ≡ bodyImage h mask old c)
   read-body w e (ok c) d =
-      let z : ok w ≡ ok (record { blocks = length (startsOf c); end = endOf c }) = sym e ∙ promise .says ∙ rw (d) in
+      let z : ok w ≡ ok (record { header = h; blocks = length (startsOf c); end = endOf c }) = sym e ∙ promise .says ∙ rw (d) in
       (c, d, ap (λ (x : Whole). x .end) (ok-is z), promise .image ∙ rw (d))
   read-body w e (fail q) d = absurd (let z : _≡_ {A = Res Whole} (ok w) (fail q) = sym e ∙ promise .says ∙ rw (d) in let o : _≡_ {A = ℕ} 0 1 = cc in omega arith)
 
@@ -181,7 +183,7 @@ module _ (m : Res Body) (h : Header) (mask : List ℕ) (a : ReadAnswer) (old new
     linear-ok : accepts (readSaid a) ≡ is-some t
     linear-ok = rw (promise .says, same) (go m)
       where
-        go : (x : Res Body) → accepts (x >>= bodyCount) ≡ is-some (said (bodied h mask old) x)
+        go : (x : Res Body) → accepts (x >>= bodyCount h) ≡ is-some (said (bodied h mask old) x)
         go (ok c) = refl
         go (fail q) = refl
 
@@ -200,56 +202,56 @@ raw-inside s h at c e =
     (omega arith, omega arith)
 
 -- a raw body: upstream's `raw` is true, and its constants are not looked at
-module _ (b : List ℕ) (h : Header) (at : ℕ) (mask constants : List ℕ) (a : ReadAnswer) (old new : List ℕ) (ready : Ready b h mask old)
-    (promise : LinearRead (rawBody (take (h .size) b) h at) h mask a old new) (inside : at ≤ length (take (h .size) b)) where
+module _ (s : List ℕ) (h : Header) (at : ℕ) (mask constants : List ℕ) (a : ReadAnswer) (list listed old new : List ℕ) (ready : Ready s h mask) (image : cells (shapeOf h) ≤ length old)
+    (promise : BodyRead (rawBody s h at) h mask a list listed old new) (inside : at ≤ length s) where
   abbrev their-raw : Option ResultModel
-  their-raw = linear (take (h .size) b) h mask constants true 0 at old (h .columns * h .rows * h .depth)
+  their-raw = linear s h mask constants true 0 at old (h .columns * h .rows * h .depth)
 
-  same-raw : their-raw ≡ said (bodied h mask old) (rawBody (take (h .size) b) h at)
-  same-raw = raw-is (take (h .size) b) h (held-shaped h (length b) (ready .header)) mask old (ready .room) constants at inside (ready .counts)
+  same-raw : their-raw ≡ said (bodied h mask old) (rawBody s h at)
+  same-raw = raw-is s h (held-shaped h (length s) (ready .header)) mask old image constants at inside (ready .counts)
 
   -- 5.46
   pub raw-ok : accepts (readSaid a) ≡ is-some their-raw
-  raw-ok = linear-ok (rawBody (take (h .size) b) h at) h mask a old new promise their-raw same-raw
+  raw-ok = linear-ok (rawBody s h at) h mask a list listed old new promise their-raw same-raw
 
   module _ (w : Whole) (e : readSaid a ≡ ok w) where
     -- 5.47, 5.48
     pub raw-result : their-raw ≡ some (record { at = w .end; image = new })
-    raw-result = linear-result (rawBody (take (h .size) b) h at) h mask a old new promise their-raw same-raw w e
+    raw-result = linear-result (rawBody s h at) h mask a list listed old new promise their-raw same-raw w e
 
     -- 5.49
-    pub raw-end : (at ≤ w .end) × (w .end ≤ length (take (h .size) b))
+    pub raw-end : (at ≤ w .end) × (w .end ≤ length s)
     raw-end =
-        let (c, d, p, q) = read-body (rawBody (take (h .size) b) h at) h mask a old new promise w e (rawBody (take (h .size) b) h at) refl in
-        rw (p) (raw-inside (take (h .size) b) h at c d)
+        let (c, d, p, q) = read-body (rawBody s h at) h mask a list listed old new promise w e (rawBody s h at) refl in
+        rw (p) (raw-inside s h at c d)
 
 -- a constant body: upstream has its words from `convert` (3.34, 3.35), and always accepts
-module _ (b : List ℕ) (h : Header) (ranges : Ranges) (mask words : List ℕ) (a : ReadAnswer) (old new : List ℕ) (ready : Ready b h mask old) (long : length (ranges .min) ≡ 64)
-    (promise : LinearRead (constantBody h ranges) h mask a old new) (converted : constantWords (h .depth) (h .kind) (ranges .min) ≡ ok words) where
+module _ (s : List ℕ) (h : Header) (ranges : Ranges) (mask words : List ℕ) (a : ReadAnswer) (list listed old new : List ℕ) (ready : Ready s h mask) (image : cells (shapeOf h) ≤ length old)
+    (long : length (ranges .min) ≡ depthLimit) (promise : BodyRead (constantBody h ranges) h mask a list listed old new) (converted : constantWords (h .depth) (h .kind) (ranges .min) ≡ ok words) where
   abbrev their-constant : Option ResultModel
-  their-constant = linear (take (h .size) b) h mask (over words (replicate 64 0)) false 0 (ranges .at) old (h .columns * h .rows * h .depth)
+  their-constant = linear s h mask (over words (replicate depthLimit 0)) false 0 (ranges .at) old (h .columns * h .rows * h .depth)
 
   same-constant : their-constant ≡ said (bodied h mask old) (constantBody h ranges)
   unfolding constantBody
   same-constant =
-      let g = held-shaped h (length b) (ready .header) in
+      let g = held-shaped h (length s) (ready .header) in
       let n : length words ≡ h .depth = length-constants (h .depth) (h .kind) (ranges .min) converted ∙ (let z : min (h .depth) (length (ranges .min)) ≡ h .depth = omega (arith, g .depth .1) in z) in
-      rw (converted) (constant-is (take (h .size) b) h g mask old (ready .room) words (drop (length words) (replicate 64 0)) (ranges .at) n)
+      rw (converted) (constant-is s h g mask old image words (drop (length words) (replicate depthLimit 0)) (ranges .at) n)
 
   -- 5.46
   pub constant-ok : accepts (readSaid a) ≡ is-some their-constant
-  constant-ok = linear-ok (constantBody h ranges) h mask a old new promise their-constant same-constant
+  constant-ok = linear-ok (constantBody h ranges) h mask a list listed old new promise their-constant same-constant
 
   module _ (w : Whole) (e : readSaid a ≡ ok w) where
     -- 5.47, 5.48
     pub constant-result : their-constant ≡ some (record { at = w .end; image = new })
-    constant-result = linear-result (constantBody h ranges) h mask a old new promise their-constant same-constant w e
+    constant-result = linear-result (constantBody h ranges) h mask a list listed old new promise their-constant same-constant w e
 
     -- 5.49
     pub constant-end : w .end ≡ ranges .at
     unfolding constantBody
     constant-end =
-        let (c, d, p, q) = read-body (constantBody h ranges) h mask a old new promise w e (constantBody h ranges) refl in
+        let (c, d, p, q) = read-body (constantBody h ranges) h mask a list listed old new promise w e (constantBody h ranges) refl in
         let (_, _, d) = bind-is (constantWords (h .depth) (h .kind) (ranges .min)) _ d in
         p ∙ sym (ap endOf (ok-is d))
 

@@ -13,16 +13,16 @@ use lib.Dec.{leb, eqb}
 use lib.ListN.{length, getD, drop, replicate}
 use Rattle.lerc_words.specs.Res.{Res, ok, fail, _>>=_}
 use Rattle.lerc_words.specs.Lists.{tabulate, over}
-use Rattle.lerc_words.proofs.Laws.{Bytes, wordAt-no}
+use Rattle.lerc_words.proofs.Little.{Bytes, wordAt-no}
 use Rattle.lerc_header.specs.declared.Header.{Header}
 use Rattle.lerc_header.specs.Header.{shapeOf, headerBytes, rangesAt, pairRight}
 use Rattle.lerc_header.specs.Shape.{Shaped, cells}
 use Rattle.lerc_header.specs.Shape as shape
 use Rattle.lerc_mask.specs.Mask.{validBelow}
-use Rattle.lerc_planes.specs.declared.Ranges.{Ranges}
-use Rattle.lerc_planes.specs.Ranges.{rangesSays, constantWords}
-use Rattle.lerc_planes.proofs.RangesLaws.{ranges-kept, length-constants}
-use Rattle.lerc_image.specs.Sweep.{modeAt, moded, swept}
+use Rattle.lerc_ranges.specs.declared.Ranges.{Ranges}
+use Rattle.lerc_ranges.specs.Ranges.{rangesSays, constantWords}
+use Rattle.lerc_ranges.proofs.Judged.{ranges-kept, length-constants}
+use Rattle.lerc_sweep.specs.Sweep.{modeAt, moded, swept}
 use Rattle.lerc_image.specs.Blocks.{Chain, allBlocks}
 use Rattle.lerc.specs.Meaning.{blockBody, bodyFrom, sweptBody, constantBody, bodySays, cellWord}
 use Rattle.lerc.specs.Meaning as body

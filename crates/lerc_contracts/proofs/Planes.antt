@@ -17,7 +17,8 @@ use Rattle.lerc_words.specs.Res.{Res, ok, fail, _>>=_, refuse, require, each, a
 use Rattle.lerc_words.specs.Lists.{tabulate, allTo, over}
 use Rattle.lerc_words.specs.Lists as our
 use Rattle.lerc_words.proofs.Tables.{replicate-from, tabulate-same, all-same, all-true, all-fails}
-use Rattle.lerc_words.proofs.Laws.{wordAt-ok, each-length}
+use Rattle.lerc_words.proofs.Binding.{each-length}
+use Rattle.lerc_words.proofs.Little.{wordAt-ok}
 use Rattle.lerc_contracts.proofs.Lists.{over-out, length-over, padded}
 use Rattle.lerc_contracts.proofs.Answers.{each-at, each-not}
 use Rattle.lerc_numeric.specs.Numeric.{same}
@@ -32,19 +33,19 @@ use Rattle.lerc_header.specs.Shape.{pixels, maskLength}
 use Rattle.lerc_mask.specs.Mask.{validBelow}
 use Rattle.lerc_mask.specs.Mask.{maskRuns, coded}
 use Rattle.lerc_mask.proofs.Pixels.{valid-uniform-0, valid-uniform-255}
-use Rattle.lerc_planes.specs.declared.MaskAnswer.{MaskAnswer}
-use Rattle.lerc_planes.specs.declared.RangesAnswer.{RangesAnswer}
-use Rattle.lerc_planes.specs.declared.RangesAnswer.the-variants as ranges-answer
-use Rattle.lerc_planes.specs.declared.RangesRead.{RangesRead}
-use Rattle.lerc_planes.specs.declared.ConstantsAnswer.{ConstantsAnswer}
-use Rattle.lerc_planes.specs.declared.ConstantsAnswer.the-variants as constants-answer
-use Rattle.lerc_planes.specs.declared.Constants.{Constants}
-use Rattle.lerc_planes.specs.declared.Ranges.{Ranges}
-use Rattle.lerc_planes.specs.Ranges.{numberAt, byDepth, maximaAt, rangesEnd, uniformRanges, rangesSays, codedRanges, pairsRight, readRangesSays, rangesSaid, constantWords, constantsSaid}
-use Rattle.lerc_planes.specs.Validity.{InForce, reused, new, bytesOf, uniform, kept, unrolled, maskSays, prepareSays, maskSaid, which, Prepared, inForce}
-use Rattle.lerc_planes.proofs.ValidityAnswers.{uniform-ok, uniform-no, says-none, says-all, says-kept, says-runs, prepare-no, prepare-says}
-use Rattle.lerc_planes.proofs.ValidityLaws.{prepare-found, prepared-right, mask-length, in-force}
-use Rattle.lerc_planes.proofs.RangesLaws.{read-ranges-kept}
+use Rattle.lerc_validity.specs.declared.MaskAnswer.{MaskAnswer}
+use Rattle.lerc_ranges.specs.declared.RangesAnswer.{RangesAnswer}
+use Rattle.lerc_ranges.specs.declared.RangesAnswer.the-variants as ranges-answer
+use Rattle.lerc_ranges.specs.declared.RangesRead.{RangesRead}
+use Rattle.lerc_ranges.specs.declared.ConstantsAnswer.{ConstantsAnswer}
+use Rattle.lerc_ranges.specs.declared.ConstantsAnswer.the-variants as constants-answer
+use Rattle.lerc_ranges.specs.declared.Constants.{Constants}
+use Rattle.lerc_ranges.specs.declared.Ranges.{Ranges}
+use Rattle.lerc_ranges.specs.Ranges.{numberAt, byDepth, maximaAt, rangesEnd, uniformRanges, rangesSays, codedRanges, pairsRight, readRangesSays, rangesSaid, constantWords, constantsSaid}
+use Rattle.lerc_validity.specs.Validity.{InForce, reused, new, bytesOf, uniform, kept, unrolled, maskSays, prepareSays, maskSaid, which, Prepared, inForce}
+use Rattle.lerc_validity.proofs.Preparing.{uniform-ok, uniform-no, says-none, says-all, says-kept, says-runs, prepare-no, prepare-says}
+use Rattle.lerc_validity.proofs.Prepared.{prepare-found, prepared-right, mask-length, in-force}
+use Rattle.lerc_ranges.proofs.Judged.{read-ranges-kept}
 use Rattle.lerc_contracts.specs.Outside.{said, is-some, unwrap, onSome, number, storage, dataAt}
 use Rattle.lerc_contracts.specs.Planes.{maskSize, count, counted, validity, equal, RangeModel, bounds, ranges, constants}
 
@@ -282,7 +283,7 @@ constants-is values depth kind k l = go (each (stored kind) (take depth values))
         let f2 : stored kind (getD values i 0) ≡ fail r = rw (← here i (omega (arith, wide))) f in
         rw (all-fails depth i (λ i. is-some (storage (getD values i 0) kind)) (omega (arith, wide)) (rw (f2)))
 
--- ---- `prepare`: from the promises of `lerc_planes::prepare_mask` and `mask_in_force`. Upstream's one mask is the kept one
+-- ---- `prepare`: from the promises of `lerc_validity::prepare_mask` and `mask_in_force`. Upstream's one mask is the kept one
 -- before, and the one in force after
 
 module _ (b : List ℕ) (h : Header) (reuse : Bool) (old : List ℕ) (r : MaskAnswer) (spare newer : List ℕ) (promise : Prepared (prepareSays b h reuse old (length spare)) r spare newer) where
@@ -340,7 +341,7 @@ module _ (b : List ℕ) (h : Header) (reuse : Bool) (old : List ℕ) (r : MaskAn
             (sym (in-force f (ok f) r old spare newer refl (prepared-right b h reuse old (length spare) f e .part) (told (ok f) e)))
         go (fail q) e = absurd (let w : maskSaid r ≡ fail q = told (fail q) e .says in let t : accepts (maskSaid r) ≡ false = rw (w) in let z : _≡_ {A = ℕ} 0 1 = cc in omega arith)
 
--- ---- `same`, `read_ranges`, `convert`: from the promises of `lerc_numeric::same`, `lerc_planes::read_ranges` and `convert`
+-- ---- `same`, `read_ranges`, `convert`: from the promises of `lerc_numeric::same`, `lerc_ranges::read_ranges` and `convert`
 
 -- 3.17
 pub same-ok : (a b : ℕ) (r : Bool) → r ≡ same a b → r ≡ equal a b

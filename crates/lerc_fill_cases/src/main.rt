@@ -8,9 +8,9 @@ use lerc_header::Header;
 use lerc_header::HeaderAnswer;
 use lerc_image::FillAnswer;
 use lerc_image::WalkAnswer;
-use lerc_planes::MaskAnswer;
-use lerc_planes::Ranges;
-use lerc_planes::RangesAnswer;
+use lerc_ranges::Ranges;
+use lerc_ranges::RangesAnswer;
+use lerc_validity::MaskAnswer;
 use lerc_words::Refusal;
 use lerc_words::bytes;
 use libc::STDOUT_FILENO;
@@ -245,12 +245,12 @@ fn report(blob: &[u8], expect: &[u8]) -> Tally {
     };
     let kept = [0u8; 512];
     let mut spare = [0u8; 512];
-    let said = lerc_planes::prepare_mask(blob, h, false, &kept, &mut spare);
+    let said = lerc_validity::prepare_mask(blob, h, false, &kept, &mut spare);
     let MaskAnswer::Spare(_n) = said else {
         return refuse(b" mask refused ", said.refusal());
     };
-    let mask = lerc_planes::mask_in_force(&kept, &spare, said);
-    let got = lerc_planes::read_ranges(blob, h);
+    let mask = lerc_validity::mask_in_force(&kept, &spare, said);
+    let got = lerc_ranges::read_ranges(blob, h);
     let answer = got.answer;
     let RangesAnswer::Read = answer else {
         return refuse(b" ranges refused ", answer.refusal());

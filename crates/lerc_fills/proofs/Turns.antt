@@ -12,7 +12,7 @@ use lib.Seq.{drop-cons, drop-length}
 use Rattle.lerc_words.specs.Res.{Res, ok, fail, _>>=_, after, accepts}
 use Rattle.lerc_header.specs.declared.Header.{Header}
 use Rattle.lerc_header.specs.Header.{shapeOf}
-use Rattle.lerc_planes.specs.declared.Ranges.{Ranges}
+use Rattle.lerc_ranges.specs.declared.Ranges.{Ranges}
 use Rattle.lerc_block.specs.Block.{Block}
 use Rattle.lerc_image.specs.declared.FillAnswer.{FillAnswer}
 use Rattle.lerc_image.specs.Paint.{scattered}

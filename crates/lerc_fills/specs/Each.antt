@@ -7,7 +7,7 @@ use mathlib.Core.List.{List, [], _∷_}
 use lib.ListN.{length}
 use Rattle.lerc_words.specs.Res.{accepts}
 use Rattle.lerc_header.specs.declared.Header.{Header}
-use Rattle.lerc_planes.specs.declared.Ranges.{Ranges}
+use Rattle.lerc_ranges.specs.declared.Ranges.{Ranges}
 use Rattle.lerc_image.specs.Fill.{fillSays, fillImage}
 
 -- 1 where number n is filled, 0 where it is refused

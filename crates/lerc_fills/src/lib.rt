@@ -6,7 +6,7 @@ ghost use Rattle.lerc_image.specs.Fill.{fillSaid};
 ghost use Rattle.lerc_fills.specs.Each.{EachFilled};
 use lerc_header::Header;
 use lerc_image::FillAnswer;
-use lerc_planes::Ranges;
+use lerc_ranges::Ranges;
 
 // One for a block that was filled.
 fn one(answer: FillAnswer) -> usize

@@ -9,13 +9,14 @@ use native.Mathlib.Nat.{mul-le-mul}
 use lib.ListN.{length}
 use lib.Dec.{leb}
 use borrow.Author.Tests.{ltb-true, leb-true}
-use Rattle.lerc_words.specs.Res.{ok, require}
-use Rattle.lerc_words.proofs.Laws.{bind-is, require-is}
+use Rattle.lerc_words.specs.declared.Refusal.{Refusal}
+use Rattle.lerc_words.specs.Res.{ok, fail, require}
+use Rattle.lerc_words.proofs.Binding.{bind-is, bind-fail, ok-is, require-is}
 use Rattle.lerc_header.specs.declared.Header.{Header}
 use Rattle.lerc_header.specs.declared.Extent.{Extent}
 use Rattle.lerc_header.specs.Limits.{sideways, depthLimit, sideLimit, cellLimit, sizeLimit}
 use Rattle.lerc_header.specs.Shape.{pixels, Shaped}
-use Rattle.lerc_header.specs.Header.{headerBytes, keyRight, shapeOf, rangesAt, errorRight, pairRight, fieldsRight, withinCeilings, extentOf, held, headerOf, headerSays}
+use Rattle.lerc_header.specs.Header.{headerBytes, keyRight, shapeOf, rangesAt, errorRight, pairRight, fieldsRight, withinCeilings, extentOf, held, headerOf, headerSays, Opened, openSays}
 
 -- both of two tests hold
 both : (a b : Bool) → (a && b) ≡ true → (a ≡ true) × (b ≡ true)
@@ -143,3 +144,19 @@ header-held b h p =
     let (e, q, p) = bind-is (held (headerOf b) (length b)) _ p in
     let is : h ≡ headerOf b = cc in
     (is, rw (is) (q ∙ ap ok (held-is (headerOf b) (length b) q)))
+
+-- ---- a blob that was opened
+
+module _ (b : List ℕ) where
+  pub open-no : {r : Refusal} → openSays b ≡ fail r → headerSays b ≡ fail r
+  unfolding openSays
+  open-no e = bind-fail (headerSays b) _ e
+
+  pub open-ok : {o : Opened} → openSays b ≡ ok o → (headerSays b ≡ ok (o .header)) × (o .extent ≡ extentOf (o .header))
+  unfolding openSays
+  open-ok e =
+      let (h, p, q) = bind-is (headerSays b) _ e in
+      rw (← ok-is q) (p, refl)
+
+  pub open-header : {o : Opened} → openSays b ≡ ok o → headerSays b ≡ ok (o .header)
+  open-header e = open-ok e .0

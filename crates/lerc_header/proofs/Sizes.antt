@@ -48,3 +48,11 @@ product-fits a b p q =
     let y : b ≤ 2 ^ 32 - 1 = omega arith in
     let m : a * b ≤ (2 ^ 32 - 1) * (2 ^ 32 - 1) = mul-le-mul x y in
     omega arith
+
+-- and a little more
+pub pixels-fit : (a b : ℕ) → a < 2 ^ 32 → b < 2 ^ 32 → a * b + 7 < 2 ^ 64
+pixels-fit a b p q =
+    let x : a ≤ 2 ^ 32 - 1 = omega arith in
+    let y : b ≤ 2 ^ 32 - 1 = omega arith in
+    let m : a * b ≤ (2 ^ 32 - 1) * (2 ^ 32 - 1) = mul-le-mul x y in
+    omega arith

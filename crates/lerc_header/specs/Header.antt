@@ -1,6 +1,6 @@
 -- The header and its rules.
 -- Assumes nothing.
-use Prim.Native.Nat.{ℕ, _+_, _*_, _-_, _^_}
+use Prim.Native.Nat.{ℕ, _+_, _*_, _^_}
 use mathlib.Core.Bool.{Bool, not, _&&_}
 use mathlib.Core.List.{List}
 use lib.ListN.{length}
@@ -15,6 +15,8 @@ use Rattle.lerc_header.specs.declared.HeaderAnswer.{HeaderAnswer}
 use Rattle.lerc_header.specs.declared.HeaderAnswer.the-variants as header
 use Rattle.lerc_header.specs.declared.HeldAnswer.{HeldAnswer}
 use Rattle.lerc_header.specs.declared.HeldAnswer.the-variants as held-answer
+use Rattle.lerc_header.specs.declared.OpenAnswer.{OpenAnswer}
+use Rattle.lerc_header.specs.declared.OpenAnswer.the-variants as open-answer
 use Rattle.lerc_header.specs.Limits.{sideways, depthLimit, sideLimit, cellLimit, sizeLimit}
 use Rattle.lerc_header.specs.Shape.{pixels, cells, maskLength, blockCount}
 
@@ -99,20 +101,38 @@ headerSays b = do
   _ ← held (headerOf b) (length b)
   ok (headerOf b)
 
+-- a header with the sizes that follow from it
+pub record Opened : Type 0 where
+  pub header : Header
+  pub extent : Extent
+
+unfoldable pub openSays : List ℕ → Res Opened
+openSays b = do
+  h ← headerSays b
+  ok (record { header = h; extent = extentOf h })
+
 -- ---- answers
 
 abbrev pub headerSaid : HeaderAnswer → Res Header
 headerSaid (header.Read h) = ok h
 headerSaid (header.Refused r) = fail r
 
-abbrev pub headerRefused : HeaderAnswer → Refusal
-headerRefused (header.Read h) = refuse 0
-headerRefused (header.Refused r) = r
+abbrev pub refusalOfHeader : HeaderAnswer → Refusal
+refusalOfHeader (header.Read h) = refuse 0
+refusalOfHeader (header.Refused r) = r
 
 abbrev pub heldSaid : HeldAnswer → Res Extent
 heldSaid (held-answer.Held e) = ok e
 heldSaid (held-answer.Refused r) = fail r
 
-abbrev pub heldRefused : HeldAnswer → Refusal
-heldRefused (held-answer.Held e) = refuse 0
-heldRefused (held-answer.Refused r) = r
+abbrev pub refusalOfHeld : HeldAnswer → Refusal
+refusalOfHeld (held-answer.Held e) = refuse 0
+refusalOfHeld (held-answer.Refused r) = r
+
+abbrev pub openSaid : OpenAnswer → Res Opened
+openSaid (open-answer.Open h e) = ok (record { header = h; extent = e })
+openSaid (open-answer.Refused r) = fail r
+
+abbrev pub refusalOfOpen : OpenAnswer → Refusal
+refusalOfOpen (open-answer.Open h e) = refuse 0
+refusalOfOpen (open-answer.Refused r) = r

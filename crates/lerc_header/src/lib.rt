@@ -13,6 +13,9 @@ use lerc_words::peek;
 // The most depths an image may have, and so the length of every array by depth.
 pub const DEPTHS: usize = 64;
 
+// The bytes of a header; the mask section begins behind them.
+pub const HEADER: usize = 70;
+
 // The other ceilings.
 const SIDEWAYS: u32 = 4096;
 
@@ -21,8 +24,6 @@ const CELLS: u64 = 4_194_304;
 const SIDE: u32 = 16;
 
 const SIZE: u32 = 16_777_216;
-
-const HEADER: usize = 70;
 
 const KEY: u64 = 0x2032_6372_654C;
 
@@ -71,10 +72,15 @@ pub enum HeldAnswer {
     Refused(Refusal),
 }
 
+pub enum OpenAnswer {
+    Open { header: Header, extent: Extent },
+    Refused(Refusal),
+}
+
 impl HeaderAnswer {
     // why it was refused; number 0 where it was not
     pub fn refusal(self) -> Refusal
-        ensures { λ r. ⌜ r ≡ Rules.headerRefused self ⌝ }
+        ensures { λ r. ⌜ r ≡ Rules.refusalOfHeader self ⌝ }
     {
         match self {
             HeaderAnswer::Read(_h) => Refusal { number: 0 },
@@ -86,11 +92,26 @@ impl HeaderAnswer {
 impl HeldAnswer {
     // why it was refused; number 0 where it was not
     pub fn refusal(self) -> Refusal
-        ensures { λ r. ⌜ r ≡ Rules.heldRefused self ⌝ }
+        ensures { λ r. ⌜ r ≡ Rules.refusalOfHeld self ⌝ }
     {
         match self {
             HeldAnswer::Held(_e) => Refusal { number: 0 },
             HeldAnswer::Refused(why) => why,
+        }
+    }
+}
+
+impl OpenAnswer {
+    // why it was refused; number 0 where it was not
+    pub fn refusal(self) -> Refusal
+        ensures { λ r. ⌜ r ≡ Rules.refusalOfOpen self ⌝ }
+    {
+        match self {
+            OpenAnswer::Open {
+                header: _h,
+                extent: _e,
+            } => Refusal { number: 0 },
+            OpenAnswer::Refused(why) => why,
         }
     }
 }
@@ -220,19 +241,31 @@ fn fields(b: &[u8]) -> Header
     }
 }
 
+// The header of a blob and the sizes that follow from it; what was accepted here need not be held to the rules again.
+pub fn open_blob(blob: &[u8]) -> OpenAnswer
+    ensures { λ r. ⌜ Rules.openSaid r ≡ Rules.openSays (now (blob .entry)) ⌝ }
+{
+    if blob.len() < HEADER {
+        return OpenAnswer::Refused(Refusal { number: 1 });
+    }
+    if !key_right(blob) {
+        return OpenAnswer::Refused(Refusal { number: 2 });
+    }
+    let header = fields(blob);
+    let answer = header.held(blob.len());
+    let HeldAnswer::Held(extent) = answer else {
+        return OpenAnswer::Refused(answer.refusal());
+    };
+    OpenAnswer::Open { header, extent }
+}
+
+// the header alone
 pub fn read_header(blob: &[u8]) -> HeaderAnswer
     ensures { λ r. ⌜ Rules.headerSaid r ≡ Rules.headerSays (now (blob .entry)) ⌝ }
 {
-    if blob.len() < HEADER {
-        return HeaderAnswer::Refused(Refusal { number: 1 });
-    }
-    if !key_right(blob) {
-        return HeaderAnswer::Refused(Refusal { number: 2 });
-    }
-    let h = fields(blob);
-    let answer = h.held(blob.len());
-    let HeldAnswer::Held(_extent) = answer else {
-        return HeaderAnswer::Refused(answer.refusal());
+    let opened = open_blob(blob);
+    let OpenAnswer::Open { header, extent: _e } = opened else {
+        return HeaderAnswer::Refused(opened.refusal());
     };
-    HeaderAnswer::Read(h)
+    HeaderAnswer::Read(header)
 }

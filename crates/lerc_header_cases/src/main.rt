@@ -5,7 +5,7 @@ ghost use lib.ListN.{length};
 use lerc_header::Header;
 use lerc_header::HeaderAnswer;
 use lerc_header::HeldAnswer;
-use lerc_planes::Ranges;
+use lerc_ranges::Ranges;
 use lerc_words::WordAnswer;
 use libc::STDIN_FILENO;
 use libc::STDOUT_FILENO;
@@ -85,7 +85,7 @@ fn say_place(r: Ranges) {
 
 fn say_ranges(blob: &[u8], h: Header) {
     io::write_all(STDOUT_FILENO, b" ranges");
-    let got = lerc_planes::read_ranges(blob, h);
+    let got = lerc_ranges::read_ranges(blob, h);
     let answer = got.answer;
     let ranges = got.ranges;
     let why = answer.refusal();

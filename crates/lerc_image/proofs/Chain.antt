@@ -8,7 +8,7 @@ use native.Mathlib.Nat.{add-zero, suc-add, zero-add, not-suc-le-zero, le-of-suc-
 use lib.ListN.{length, getD}
 use Rattle.lerc_words.specs.declared.Refusal.{Refusal}
 use Rattle.lerc_words.specs.Res.{Res, ok, fail, _>>=_}
-use Rattle.lerc_words.proofs.Laws.{bind-is}
+use Rattle.lerc_words.proofs.Binding.{bind-is}
 use Rattle.lerc_header.specs.declared.Header.{Header}
 use Rattle.lerc_block.specs.Block.{Block}
 use Rattle.lerc_image.specs.Blocks.{blockAt, Chain, chain}

@@ -18,7 +18,8 @@ use Rattle.lerc_mask.specs.Mask.{pixelValid}
 use Rattle.lerc_block.specs.Block.{tileLimit}
 use Rattle.lerc_image.specs.declared.Tile.{Tile}
 use Rattle.lerc_image.specs.declared.Cursor.{Cursor}
-use Rattle.lerc_image.specs.Geometry.{TileIn, tileOf, tileSize, pixelOf, rank, tileValid, cursorOf, cursorNext}
+use Rattle.lerc_image.specs.Geometry.{tileOf, tileSize, pixelOf, rank, tileValid}
+use Rattle.lerc_image.specs.Parts.{TileIn, cursorOf, cursorNext}
 use Rattle.lerc_image.proofs.Steps.{corner-x, corner-y}
 
 -- ---- how many of the first are valid

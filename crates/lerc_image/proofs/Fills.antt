@@ -3,26 +3,26 @@
 use mathlib.Core.Path.{_≡_, _∙_, sym, ap, refl}
 use mathlib.Core.Bool.{Bool, true, false, cond, _&&_, _||_, and-false}
 use mathlib.Core.List.{List, [], _∷_}
-use Prim.Native.Nat.{ℕ, _+_, _<_}
+use Prim.Native.Nat.{ℕ, _<_}
 use native.Mathlib.Decide.{decLt}
 use native.Mathlib.Omega.{arith}
 use lib.ListN.{length, getD}
-use lib.Dec.{ltb, eqb}
-use borrow.Author.Tests.{lt-ltb, le-ltb, eq-eqb, ne-eqb}
+use lib.Dec.{eqb}
+use borrow.Author.Tests.{lt-ltb, le-ltb}
 use Rattle.lerc_header.specs.declared.Shape.{Shape}
 use Rattle.lerc_header.specs.Shape.{blockCount, Shaped}
 use Rattle.lerc_image.specs.Geometry.{blockOf, isValidCell}
-use Rattle.lerc_image.specs.Paint.{painted, inBlock, scattered, wordOf, filled, fills, among}
+use Rattle.lerc_image.specs.Paint.{painted, inBlock, wordOf, filledBlock, fills, among}
 use Rattle.lerc_image.proofs.Partition.{block-lt}
 use Rattle.lerc_image.proofs.Painting.{painted-none, painted-same, painted-cell, painted-twice, painted-words}
 use Rattle.lerc_image.proofs.Upto.{inside, valid-below}
 
 module _ (h : Shape) (s : Shaped h) (m : List ℕ) (words : ℕ → List ℕ) where
   -- one fill, with the word of a cell that does not speak of the block filled
-  pub filled-is : (n : ℕ) (image : List ℕ) → filled h m words n image ≡ painted image (inBlock h m n) (wordOf h m words)
+  pub filled-is : (n : ℕ) (image : List ℕ) → filledBlock h m words n image ≡ painted image (inBlock h m n) (wordOf h m words)
   filled-is n image = go (decLt n (blockCount h))
     where
-      go : Dec (n < blockCount h) → filled h m words n image ≡ painted image (inBlock h m n) (wordOf h m words)
+      go : Dec (n < blockCount h) → filledBlock h m words n image ≡ painted image (inBlock h m n) (wordOf h m words)
       go (yes p) =
           rw (lt-ltb _ _ p)
           (painted-words image _ (wordOf h m words) (inBlock h m n) (λ c e. rw (inside h m n c e .block)))
@@ -46,7 +46,7 @@ module _ (h : Shape) (s : Shaped h) (m : List ℕ) (words : ℕ → List ℕ) wh
   unfolding inBlock
   fills-is [] image = painted-none image _ _ (λ c l. and-false (isValidCell h m c))
   fills-is (n ∷ ns) image =
-      fills-is ns (filled h m words n image)
+      fills-is ns (filledBlock h m words n image)
       ∙ ap (λ (x : List ℕ). painted x (λ c. isValidCell h m c && among ns (blockOf h c)) (wordOf h m words)) (filled-is n image)
       ∙ painted-twice image (wordOf h m words) (inBlock h m n) (λ c. isValidCell h m c && among ns (blockOf h c))
       ∙ painted-same image (wordOf h m words) _ _ (λ c l. step (isValidCell h m c) (blockOf h c) n (among ns (blockOf h c)))
@@ -70,36 +70,4 @@ module _ (h : Shape) (s : Shaped h) (m : List ℕ) (words : ℕ → List ℕ) wh
     where
       go : (c : ℕ) (b : Bool) → isValidCell h m c ≡ b → (b && among ns (blockOf h c)) ≡ (b && among ms (blockOf h c))
       go c true e = f (blockOf h c) (block-lt h s c (valid-below h m c e))
-      go c false e = refl
-
--- ---- all blocks in order: those below a number
-
-module _ (h : Shape) (s : Shaped h) (m : List ℕ) (words : ℕ → List ℕ) (start : List ℕ) where
-  pub below-none : start ≡ painted start (λ c. isValidCell h m c && ltb (blockOf h c) 0) (wordOf h m words)
-  below-none = painted-none start _ _ (λ c l. rw (le-ltb (blockOf h c) 0 (omega arith)) (and-false (isValidCell h m c)))
-
-  next : (v : Bool) (b n : ℕ) → ((v && eqb b n) || (v && ltb b n)) ≡ (v && ltb b (n + 1))
-  next false b n = refl
-  next true b n = go (decLt b n) (decLt n b)
-    where
-      go : Dec (b < n) → Dec (n < b) → (eqb b n || ltb b n) ≡ ltb b (n + 1)
-      go (yes p) q = rw (lt-ltb b n p, ne-eqb b n (λ e. let z : b ≡ n = e in absurd (omega arith)), lt-ltb b (n + 1) (omega arith))
-      go (no p) (yes q) = rw (le-ltb b n (omega arith), ne-eqb b n (λ e. let z : b ≡ n = e in absurd (omega arith)), le-ltb b (n + 1) (omega arith))
-      go (no p) (no q) = rw (eq-eqb b n (omega arith), lt-ltb b (n + 1) (omega arith))
-
-  pub below-more : (n : ℕ) → n < blockCount h
-      → scattered h m n (words n) (painted start (λ c. isValidCell h m c && ltb (blockOf h c) n) (wordOf h m words))
-      ≡ painted start (λ c. isValidCell h m c && ltb (blockOf h c) (n + 1)) (wordOf h m words)
-  unfolding inBlock
-  below-more n l =
-      let image = painted start (λ c. isValidCell h m c && ltb (blockOf h c) n) (wordOf h m words) in
-      let e : filled h m words n image ≡ scattered h m n (words n) image = rw (lt-ltb _ _ l) in
-      sym e ∙ filled-is h s m words n image ∙ painted-twice start (wordOf h m words) _ (inBlock h m n)
-      ∙ painted-same start _ _ _ (λ c q. next (isValidCell h m c) (blockOf h c) n)
-
-  pub below-all : painted start (λ c. isValidCell h m c && ltb (blockOf h c) (blockCount h)) (wordOf h m words) ≡ painted start (isValidCell h m) (wordOf h m words)
-  below-all = painted-same start _ _ _ (λ c l. go c (isValidCell h m c) refl)
-    where
-      go : (c : ℕ) (b : Bool) → isValidCell h m c ≡ b → (b && ltb (blockOf h c) (blockCount h)) ≡ b
-      go c true e = lt-ltb _ _ (block-lt h s c (valid-below h m c e))
       go c false e = refl

@@ -1,18 +1,14 @@
 -- The blocks of a body, one after the other.
 -- Assumes nothing.
-use Prim.Native.Nat.{ℕ, zero, suc, _<_}
-use mathlib.Core.Path.{_≡_}
+use Prim.Native.Nat.{ℕ, zero, suc}
 use mathlib.Core.List.{List, [], _∷_}
 use lib.ListN.{getD}
 use Rattle.lerc_words.specs.Res.{Res, ok, _>>=_}
 use Rattle.lerc_header.specs.declared.Header.{Header}
-use Rattle.lerc_header.specs.declared.Shape.{Shape}
-use Rattle.lerc_header.specs.declared.Extent.{Extent}
-use Rattle.lerc_header.specs.Header.{shapeOf, extentOf}
-use Rattle.lerc_header.specs.Shape.{blockCount, Shaped}
+use Rattle.lerc_header.specs.Header.{shapeOf}
+use Rattle.lerc_header.specs.Shape.{blockCount}
 use Rattle.lerc_block.specs.Block.{Block, blockSays}
-use Rattle.lerc_image.specs.declared.Position.{Position}
-use Rattle.lerc_image.specs.Geometry.{tileOf, tileValid, positionOf}
+use Rattle.lerc_image.specs.Geometry.{tileOf, tileValid}
 
 -- block n at a start: its tile's column, its tile's valid pixels, its depth's maximum. `maxima` has one for each depth
 unfoldable pub blockAt : List ℕ → Header → List ℕ → List ℕ → ℕ → ℕ → Res Block
@@ -37,20 +33,3 @@ chain s h maxima m (suc f) n at = do
 -- all blocks of a body
 abbrev pub allBlocks : List ℕ → Header → List ℕ → List ℕ → ℕ → Res Chain
 allBlocks s h maxima m at = chain s h maxima m (blockCount (shapeOf h)) 0 at
-
--- where the last of f blocks ends
-unfoldable pub chainEnd : List ℕ → Header → List ℕ → List ℕ → ℕ → ℕ → ℕ → Res ℕ
-chainEnd s h maxima m f n at = chain s h maxima m f n at >>= λ c. ok (c .end)
-
--- ---- what reading one block and all blocks asks: a header that keeps the rules, and what follows from it
-
--- block n, whose position is p
-pub record BlockHere (h : Header) (shape : Shape) (n : ℕ) (p : Position) : Type 0 where
-  pub shaped : Shaped shape
-  pub same : shape ≡ shapeOf h
-  pub below : n < blockCount shape
-  pub position : p ≡ positionOf shape n
-
-pub record BodyAsked (h : Header) (e : Extent) : Type 0 where
-  pub shaped : Shaped (e .shape)
-  pub sizes : e ≡ extentOf h

@@ -1,6 +1,6 @@
 -- Fill: one block by number.
 -- Assumes nothing.
-use Prim.Native.Nat.{ℕ, _≤_, _<_}
+use Prim.Native.Nat.{ℕ}
 use mathlib.Core.Path.{_≡_}
 use mathlib.Core.Bool.{_&&_}
 use mathlib.Core.List.{List}
@@ -9,16 +9,14 @@ use lib.Dec.{leb, ltb}
 use Rattle.lerc_words.specs.declared.Refusal.{Refusal}
 use Rattle.lerc_words.specs.Res.{Res, ok, fail, _>>=_, refuse, require, after}
 use Rattle.lerc_header.specs.declared.Header.{Header}
-use Rattle.lerc_header.specs.declared.Shape.{Shape}
-use Rattle.lerc_header.specs.declared.Extent.{Extent}
 use Rattle.lerc_header.specs.Header.{shapeOf, held}
-use Rattle.lerc_planes.specs.declared.Ranges.{Ranges}
-use Rattle.lerc_planes.specs.Ranges.{pairsRight}
+use Rattle.lerc_ranges.specs.declared.Ranges.{Ranges}
+use Rattle.lerc_ranges.specs.Ranges.{pairsRight}
 use Rattle.lerc_block.specs.Block.{Block}
 use Rattle.lerc_image.specs.declared.FillAnswer.{FillAnswer}
 use Rattle.lerc_image.specs.declared.FillAnswer.the-variants as answer
 use Rattle.lerc_image.specs.Geometry.{tileOf, tileValid}
-use Rattle.lerc_image.specs.Blocks.{blockAt, BodyAsked}
+use Rattle.lerc_image.specs.Blocks.{blockAt}
 use Rattle.lerc_image.specs.Paint.{scattered}
 
 -- "Fill checks 3, 4, 1, 11, 5, 7, then the block at the listed start."
@@ -38,22 +36,9 @@ abbrev pub fillSaid : FillAnswer → Res ℕ
 fillSaid (answer.Filled n) = ok n
 fillSaid (answer.Refused r) = fail r
 
-abbrev pub fillRefused : FillAnswer → Refusal
-fillRefused (answer.Filled n) = refuse 0
-fillRefused (answer.Refused r) = r
-
--- what a block does to the image: its words at the valid cells of its tile, or nothing where it is refused
-pub record BlockFilled (h : Shape) (m : List ℕ) (n : ℕ) (b : Res Block) (r : FillAnswer) (old new : List ℕ) : Type 0 where
-  pub says : fillSaid r ≡ (b >>= λ k. ok (tileValid h m (tileOf h n)))
-  pub image : new ≡ after b old (λ k. scattered h m n (k .words) old)
-
--- what filling asks behind its tests
-pub record FillAsked (h : Header) (e : Extent) (n : ℕ) (b list image : List ℕ) : Type 0 where
-  pub body : BodyAsked h e
-  pub size : e .size ≤ length b
-  pub below : n < e .blocks
-  pub listed : e .blocks ≤ length list
-  pub room : e .cells ≤ length image
+abbrev pub refusalOfFill : FillAnswer → Refusal
+refusalOfFill (answer.Filled n) = refuse 0
+refusalOfFill (answer.Refused r) = r
 
 -- the image afterwards
 unfoldable pub fillImage : List ℕ → Header → Ranges → List ℕ → List ℕ → ℕ → List ℕ → List ℕ

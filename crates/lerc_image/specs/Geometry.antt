@@ -1,17 +1,15 @@
 -- The tiles of an image: which cell lies in which block, and at which place of its tile.
 -- Assumes nothing.
-use Prim.Native.Nat.{ℕ, _+_, _-_, _*_, _/_, _%_, _≤_, _<_, min}
+use Prim.Native.Nat.{ℕ, _+_, _-_, _*_, _/_, _%_, _<_, min}
 use mathlib.Core.Bool.{Bool, cond, _&&_}
 use mathlib.Core.List.{List}
 use lib.Dec.{ltb}
 use Rattle.lerc_words.specs.Lists.{count}
 use Rattle.lerc_header.specs.declared.Shape.{Shape}
-use Rattle.lerc_header.specs.Shape.{tilesAcross, cells, Shaped}
+use Rattle.lerc_header.specs.Shape.{tilesAcross, cells}
 use Rattle.lerc_mask.specs.Mask.{pixelValid}
-use Rattle.lerc_block.specs.Block.{tileLimit}
 use Rattle.lerc_image.specs.declared.Tile.{Tile}
 use Rattle.lerc_image.specs.declared.Position.{Position}
-use Rattle.lerc_image.specs.declared.Cursor.{Cursor}
 
 -- ---- blocks by number: "A position (x, y, depth) steps depth first, then x, then y. That order numbers the blocks from 0."
 
@@ -56,13 +54,6 @@ rank h m t k = count k (λ i. pixelValid m (pixelOf h t i))
 abbrev pub tileValid : Shape → List ℕ → Tile → ℕ
 tileValid h m t = rank h m t (tileSize t)
 
--- a tile that lies in the image, and has no more pixels than a block may have
-pub record TileIn (h : Shape) (t : Tile) : Type 0 where
-  pub shaped : Shaped h
-  pub column : t .x + t .w ≤ h .columns
-  pub row : t .y + t .h ≤ h .rows
-  pub small : tileSize t ≤ tileLimit
-
 -- a cell of the image whose pixel is valid
 unfoldable pub isValidCell : Shape → List ℕ → ℕ → Bool
 isValidCell h m c = ltb c (cells h) && pixelValid m (c / h .depth)
@@ -93,15 +84,3 @@ nextOf h p =
     cond (ltb (p .d + 1) (h .depth)) (record { x = p .x; y = p .y; d = p .d + 1 })
     (cond (ltb (p .x + tileHere h p .w) (h .columns)) (record { x = p .x + tileHere h p .w; y = p .y; d = 0 })
     (record { x = 0; y = p .y + tileHere h p .h; d = 0 }))
-
--- ---- the pixels of a tile by steps
-
--- the place k of a tile: its pixel, and its column there
-unfoldable pub cursorOf : Shape → Tile → ℕ → Cursor
-cursorOf h t k = record { pixel = pixelOf h t k; column = k % t .w }
-
--- the next place of a tile w wide, in an image of so many columns
-abbrev pub cursorNext : ℕ → ℕ → Cursor → Cursor
-cursorNext w columns p =
-    cond (ltb (p .column + 1) w) (record { pixel = p .pixel + 1; column = p .column + 1 })
-    (record { pixel = p .pixel + 1 + (columns - w); column = 0 })

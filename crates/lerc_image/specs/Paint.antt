@@ -1,16 +1,14 @@
 -- An image with the cells of a set put to their words. Images are stated pointwise: which cells, which word, and every other cell as it was.
 -- Assumes nothing.
-use mathlib.Core.Path.{_≡_}
-use Prim.Native.Nat.{ℕ, _≤_, _<_}
+use Prim.Native.Nat.{ℕ}
 use mathlib.Core.Bool.{Bool, false, cond, _&&_, _||_}
 use mathlib.Core.List.{List, [], _∷_}
 use lib.ListN.{length, getD}
 use lib.Dec.{ltb, eqb}
 use Rattle.lerc_words.specs.Lists.{tabulate}
 use Rattle.lerc_header.specs.declared.Shape.{Shape}
-use Rattle.lerc_header.specs.Shape.{Shaped, cells, blockCount}
-use Rattle.lerc_image.specs.declared.Tile.{Tile}
-use Rattle.lerc_image.specs.Geometry.{tileValid, tileOf, rank, blockOf, placeIn, isValidCell}
+use Rattle.lerc_header.specs.Shape.{blockCount}
+use Rattle.lerc_image.specs.Geometry.{tileOf, rank, blockOf, placeIn, isValidCell}
 
 -- "all other cells keep their words"
 unfoldable pub painted : List ℕ → (ℕ → Bool) → (ℕ → ℕ) → List ℕ
@@ -35,26 +33,14 @@ scattered h m n words image = painted image (inBlock h m n) (wordOf h m (λ i. w
 -- ---- any list of block numbers
 
 -- block n filled; a number at or above the count changes nothing
-abbrev pub filled : Shape → List ℕ → (ℕ → List ℕ) → ℕ → List ℕ → List ℕ
-filled h m words n image = cond (ltb n (blockCount h)) (scattered h m n (words n) image) image
+abbrev pub filledBlock : Shape → List ℕ → (ℕ → List ℕ) → ℕ → List ℕ → List ℕ
+filledBlock h m words n image = cond (ltb n (blockCount h)) (scattered h m n (words n) image) image
 
 abbrev pub fills : Shape → List ℕ → (ℕ → List ℕ) → List ℕ → List ℕ → List ℕ
 fills h m words [] image = image
-fills h m words (n ∷ ns) image = fills h m words ns (filled h m words n image)
+fills h m words (n ∷ ns) image = fills h m words ns (filledBlock h m words n image)
 
 -- is b one of the numbers
 abbrev pub among : List ℕ → ℕ → Bool
 among [] b = false
 among (n ∷ ns) b = eqb b n || among ns b
-
--- ---- what `scatter` asks, and what it gives
-
-pub record Asked (h : Shape) (t : Tile) (n : ℕ) (image : List ℕ) : Type 0 where
-  pub shaped : Shaped h
-  pub below : n < blockCount h
-  pub tile : t ≡ tileOf h n
-  pub room : cells h ≤ length image
-
-pub record Scattered (h : Shape) (n : ℕ) (m words start : List ℕ) (r : ℕ) (now : List ℕ) : Type 0 where
-  pub says : r ≡ tileValid h m (tileOf h n)
-  pub image : now ≡ scattered h m n words start

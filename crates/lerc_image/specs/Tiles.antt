@@ -1,20 +1,86 @@
--- All blocks at once: every block checked, then their starts to the list and their words to the image.
+-- All blocks of a body: checked, their starts listed, their words put into the image; each by itself, and all at once.
 -- Assumes nothing.
-use Prim.Native.Nat.{ℕ, _<_}
+use Prim.Native.Nat.{ℕ, zero, suc}
 use mathlib.Core.Path.{_≡_}
-use mathlib.Core.Bool.{_&&_}
-use mathlib.Core.List.{List, []}
+use mathlib.Core.Bool.{Bool, _&&_}
+use mathlib.Core.List.{List, [], _∷_}
 use lib.ListN.{length, getD, take}
 use lib.Dec.{leb}
-use Rattle.lerc_words.specs.Res.{Res, ok, _>>=_, require, after}
+use Rattle.lerc_words.specs.Res.{Res, _>>=_, require, after, accepts}
 use Rattle.lerc_words.specs.Lists.{over}
 use Rattle.lerc_header.specs.declared.Header.{Header}
 use Rattle.lerc_header.specs.Header.{shapeOf, held}
+use Rattle.lerc_header.specs.Shape.{blockCount}
+use Rattle.lerc_block.specs.Block.{Block}
+use Rattle.lerc_block.specs.Plan.{planAt, planEnd}
 use Rattle.lerc_image.specs.declared.WalkAnswer.{WalkAnswer}
-use Rattle.lerc_image.specs.Geometry.{isValidCell}
+use Rattle.lerc_image.specs.Geometry.{tileOf, tileValid, blockOf, isValidCell}
 use Rattle.lerc_image.specs.Paint.{painted, wordOf}
-use Rattle.lerc_image.specs.Blocks.{Chain, chain, allBlocks}
+use Rattle.lerc_image.specs.Blocks.{blockAt, Chain, allBlocks}
 use Rattle.lerc_image.specs.Walk.{walkSaid, walkCount}
+
+-- ---- check: nothing is written
+
+-- 3, 4, 1, then 5 for the mask, then "check every block, values included", from a place on
+unfoldable pub checkedTiles : List ℕ → Header → List ℕ → List ℕ → ℕ → Res Chain
+checkedTiles b h m maxima at = do
+  e ← held h (length b)
+  _ ← require (leb (e .mask) (length m)) 5
+  allBlocks (take (h .size) b) h maxima m at
+
+-- ---- list: the starts, read from the heads alone
+
+-- where block n at a start ends by its plan; its values are not looked at
+abbrev pub blockEnd : List ℕ → Header → List ℕ → ℕ → ℕ → Res ℕ
+blockEnd s h m n at =
+    let t = tileOf (shapeOf h) n in
+    planEnd (planAt s at (h .kind) (t .x) (tileValid (shapeOf h) m t))
+
+-- the starts of f blocks from number n on, the first at `at`; none behind a head that cannot be read
+unfoldable pub headStarts : List ℕ → Header → List ℕ → ℕ → ℕ → ℕ → List ℕ
+headStarts s h m zero n at = []
+headStarts s h m (suc f) n at = at ∷ after (blockEnd s h m n at) [] (λ end. headStarts s h m f (suc n) end)
+
+-- the header keeps the rules, and mask and list are long enough
+unfoldable pub roomToList : List ℕ → Header → List ℕ → ℕ → Res Bool
+roomToList b h m entries = do
+  e ← held h (length b)
+  require (leb (e .mask) (length m) && leb (e .blocks) entries) 5
+
+-- "the list's first count entries"; where there is no room, the list as it was
+unfoldable pub listedTiles : List ℕ → Header → List ℕ → ℕ → List ℕ → List ℕ
+listedTiles b h m at list =
+    after (roomToList b h m (length list)) list (λ _. over (headStarts (take (h .size) b) h m (blockCount (shapeOf h)) 0 at) list)
+
+-- ---- fill: each block at its listed start
+
+abbrev pub listedBlock : List ℕ → Header → List ℕ → List ℕ → List ℕ → ℕ → Res Block
+listedBlock s h maxima m list n = blockAt s h maxima m n (getD list n 0)
+
+-- a block's words; none where it is refused
+abbrev pub listedWords : List ℕ → Header → List ℕ → List ℕ → List ℕ → ℕ → List ℕ
+listedWords s h maxima m list n = after (listedBlock s h maxima m list n) [] (λ b. b .words)
+
+-- a valid cell whose block is accepted
+abbrev pub isListed : List ℕ → Header → List ℕ → List ℕ → List ℕ → ℕ → Bool
+isListed s h maxima m list c = isValidCell (shapeOf h) m c && accepts (listedBlock s h maxima m list (blockOf (shapeOf h) c))
+
+-- each such cell the word of its block, "all other cells keep their words"
+unfoldable pub listedImage : List ℕ → Header → List ℕ → List ℕ → List ℕ → List ℕ → List ℕ
+listedImage s h maxima m list image = painted image (isListed s h maxima m list) (wordOf (shapeOf h) m (listedWords s h maxima m list))
+
+-- the header keeps the rules, and mask, list and image are long enough
+unfoldable pub roomToFill : List ℕ → Header → List ℕ → ℕ → ℕ → Res Bool
+roomToFill b h m entries room = do
+  e ← held h (length b)
+  require (leb (e .mask) (length m) && leb (e .blocks) entries && leb (e .cells) room) 5
+
+-- where there is no room, the image as it was
+unfoldable pub filledTiles : List ℕ → Header → List ℕ → List ℕ → List ℕ → List ℕ → List ℕ
+filledTiles b h m maxima list image =
+    after (roomToFill b h m (length list) (length image)) image (λ _. listedImage (take (h .size) b) h maxima m list image)
+
+-- ---- all at once
 
 -- 3, 4, 1, then 5 for the mask, the list and the image, then the blocks from a place on
 unfoldable pub tilesSays : List ℕ → Header → List ℕ → List ℕ → ℕ → ℕ → ℕ → Res Chain
@@ -31,8 +97,3 @@ pub record Tiled (tiles : Res Chain) (h : Header) (m : List ℕ) (r : WalkAnswer
   pub says : walkSaid r ≡ (tiles >>= walkCount h)
   pub list : new-list ≡ after tiles old-list (λ c. over (c .starts) old-list)
   pub image : new-image ≡ after tiles old-image (tilesImage h m old-image)
-
--- the second pass: where the list holds the starts of an accepted chain, the image holds its words
-pub record ListFilled (s : List ℕ) (h : Header) (maxima m : List ℕ) (k : ℕ) (list old-image new-image : List ℕ) : Type 0 where
-  pub image : (at : ℕ) (c : Chain) → chain s h maxima m k 0 at ≡ ok c → ((i : ℕ) → i < k → getD list i 0 ≡ getD (c .starts) i (c .end))
-      → new-image ≡ tilesImage h m old-image c

@@ -12,23 +12,23 @@ use Rattle.lerc_words.specs.Lists.{over}
 use Rattle.lerc_header.specs.declared.Header.{Header}
 use Rattle.lerc_header.specs.Header.{shapeOf, held}
 use Rattle.lerc_header.specs.Shape.{blockCount}
-use Rattle.lerc_planes.specs.declared.Ranges.{Ranges}
-use Rattle.lerc_planes.specs.Ranges.{pairsRight}
+use Rattle.lerc_ranges.specs.declared.Ranges.{Ranges}
+use Rattle.lerc_ranges.specs.Ranges.{pairsRight}
 use Rattle.lerc_image.specs.declared.WalkAnswer.{WalkAnswer}
 use Rattle.lerc_image.specs.declared.WalkAnswer.the-variants as answer
-use Rattle.lerc_image.specs.Sweep.{Way, rawFrom, blocksFrom, swept}
-use Rattle.lerc_image.specs.Blocks.{Chain, chain, allBlocks}
+use Rattle.lerc_sweep.specs.Sweep.{Way, rawFrom, blocksFrom, swept}
+use Rattle.lerc_image.specs.Blocks.{Chain, allBlocks}
 
 -- "10: walk on a body not in blocks"
-unfoldable pub walked : List ℕ → Header → List ℕ → List ℕ → Way → Res Chain
-walked s h maxima m (rawFrom at) = fail (refuse 10)
-walked s h maxima m (blocksFrom at) = allBlocks s h maxima m at
+unfoldable pub wayWalked : List ℕ → Header → List ℕ → List ℕ → Way → Res Chain
+wayWalked s h maxima m (rawFrom at) = fail (refuse 10)
+wayWalked s h maxima m (blocksFrom at) = allBlocks s h maxima m at
 
 -- a body that is neither empty nor constant: the sweep byte, then "check every block, values included"
 unfoldable pub bodyWalked : List ℕ → Header → List ℕ → List ℕ → ℕ → Res Chain
 bodyWalked s h maxima m at = do
   way ← swept s (h .kind) (h .error) at
-  walked s h maxima m way
+  wayWalked s h maxima m way
 
 -- 3, 4, 1, 5, 7; "Empty, constant and raw bodies give a walk 10"; then the body
 unfoldable pub walkSays : List ℕ → Header → Ranges → List ℕ → ℕ → Res Chain
@@ -48,12 +48,16 @@ abbrev pub walkSaid : WalkAnswer → Res Walk
 walkSaid (answer.Walked blocks end) = ok (record { blocks = blocks; end = end })
 walkSaid (answer.Refused r) = fail r
 
-abbrev pub walkRefused : WalkAnswer → Refusal
-walkRefused (answer.Walked blocks end) = refuse 0
-walkRefused (answer.Refused r) = r
+abbrev pub refusalOfWalk : WalkAnswer → Refusal
+refusalOfWalk (answer.Walked blocks end) = refuse 0
+refusalOfWalk (answer.Refused r) = r
 
 abbrev pub walkCount : Header → Chain → Res Walk
 walkCount h c = ok (record { blocks = blockCount (shapeOf h); end = c .end })
+
+-- the answer to a chain, accepted or not
+abbrev pub walkOf : Header → Res Chain → Res Walk
+walkOf h c = c >>= walkCount h
 
 -- "then write the list of block starts": "the list's first count entries"
 unfoldable pub walkList : List ℕ → Header → Ranges → List ℕ → List ℕ → List ℕ
@@ -62,12 +66,3 @@ walkList b h r m list = after (walkSays b h r m (length list)) list (λ c. over 
 pub record Walked (b : List ℕ) (h : Header) (ranges : Ranges) (m : List ℕ) (r : WalkAnswer) (old new : List ℕ) : Type 0 where
   pub says : walkSaid r ≡ (walkSays b h ranges m (length old) >>= walkCount h)
   pub list : new ≡ walkList b h ranges m old
-
--- what a chain, accepted or not, does to the list
-pub record BodyListed (h : Header) (m : Res Chain) (r : WalkAnswer) (old new : List ℕ) : Type 0 where
-  pub says : walkSaid r ≡ (m >>= walkCount h)
-  pub list : new ≡ after m old (λ c. over (c .starts) old)
-
--- the second pass: the starts of k blocks from `at` on, where they are accepted
-pub record Listed (s : List ℕ) (h : Header) (m : List ℕ) (k at : ℕ) (old new : List ℕ) : Type 0 where
-  pub list : (maxima : List ℕ) (c : Chain) → chain s h maxima m k 0 at ≡ ok c → new ≡ over (c .starts) old

@@ -1,20 +1,23 @@
-// All blocks of a body: checked and listed, then filled.
+// All blocks of a body: checked, listed and filled, each by itself, and all at once.
 ghost use mathlib.Core.Path.{_≡_};
 ghost use Prim.Native.Nat.{ℕ, _≤_};
 ghost use lib.ListN.{length};
-ghost use Rattle.lerc_image.specs.Blocks.{BodyAsked, allBlocks};
-ghost use Rattle.lerc_image.specs.Tiles.{ListFilled, Tiled, tilesSays};
+ghost use Rattle.lerc_image.specs.Blocks.{allBlocks};
+ghost use Rattle.lerc_image.specs.Walk.{walkSaid, walkOf};
+ghost use Rattle.lerc_image.specs.Tiles.{checkedTiles, listedTiles, listedImage, filledTiles, Tiled, tilesSays};
+ghost use Rattle.lerc_image.specs.Parts.{BodyAsked};
 use super::Position;
 use super::WalkAnswer;
+use super::check_blocks;
 use super::fill_at;
-use super::walk_blocks;
+use super::list_starts;
 use lerc_header::DEPTHS;
 use lerc_header::Extent;
 use lerc_header::Header;
 use lerc_header::HeldAnswer;
 use lerc_words::Refusal;
 
-// Every listed block to the image; each is known to be right.
+// Every block at its listed start to the image; one that is refused leaves it.
 fn fill_listed(
     s: &[u8],
     h: Header,
@@ -25,7 +28,7 @@ fn fill_listed(
     image: &mut [u64],
 )
     requires { ⌜ (BodyAsked h e) × (e .blocks ≤ length (now list)) × (e .cells ≤ length (now image)) ⌝ }
-    ensures { λ r. ⌜ ListFilled (now (s .entry)) h (now (maxima .entry)) (now (mask .entry)) (e .blocks) (now (list .entry)) (now (image .entry)) (now (image .exit)) ⌝ }
+    ensures { λ r. ⌜ now (image .exit) ≡ listedImage (now (s .entry)) h (now (maxima .entry)) (now (mask .entry)) (now (list .entry)) (now (image .entry)) ⌝ }
 {
     let shape = e.shape;
     let mut p = Position::start();
@@ -51,16 +54,77 @@ fn decode_blocks(
     requires { ⌜ (BodyAsked h e) × (e .blocks ≤ length (now list)) × (e .cells ≤ length (now image)) ⌝ }
     ensures { λ r. ⌜ Tiled (allBlocks (now (s .entry)) h (now (maxima .entry)) (now (mask .entry)) at) h (now (mask .entry)) r (now (list .entry)) (now (list .exit)) (now (image .entry)) (now (image .exit)) ⌝ }
 {
-    let walked = walk_blocks(s, at, h, e, maxima, mask, &mut list[..]);
+    let checked = check_blocks(s, at, h, e, maxima, mask);
     let WalkAnswer::Walked {
         blocks: _n,
         end: _end,
-    } = walked
+    } = checked
     else {
-        return walked;
+        return checked;
     };
+    list_starts(s, at, h, e, mask, &mut list[..]);
     fill_listed(s, h, e, maxima, mask, &list[..], &mut image[..]);
-    walked
+    checked
+}
+
+// Every block from `at` on, judged with its values: 3, 4, 1, 5, then block by block 1, 8, 9. Nothing is written.
+pub fn check_tiles(
+    blob: &[u8],
+    h: Header,
+    mask: &[u8],
+    maxima: &[u64; DEPTHS],
+    at: usize,
+) -> WalkAnswer
+    ensures { λ r. ⌜ walkSaid r ≡ walkOf h (checkedTiles (now (blob .entry)) h (now (mask .entry)) (now (maxima .entry)) at) ⌝ }
+{
+    let held = h.held(blob.len());
+    let HeldAnswer::Held(e) = held else {
+        return WalkAnswer::Refused(held.refusal());
+    };
+    if mask.len() < e.mask {
+        return WalkAnswer::Refused(Refusal { number: 5 });
+    }
+    let size = e.size;
+    check_blocks(&blob[..size], at, h, e, maxima, mask)
+}
+
+// The start of each block from `at` on, read from the heads alone. Nothing is refused: without room nothing is written.
+pub fn list_tiles(blob: &[u8], h: Header, mask: &[u8], at: usize, list: &mut [usize])
+    ensures { λ r. ⌜ now (list .exit) ≡ listedTiles (now (blob .entry)) h (now (mask .entry)) at (now (list .entry)) ⌝ }
+{
+    let held = h.held(blob.len());
+    let HeldAnswer::Held(e) = held else {
+        return;
+    };
+    let room = (e.mask <= mask.len()) & (e.blocks <= list.len());
+    if !room {
+        return;
+    }
+    let size = e.size;
+    list_starts(&blob[..size], at, h, e, mask, &mut list[..]);
+}
+
+// Each block at its listed start to the image; one that is refused leaves it. Nothing is refused: without room nothing is written.
+pub fn fill_tiles(
+    blob: &[u8],
+    h: Header,
+    mask: &[u8],
+    maxima: &[u64; DEPTHS],
+    list: &[usize],
+    image: &mut [u64],
+)
+    ensures { λ r. ⌜ now (image .exit) ≡ filledTiles (now (blob .entry)) h (now (mask .entry)) (now (maxima .entry)) (now (list .entry)) (now (image .entry)) ⌝ }
+{
+    let held = h.held(blob.len());
+    let HeldAnswer::Held(e) = held else {
+        return;
+    };
+    let room = (e.mask <= mask.len()) & (e.blocks <= list.len()) & (e.cells <= image.len());
+    if !room {
+        return;
+    }
+    let size = e.size;
+    fill_listed(&blob[..size], h, e, maxima, mask, list, &mut image[..]);
 }
 
 // All blocks from `at` on: 3, 4, 1, 5, then block by block 1, 8, 9.

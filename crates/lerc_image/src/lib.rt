@@ -2,30 +2,33 @@
 ghost use mathlib.Core.Path.{_≡_};
 ghost use Prim.Native.Nat.{ℕ, _+_, _*_, _^_, _≤_, _<_, min};
 ghost use lib.ListN.{length, getD, take};
+ghost use Rattle.lerc_words.specs.Lists.{over};
 ghost use Rattle.lerc_header.specs.Shape.{Shaped, blockCount, cells};
-ghost use Rattle.lerc_image.specs.Geometry.{TileIn, Within, tileHere, nextOf, positionOf, tileValid, cursorOf, cursorNext};
-ghost use Rattle.lerc_image.specs.Paint.{Asked, Scattered};
-ghost use Rattle.lerc_image.specs.Fill.{BlockFilled, FillAsked, Filled, fillRefused};
-ghost use Rattle.lerc_image.specs.Blocks.{BlockHere, BodyAsked, blockAt, chainEnd, allBlocks};
-ghost use Rattle.lerc_image.specs.Walk.{Walked, BodyListed, Listed, bodyWalked, walkRefused};
+ghost use Rattle.lerc_image.specs.Geometry.{Within, tileHere, nextOf, positionOf, tileValid};
+ghost use Rattle.lerc_image.specs.Fill.{Filled, refusalOfFill};
+ghost use Rattle.lerc_image.specs.Blocks.{blockAt, allBlocks};
+ghost use Rattle.lerc_image.specs.Walk.{Walked, bodyWalked, walkSaid, walkOf, refusalOfWalk};
+ghost use Rattle.lerc_image.specs.Tiles.{headStarts};
+ghost use Rattle.lerc_image.specs.Parts.{TileIn, BodyAsked, BlockHere, Asked, FillAsked, cursorOf, cursorNext, BlockScattered, BlockFilled, BodyListed};
 ghost use Rattle.lerc_block.specs.Block.{BlockRead, blockSaid, blockSays, nextBlock};
-ghost use Rattle.lerc_block.specs.End.{endSays};
+ghost use Rattle.lerc_block.specs.Plan.{planAt, planEnd};
 use lerc_block::BlockAnswer;
 use lerc_header::DEPTHS;
 use lerc_header::Extent;
 use lerc_header::Header;
 use lerc_header::HeldAnswer;
 use lerc_header::Shape;
-use lerc_planes::PairsAnswer;
-use lerc_planes::Ranges;
+use lerc_ranges::PairsAnswer;
+use lerc_ranges::Ranges;
+use lerc_sweep::WayAnswer;
 use lerc_words::Refusal;
 
 mod decode;
-mod sweep;
 
+pub use decode::check_tiles;
 pub use decode::decode_tiles;
-pub use sweep::WayAnswer;
-pub use sweep::read_sweep;
+pub use decode::fill_tiles;
+pub use decode::list_tiles;
 
 pub struct Tile {
     pub x: usize,
@@ -68,7 +71,7 @@ pub enum FillAnswer {
 impl WalkAnswer {
     // why it was refused; number 0 where it was not
     pub fn refusal(self) -> Refusal
-        ensures { λ r. ⌜ r ≡ walkRefused self ⌝ }
+        ensures { λ r. ⌜ r ≡ refusalOfWalk self ⌝ }
     {
         match self {
             WalkAnswer::Walked {
@@ -83,7 +86,7 @@ impl WalkAnswer {
 impl FillAnswer {
     // why it was refused; number 0 where it was not
     pub fn refusal(self) -> Refusal
-        ensures { λ r. ⌜ r ≡ fillRefused self ⌝ }
+        ensures { λ r. ⌜ r ≡ refusalOfFill self ⌝ }
     {
         match self {
             FillAnswer::Filled(_words) => Refusal { number: 0 },
@@ -223,7 +226,7 @@ fn scatter(
     image: &mut [u64],
 ) -> usize
     requires { ⌜ Asked h t number (now image) ⌝ }
-    ensures { λ r. ⌜ Scattered h number (now (mask .entry)) (now (words .entry)) (now (image .entry)) r (now (image .exit)) ⌝ }
+    ensures { λ r. ⌜ BlockScattered h number (now (mask .entry)) (now (words .entry)) (now (image .entry)) r (now (image .exit)) ⌝ }
 {
     let size = t.h * t.w;
     let mut at = Cursor::first(h, t);
@@ -349,7 +352,7 @@ pub fn fill(
     if !room {
         return FillAnswer::Refused(Refusal { number: 5 });
     }
-    let right = lerc_planes::pairs(h.depth, ranges);
+    let right = lerc_ranges::pairs(h.depth, ranges);
     let PairsAnswer::Right = right else {
         return FillAnswer::Refused(right.refusal());
     };
@@ -377,7 +380,7 @@ fn check_at(
     lerc_block::check_block(s, at, h.kind, h.error, top, t.x, valid)
 }
 
-// Every block, judged with its values: where the last one ends.
+// Every block, judged with its values: how many, and where the last one ends.
 fn check_blocks(
     s: &[u8],
     at: usize,
@@ -385,9 +388,9 @@ fn check_blocks(
     e: Extent,
     maxima: &[u64; DEPTHS],
     mask: &[u8],
-) -> BlockAnswer
+) -> WalkAnswer
     requires { ⌜ BodyAsked h e ⌝ }
-    ensures { λ r. ⌜ blockSaid r ≡ chainEnd (now (s .entry)) h (now (maxima .entry)) (now (mask .entry)) (e .blocks) 0 at ⌝ }
+    ensures { λ r. ⌜ walkSaid r ≡ walkOf h (allBlocks (now (s .entry)) h (now (maxima .entry)) (now (mask .entry)) at) ⌝ }
 {
     let shape = e.shape;
     let mut p = Position::start();
@@ -396,31 +399,34 @@ fn check_blocks(
     while n < e.blocks {
         let got = check_at(s, next, h, shape, n, p, maxima, mask);
         let BlockAnswer::Block(end) = got else {
-            return got;
+            return WalkAnswer::Refused(got.refusal());
         };
         next = end;
         p = p.advance(shape);
         n += 1;
     }
-    BlockAnswer::Block(next)
+    WalkAnswer::Walked {
+        blocks: e.blocks,
+        end: next,
+    }
 }
 
 // Where the block of tile `t` at a place ends. Only a raw block is as long as its tile has valid pixels, so only for one are they counted.
 fn end_at(s: &[u8], at: usize, kind: u32, h: Shape, t: Tile, mask: &[u8]) -> BlockAnswer
     requires { ⌜ TileIn h t ⌝ }
-    ensures { λ r. ⌜ blockSaid r ≡ endSays (now (s .entry)) at kind (tileValid h (now (mask .entry)) t) ⌝ }
+    ensures { λ r. ⌜ blockSaid r ≡ planEnd (planAt (now (s .entry)) at kind (t .x) (tileValid h (now (mask .entry)) t)) ⌝ }
 {
     if lerc_words::bytes(s, at, 1) % 4 != 0 {
-        return lerc_block::block_end(s, at, kind, 0);
+        return lerc_block::inspect_block(s, at, kind, t.x, 0).end();
     }
     let valid = count_valid(h, t, mask);
-    lerc_block::block_end(s, at, kind, valid)
+    lerc_block::inspect_block(s, at, kind, t.x, valid).end()
 }
 
-// The start of each of the blocks, which are known to be right: only their ends are read.
+// The start of each block, read from the heads alone; none behind a head that cannot be read.
 fn list_starts(s: &[u8], at: usize, h: Header, e: Extent, mask: &[u8], list: &mut [usize])
     requires { ⌜ (BodyAsked h e) × (e .blocks ≤ length (now list)) ⌝ }
-    ensures { λ r. ⌜ Listed (now (s .entry)) h (now (mask .entry)) (e .blocks) at (now (list .entry)) (now (list .exit)) ⌝ }
+    ensures { λ r. ⌜ now (list .exit) ≡ over (headStarts (now (s .entry)) h (now (mask .entry)) (e .blocks) 0 at) (now (list .entry)) ⌝ }
 {
     let shape = e.shape;
     let mut p = Position::start();
@@ -453,14 +459,15 @@ fn walk_blocks(
     ensures { λ r. ⌜ BodyListed h (allBlocks (now (s .entry)) h (now (maxima .entry)) (now (mask .entry)) at) r (now (list .entry)) (now (list .exit)) ⌝ }
 {
     let checked = check_blocks(s, at, h, e, maxima, mask);
-    let BlockAnswer::Block(end) = checked else {
-        return WalkAnswer::Refused(checked.refusal());
+    let WalkAnswer::Walked {
+        blocks: _n,
+        end: _end,
+    } = checked
+    else {
+        return checked;
     };
     list_starts(s, at, h, e, mask, &mut list[..]);
-    WalkAnswer::Walked {
-        blocks: e.blocks,
-        end,
-    }
+    checked
 }
 
 // A body that is neither empty nor constant.
@@ -476,7 +483,7 @@ fn walk_body(
     requires { ⌜ (BodyAsked h e) × (e .blocks ≤ length (now list)) ⌝ }
     ensures { λ r. ⌜ BodyListed h (bodyWalked (now (s .entry)) h (now (maxima .entry)) (now (mask .entry)) at) r (now (list .entry)) (now (list .exit)) ⌝ }
 {
-    let way = read_sweep(s, at, h.kind, h.error);
+    let way = lerc_sweep::read_sweep(s, at, h.kind, h.error);
     match way {
         WayAnswer::Raw(_at) => WalkAnswer::Refused(Refusal { number: 10 }),
         WayAnswer::Blocks(start) => walk_blocks(s, start, h, e, maxima, mask, &mut list[..]),
@@ -496,7 +503,7 @@ pub fn walk(blob: &[u8], h: Header, ranges: Ranges, mask: &[u8], list: &mut [usi
     if !room {
         return WalkAnswer::Refused(Refusal { number: 5 });
     }
-    let right = lerc_planes::pairs(h.depth, ranges);
+    let right = lerc_ranges::pairs(h.depth, ranges);
     let PairsAnswer::Right = right else {
         return WalkAnswer::Refused(right.refusal());
     };

@@ -12,7 +12,7 @@ use lib.Count.{ones, onesIn}
 use Rattle.lerc_words.specs.Lists.{over}
 use Rattle.lerc_words.specs.Res.{Res, ok, fail, _>>=_, require, refuse, accepts}
 use Rattle.lerc_words.specs.declared.Refusal.{Refusal}
-use Rattle.lerc_words.proofs.Laws.{Bytes}
+use Rattle.lerc_words.proofs.Little.{Bytes}
 use Rattle.lerc_mask.specs.declared.RunsAnswer.{RunsAnswer}
 use Rattle.lerc_mask.specs.declared.RunsAnswer.the-variants as answer
 use Rattle.lerc_mask.specs.declared.Step.{Step}

@@ -10,7 +10,8 @@ use lib.Dec.{eqb}
 use lib.ListN.{length, getD, take, drop, replicate, length-append, length-replicate}
 use Rattle.lerc_words.specs.declared.Refusal.{Refusal}
 use Rattle.lerc_words.specs.Res.{Res, ok, fail, _>>=_, require, refuse}
-use Rattle.lerc_words.proofs.Laws.{Bytes, bind-is, require-is}
+use Rattle.lerc_words.proofs.Binding.{bind-is, require-is}
+use Rattle.lerc_words.proofs.Little.{Bytes}
 use Rattle.lerc_mask.specs.declared.Step.{Step}
 use Rattle.lerc_mask.specs.declared.Step.the-variants.{Copy, Repeat, End, Wrong}
 use Rattle.lerc_mask.specs.Mask.{validBelow, maskBytes, stepAt, onStep, runs, maskRuns, coded, decoded}

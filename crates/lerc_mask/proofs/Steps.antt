@@ -13,7 +13,8 @@ use lib.ListN.{length, getD, take, drop, replicate, length-take, length-drop, le
 use lib.Seq.{take-take, getD-take, getD-drop, getD-append-add}
 use lib.Count.{ones}
 use Rattle.lerc_words.specs.Res.{little}
-use Rattle.lerc_words.proofs.Laws.{Bytes, Stands, little-lt, cond-elim, and-is}
+use Rattle.lerc_words.proofs.Binding.{cond-elim, and-is}
+use Rattle.lerc_words.proofs.Little.{Bytes, Stands, little-lt}
 use Rattle.lerc_mask.specs.declared.Step.{Step}
 use Rattle.lerc_mask.specs.declared.Step.the-variants.{Copy, Repeat, End, Wrong}
 use Rattle.lerc_mask.specs.Mask.{copyAt, repeatAt, endAt, signedAt, stepAt}

@@ -91,9 +91,9 @@ abbrev pub runsSaid : RunsAnswer → Res ℕ
 runsSaid (answer.Mask n) = ok n
 runsSaid (answer.Refused r) = fail r
 
-abbrev pub runsRefused : RunsAnswer → Refusal
-runsRefused (answer.Mask n) = refuse 0
-runsRefused (answer.Refused r) = r
+abbrev pub refusalOfRuns : RunsAnswer → Refusal
+refusalOfRuns (answer.Mask n) = refuse 0
+refusalOfRuns (answer.Refused r) = r
 
 -- how long the mask is, and "the spare's first (pixels+7)/8 bytes hold the new mask"
 pub record Unrolled (m : Res (List ℕ)) (r : RunsAnswer) (old new : List ℕ) : Type 0 where

@@ -1,4 +1,5 @@
--- What the two passes do at each run; not part of the rules.
+-- What private functions promise; not part of the rules.
+-- The two passes over the runs of a section, run by run.
 -- Assumes nothing.
 use Prim.{Unit}
 use Prim.Native.Nat.{ℕ, _+_, _-_, _*_, _^_, _≤_, _<_}

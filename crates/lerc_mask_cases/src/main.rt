@@ -4,7 +4,7 @@
 ghost use Prim.Native.Nat.{_≤_};
 use lerc_header::Header;
 use lerc_header::HeaderAnswer;
-use lerc_planes::MaskAnswer;
+use lerc_validity::MaskAnswer;
 use lerc_words::Refusal;
 use libc::STDOUT_FILENO;
 
@@ -64,15 +64,15 @@ fn report(blob: &[u8], kept: &mut [u8]) {
         return;
     };
     let mut spare = [0u8; 512];
-    let said = lerc_planes::prepare_mask(blob, h, true, &kept[..], &mut spare);
+    let said = lerc_validity::prepare_mask(blob, h, true, &kept[..], &mut spare);
     match said {
         MaskAnswer::Kept(_n) => {
             io::write_all(STDOUT_FILENO, b" kept");
-            print_mask(lerc_planes::mask_in_force(&kept[..], &spare, said), h);
+            print_mask(lerc_validity::mask_in_force(&kept[..], &spare, said), h);
         }
         MaskAnswer::Spare(_n) => {
             io::write_all(STDOUT_FILENO, b" new");
-            print_mask(lerc_planes::mask_in_force(&kept[..], &spare, said), h);
+            print_mask(lerc_validity::mask_in_force(&kept[..], &spare, said), h);
             keep(&spare, kept);
         }
         MaskAnswer::Refused(why) => {

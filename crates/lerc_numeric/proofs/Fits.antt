@@ -13,7 +13,7 @@ use lib.Dec.{ltb, leb, lit≤}
 use lib.Pow.{pow-pos, shl-lt}
 use lib.Ieee.Nearest.{div-mono}
 use Rattle.lerc_words.specs.Res.{ok, require}
-use Rattle.lerc_words.proofs.Laws.{bind-is, require-is}
+use Rattle.lerc_words.proofs.Binding.{bind-is, require-is}
 use Rattle.lerc_numeric.specs.Numeric.{bits64, field, finite, mag, negative, signed, sum, scaled, less, lesser}
 use Rattle.lerc_numeric.specs.Kinds.{typeSize, modulus, signedKind, integer, valueOf, whole, bound, cut}
 use Rattle.lerc_numeric.proofs.Magnitude.{mag-lt}

@@ -1,4 +1,4 @@
--- What the code's helpers compute. No promise of a public function speaks of these.
+-- What private functions promise; not part of the rules.
 -- Assumes nothing.
 use mathlib.Core.Bool.{cond}
 use Prim.Native.Nat.{ℕ, _+_, _-_, _*_, _/_, _%_, _^_, min}

@@ -76,6 +76,6 @@ abbrev pub integerSaid : IntegerAnswer → Res ℕ
 integerSaid (Word v) = ok v
 integerSaid (Refused r) = fail r
 
-abbrev pub integerRefused : IntegerAnswer → Refusal
-integerRefused (Word v) = refuse 0
-integerRefused (Refused r) = r
+abbrev pub refusalOfInteger : IntegerAnswer → Refusal
+refusalOfInteger (Word v) = refuse 0
+refusalOfInteger (Refused r) = r

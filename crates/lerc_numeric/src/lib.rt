@@ -1,7 +1,7 @@
 // Arithmetic of binary64 words over whole numbers, and the kinds of samples as binary64. Every function takes any bits.
 ghost use mathlib.Core.Path.{_≡_};
 ghost use Rattle.lerc_numeric.specs.Kinds as Kind;
-ghost use Rattle.lerc_numeric.specs.Kinds.{integerSaid, integerRefused};
+ghost use Rattle.lerc_numeric.specs.Kinds.{integerSaid, refusalOfInteger};
 use lerc_words::Refusal;
 
 mod add;
@@ -30,7 +30,7 @@ pub enum IntegerAnswer {
 impl IntegerAnswer {
     // why it was refused; number 0 where it was not
     pub fn refusal(self) -> Refusal
-        ensures { λ r. ⌜ r ≡ integerRefused self ⌝ }
+        ensures { λ r. ⌜ r ≡ refusalOfInteger self ⌝ }
     {
         match self {
             IntegerAnswer::Word(_v) => Refusal { number: 0 },

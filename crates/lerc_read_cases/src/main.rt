@@ -271,16 +271,22 @@ fn is_same_image(have: &[u64], expect: &[u8], c: Case) -> bool {
 
 fn is_same_answer(answer: ReadAnswer, c: Case) -> bool {
     match answer {
-        ReadAnswer::Whole { blocks, end } => (c.number == 0)
-            & (blocks == c.starts)
-            & (end == c.end),
+        ReadAnswer::Whole {
+            header: _h,
+            blocks,
+            end,
+        } => (c.number == 0) & (blocks == c.starts) & (end == c.end),
         ReadAnswer::Refused(why) => (0 < c.number) & (why.number as usize == c.number),
     }
 }
 
 fn print_answer(answer: ReadAnswer) {
     match answer {
-        ReadAnswer::Whole { blocks, end } => {
+        ReadAnswer::Whole {
+            header: _h,
+            blocks,
+            end,
+        } => {
             print(b" blocks ", blocks);
             print(b" end ", end);
         }

@@ -5,7 +5,8 @@ use mathlib.Core.List.{List}
 use Prim.Native.Nat.{ℕ, _+_, _≤_, _<_}
 use lib.ListN.{length}
 use Rattle.lerc_words.specs.Res.{ok, fail, refuse, little, wordAt}
-use Rattle.lerc_words.proofs.Laws.{Bytes, Stays, wordAt-ok, wordAt-no, wordAt-is, wordAt-stays, little-lt, byte-pow, bind-is}
+use Rattle.lerc_words.proofs.Binding.{bind-is}
+use Rattle.lerc_words.proofs.Little.{Bytes, Stays, wordAt-ok, wordAt-no, wordAt-is, wordAt-stays, little-lt, byte-pow}
 use Rattle.lerc_numeric.specs.Kinds.{typeSize, modulus, valueOf}
 use Rattle.lerc_samples.specs.Samples.{sampleAt, stored}
 use Rattle.lerc_samples.proofs.Storable.{stored-value}

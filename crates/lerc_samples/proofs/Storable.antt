@@ -13,7 +13,7 @@ use lib.Dec.{ltb, leb, eqb}
 use lib.ListN.{getD}
 use Rattle.lerc_words.specs.Res.{ok, require}
 use Rattle.lerc_words.specs.Lists.{allTo}
-use Rattle.lerc_words.proofs.Laws.{bind-is, require-is}
+use Rattle.lerc_words.proofs.Binding.{bind-is, require-is}
 use Rattle.lerc_words.proofs.Tables.{all-each}
 use Rattle.lerc_numeric.specs.Numeric.{negative, sum, scaled, less, lesser}
 use Rattle.lerc_numeric.specs.Kinds.{modulus, integer, widened, valueOf, narrowed, bound, cut}

@@ -4,12 +4,12 @@ use mathlib.Core.Path.{_≡_}
 use mathlib.Core.List.{List}
 use Prim.Native.Nat.{ℕ, _≤_, _<_}
 use borrow.Author.Tests.{lt-ltb, le-ltb, ne-eqb}
-use Rattle.lerc_words.specs.Res.{ok, fail, wordSays, wordSaid, wordRefused}
+use Rattle.lerc_words.specs.Res.{ok, fail, wordSays, wordSaid, refusalOfWord}
 use Rattle.lerc_words.specs.declared.Refusal.{Refusal}
 use Rattle.lerc_words.specs.declared.WordAnswer.{WordAnswer}
 use Rattle.lerc_words.specs.declared.WordAnswer.the-variants as word
-use Rattle.lerc_words.proofs.Laws.{read-ok, read-no}
-use Rattle.lerc_numeric.specs.Kinds.{typeSize, valueOf, narrowed, cut, integerSaid, integerRefused}
+use Rattle.lerc_words.proofs.Little.{read-ok, read-no}
+use Rattle.lerc_numeric.specs.Kinds.{typeSize, valueOf, narrowed, cut, integerSaid, refusalOfInteger}
 use Rattle.lerc_numeric.specs.declared.IntegerAnswer.{IntegerAnswer}
 use Rattle.lerc_numeric.specs.declared.IntegerAnswer.the-variants as integer
 use Rattle.lerc_numeric.proofs.Integers.{size-le}
@@ -24,7 +24,7 @@ module _ (kind n : ℕ) (s : List ℕ) (at : ℕ) (en : n ≡ typeSize kind) (r 
   unfolding sampleAt
   sample-ok w x d ex = rw (read-ok s at (typeSize kind) (size-le kind) said d, ex)
 
-  pub sample-no : (q why : Refusal) → r ≡ word.Refused q → why ≡ wordRefused r → fail why ≡ sampleAt kind s at
+  pub sample-no : (q why : Refusal) → r ≡ word.Refused q → why ≡ refusalOfWord r → fail why ≡ sampleAt kind s at
   unfolding sampleAt
   sample-no q why d f = rw (read-no s at (typeSize kind) (size-le kind) said d f)
 
@@ -34,7 +34,7 @@ module _ (kind v : ℕ) (h : kind < 6) {r : IntegerAnswer} (e : integerSaid r �
   unfolding stored
   stored-cut w d = rw (lt-ltb kind 6 h, ← e, d)
 
-  pub stored-no : (q why : Refusal) → r ≡ integer.Refused q → why ≡ integerRefused r → fail why ≡ stored kind v
+  pub stored-no : (q why : Refusal) → r ≡ integer.Refused q → why ≡ refusalOfInteger r → fail why ≡ stored kind v
   unfolding stored
   stored-no q why d f = rw (lt-ltb kind 6 h, ← e, f, d)
 

@@ -55,22 +55,22 @@ abbrev pub offsetSaid : OffsetAnswer → Res ℕ
 offsetSaid (offset.Kind k) = ok k
 offsetSaid (offset.Refused r) = fail r
 
-abbrev pub offsetRefused : OffsetAnswer → Refusal
-offsetRefused (offset.Kind k) = refuse 0
-offsetRefused (offset.Refused r) = r
+abbrev pub refusalOfOffset : OffsetAnswer → Refusal
+refusalOfOffset (offset.Kind k) = refuse 0
+refusalOfOffset (offset.Refused r) = r
 
 abbrev pub sampleSaid : SampleAnswer → Res ℕ
 sampleSaid (sample.Value v) = ok v
 sampleSaid (sample.Refused r) = fail r
 
-abbrev pub sampleRefused : SampleAnswer → Refusal
-sampleRefused (sample.Value v) = refuse 0
-sampleRefused (sample.Refused r) = r
+abbrev pub refusalOfSample : SampleAnswer → Refusal
+refusalOfSample (sample.Value v) = refuse 0
+refusalOfSample (sample.Refused r) = r
 
 abbrev pub storedSaid : StoredAnswer → Res ℕ
 storedSaid (word.Word v) = ok v
 storedSaid (word.Refused r) = fail r
 
-abbrev pub storedRefused : StoredAnswer → Refusal
-storedRefused (word.Word v) = refuse 0
-storedRefused (word.Refused r) = r
+abbrev pub refusalOfStored : StoredAnswer → Refusal
+refusalOfStored (word.Word v) = refuse 0
+refusalOfStored (word.Refused r) = r

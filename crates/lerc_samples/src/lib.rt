@@ -26,7 +26,7 @@ pub enum OffsetAnswer {
 impl OffsetAnswer {
     // why it was refused; number 0 where it was not
     pub fn refusal(self) -> Refusal
-        ensures { λ r. ⌜ r ≡ Sample.offsetRefused self ⌝ }
+        ensures { λ r. ⌜ r ≡ Sample.refusalOfOffset self ⌝ }
     {
         match self {
             OffsetAnswer::Kind(_k) => Refusal { number: 0 },
@@ -43,7 +43,7 @@ pub enum SampleAnswer {
 impl SampleAnswer {
     // why it was refused; number 0 where it was not
     pub fn refusal(self) -> Refusal
-        ensures { λ r. ⌜ r ≡ Sample.sampleRefused self ⌝ }
+        ensures { λ r. ⌜ r ≡ Sample.refusalOfSample self ⌝ }
     {
         match self {
             SampleAnswer::Value(_v) => Refusal { number: 0 },
@@ -60,7 +60,7 @@ pub enum StoredAnswer {
 impl StoredAnswer {
     // why it was refused; number 0 where it was not
     pub fn refusal(self) -> Refusal
-        ensures { λ r. ⌜ r ≡ Sample.storedRefused self ⌝ }
+        ensures { λ r. ⌜ r ≡ Sample.refusalOfStored self ⌝ }
     {
         match self {
             StoredAnswer::Word(_v) => Refusal { number: 0 },

@@ -17,16 +17,18 @@ use Rattle.lerc_bits.specs.declared.CountsAnswer.{CountsAnswer}
 use Rattle.lerc_bits.specs.declared.CountsAnswer.the-variants as counts
 use Rattle.lerc_header.specs.declared.HeaderAnswer.{HeaderAnswer}
 use Rattle.lerc_header.specs.declared.HeaderAnswer.the-variants as header
+use Rattle.lerc_header.specs.declared.OpenAnswer.{OpenAnswer}
+use Rattle.lerc_header.specs.declared.OpenAnswer.the-variants as opened
 use Rattle.lerc_header.specs.declared.HeldAnswer.{HeldAnswer}
 use Rattle.lerc_header.specs.declared.HeldAnswer.the-variants as held
 use Rattle.lerc_mask.specs.declared.RunsAnswer.{RunsAnswer}
 use Rattle.lerc_mask.specs.declared.RunsAnswer.the-variants as runs
-use Rattle.lerc_planes.specs.declared.MaskAnswer.{MaskAnswer}
-use Rattle.lerc_planes.specs.declared.MaskAnswer.the-variants as mask
-use Rattle.lerc_planes.specs.declared.PairsAnswer.{PairsAnswer}
-use Rattle.lerc_planes.specs.declared.PairsAnswer.the-variants as pairs
-use Rattle.lerc_image.specs.declared.sweep.WayAnswer.{WayAnswer}
-use Rattle.lerc_image.specs.declared.sweep.WayAnswer.the-variants as way
+use Rattle.lerc_validity.specs.declared.MaskAnswer.{MaskAnswer}
+use Rattle.lerc_validity.specs.declared.MaskAnswer.the-variants as mask
+use Rattle.lerc_ranges.specs.declared.PairsAnswer.{PairsAnswer}
+use Rattle.lerc_ranges.specs.declared.PairsAnswer.the-variants as pairs
+use Rattle.lerc_sweep.specs.declared.WayAnswer.{WayAnswer}
+use Rattle.lerc_sweep.specs.declared.WayAnswer.the-variants as way
 use Rattle.lerc_image.specs.declared.WalkAnswer.{WalkAnswer}
 use Rattle.lerc_image.specs.declared.WalkAnswer.the-variants as walk
 use Rattle.lerc_image.specs.declared.FillAnswer.{FillAnswer}
@@ -36,14 +38,18 @@ use Rattle.lerc.specs.declared.ReadAnswer.the-variants as read
 use Rattle.lerc_words.specs.Res.{Res, ok, fail, wordSaid}
 use Rattle.lerc_numeric.specs.Kinds.{integerSaid}
 use Rattle.lerc_samples.specs.Samples.{offsetSaid, sampleSaid, storedSaid}
+use Rattle.lerc_block.specs.declared.plan.BlockPlan.{BlockPlan}
+use Rattle.lerc_block.specs.declared.plan.BlockPlanAnswer.{BlockPlanAnswer}
+use Rattle.lerc_block.specs.declared.plan.BlockPlanAnswer.the-variants as block-plan
+use Rattle.lerc_block.specs.Plan as Planned
 use Rattle.lerc_bits.specs.Bits.{Span, countsSaid}
 use Rattle.lerc_header.specs.declared.Header.{Header}
 use Rattle.lerc_header.specs.declared.Extent.{Extent}
-use Rattle.lerc_header.specs.Header.{headerSaid, heldSaid}
+use Rattle.lerc_header.specs.Header.{Opened, openSaid, headerSaid, heldSaid}
 use Rattle.lerc_mask.specs.Mask.{runsSaid}
-use Rattle.lerc_planes.specs.Validity.{maskSaid}
-use Rattle.lerc_planes.specs.Ranges.{pairsSaid}
-use Rattle.lerc_image.specs.Sweep.{Way, rawFrom, blocksFrom, waySaid}
+use Rattle.lerc_validity.specs.Validity.{maskSaid}
+use Rattle.lerc_ranges.specs.Ranges.{pairsSaid}
+use Rattle.lerc_sweep.specs.Sweep.{Way, rawFrom, blocksFrom, waySaid}
 use Rattle.lerc_image.specs.Walk.{Walk, walkSaid}
 use Rattle.lerc_image.specs.Fill.{fillSaid}
 use Rattle.lerc.specs.Read.{Whole, readSaid}
@@ -122,6 +128,30 @@ counts-same = back-same countsSaid counts-back (λ a. go a)
     go : (a : CountsAnswer) → counts-back (countsSaid a) ≡ a
     go (counts.Counts n next) = refl
     go (counts.Refused r) = refl
+
+block-plan-back : Res BlockPlan → BlockPlanAnswer
+block-plan-back (ok p) = block-plan.Plan p
+block-plan-back (fail r) = block-plan.Refused r
+
+pub block-plan-same : (a b : BlockPlanAnswer) → Planned.planSaid a ≡ Planned.planSaid b → a ≡ b
+unfolding block-plan-back
+block-plan-same = back-same Planned.planSaid block-plan-back (λ a. go a)
+  where
+    go : (a : BlockPlanAnswer) → block-plan-back (Planned.planSaid a) ≡ a
+    go (block-plan.Plan p) = refl
+    go (block-plan.Refused r) = refl
+
+open-back : Res Opened → OpenAnswer
+open-back (ok o) = opened.Open (o .header) (o .extent)
+open-back (fail r) = opened.Refused r
+
+pub open-same : (a b : OpenAnswer) → openSaid a ≡ openSaid b → a ≡ b
+unfolding open-back
+open-same = back-same openSaid open-back (λ a. go a)
+  where
+    go : (a : OpenAnswer) → open-back (openSaid a) ≡ a
+    go (opened.Open h e) = refl
+    go (opened.Refused r) = refl
 
 header-back : Res Header → HeaderAnswer
 header-back (ok h) = header.Read h
@@ -223,7 +253,7 @@ fill-same = back-same fillSaid fill-back (λ a. go a)
     go (fill.Refused r) = refl
 
 read-back : Res Whole → ReadAnswer
-read-back (ok w) = read.Whole (w .blocks) (w .end)
+read-back (ok w) = read.Whole (w .header) (w .blocks) (w .end)
 read-back (fail r) = read.Refused r
 
 pub read-same : (a b : ReadAnswer) → readSaid a ≡ readSaid b → a ≡ b
@@ -231,5 +261,5 @@ unfolding read-back
 read-same = back-same readSaid read-back (λ a. go a)
   where
     go : (a : ReadAnswer) → read-back (readSaid a) ≡ a
-    go (read.Whole n end) = refl
+    go (read.Whole h n end) = refl
     go (read.Refused r) = refl

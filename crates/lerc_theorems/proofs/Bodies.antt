@@ -9,20 +9,21 @@ use lib.ListN.{length, getD, List·getD-eq-default}
 use lib.Dec.{leb, ltb, eqb}
 use borrow.Author.Tests.{leb-true, eqb-false, ne-eqb}
 use Rattle.lerc_words.specs.Res.{Res, ok, _>>=_, require, wordAt}
-use Rattle.lerc_words.proofs.Laws.{bind-is, require-is, ok-is, cond-elim, wordAt-is}
+use Rattle.lerc_words.proofs.Binding.{bind-is, require-is, ok-is, cond-elim}
+use Rattle.lerc_words.proofs.Little.{wordAt-is}
 use Rattle.lerc_numeric.specs.Kinds.{typeSize}
 use Rattle.lerc_header.specs.declared.Header.{Header}
 use Rattle.lerc_header.specs.Shape.{blockCount}
 use Rattle.lerc_header.specs.Header.{shapeOf, headerBytes, rangesAt}
-use Rattle.lerc_planes.specs.declared.Ranges.{Ranges}
-use Rattle.lerc_planes.specs.Ranges.{rangesSays, constantWords}
-use Rattle.lerc_planes.proofs.RangesLaws.{RangesKept}
+use Rattle.lerc_ranges.specs.declared.Ranges.{Ranges}
+use Rattle.lerc_ranges.specs.Ranges.{rangesSays, constantWords}
+use Rattle.lerc_ranges.proofs.Judged.{RangesKept}
 use Rattle.lerc_block.specs.Block.{Block, rawWords}
 use Rattle.lerc_block.proofs.Accepted.{block-ends}
-use Rattle.lerc_image.specs.Sweep.{Way, rawFrom, blocksFrom, hasModeByte, modeAt, moded, swept}
+use Rattle.lerc_sweep.specs.Sweep.{Way, rawFrom, blocksFrom, hasModeByte, modeAt, moded, swept}
 use Rattle.lerc_image.specs.Blocks.{Chain, blockAt, chain, allBlocks}
 use Rattle.lerc_image.proofs.Chain.{chain-parts, chain-none, chain-lengths, chain-block}
-use Rattle.lerc_image.proofs.Decoding.{getD-any}
+use Rattle.lerc_image.proofs.Stages.{getD-any}
 use Rattle.lerc.specs.Meaning.{Body, empty, constant, blocks, rawBody, blockBody, bodyFrom, sweptBody, constantBody, bodySays, endOf}
 
 -- ---- behind the sweep byte

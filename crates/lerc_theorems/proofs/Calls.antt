@@ -10,12 +10,12 @@ use Rattle.lerc_words.specs.Res.{Res, ok, fail}
 use Rattle.lerc_header.specs.declared.Header.{Header}
 use Rattle.lerc_header.specs.declared.HeaderAnswer.{HeaderAnswer}
 use Rattle.lerc_header.specs.Header.{headerSays, headerSaid}
-use Rattle.lerc_planes.specs.declared.Ranges.{Ranges}
-use Rattle.lerc_planes.specs.declared.RangesRead.{RangesRead}
-use Rattle.lerc_planes.specs.declared.RangesAnswer.the-variants as ranges-answer
-use Rattle.lerc_planes.specs.declared.MaskAnswer.{MaskAnswer}
-use Rattle.lerc_planes.specs.Validity.{prepareSays, Prepared, inForce}
-use Rattle.lerc_planes.specs.Ranges.{readRangesSays, rangesSaid}
+use Rattle.lerc_ranges.specs.declared.Ranges.{Ranges}
+use Rattle.lerc_ranges.specs.declared.RangesRead.{RangesRead}
+use Rattle.lerc_ranges.specs.declared.RangesAnswer.the-variants as ranges-answer
+use Rattle.lerc_validity.specs.declared.MaskAnswer.{MaskAnswer}
+use Rattle.lerc_validity.specs.Validity.{prepareSays, Prepared, inForce}
+use Rattle.lerc_ranges.specs.Ranges.{readRangesSays, rangesSaid}
 use Rattle.lerc_image.specs.declared.WalkAnswer.{WalkAnswer}
 use Rattle.lerc_image.specs.declared.FillAnswer.{FillAnswer}
 use Rattle.lerc_image.specs.Walk.{Walked}

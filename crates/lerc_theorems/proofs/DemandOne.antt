@@ -18,5 +18,5 @@ demand-one = record {
   keeps-in-c = refusals-keep-in-c;
   refusal-empty = refusals-empty;
   writes-only = writes-only;
-  whole-writes = λ k a x n end p. whole-writes _ _ _ _ n end p;
+  whole-writes = λ k a x h n end p. whole-writes _ _ _ _ h n end p;
 }

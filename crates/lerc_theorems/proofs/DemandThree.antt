@@ -10,14 +10,14 @@ use lib.ListN.{length, getD, take}
 use borrow.Author.Tests.{le-leb}
 use Rattle.lerc_words.specs.Res.{Res, ok, _>>=_, refuse, after}
 use Rattle.lerc_words.specs.Lists.{over, total}
-use Rattle.lerc_words.proofs.Laws.{ok-is}
+use Rattle.lerc_words.proofs.Binding.{ok-is}
 use Rattle.lerc_header.specs.declared.Header.{Header}
 use Rattle.lerc_header.specs.Shape.{cells, blockCount, Shaped}
 use Rattle.lerc_header.specs.Header.{shapeOf}
 use Rattle.lerc_header.proofs.Kept.{held-shaped}
-use Rattle.lerc_planes.specs.declared.Ranges.{Ranges}
-use Rattle.lerc_planes.specs.Validity.{prepareSays}
-use Rattle.lerc_planes.proofs.ValidityLaws.{Right, prepared-right, in-force}
+use Rattle.lerc_ranges.specs.declared.Ranges.{Ranges}
+use Rattle.lerc_validity.specs.Validity.{prepareSays}
+use Rattle.lerc_validity.proofs.Prepared.{Right, prepared-right, in-force}
 use Rattle.lerc_image.specs.declared.FillAnswer.{FillAnswer}
 use Rattle.lerc_image.specs.declared.FillAnswer.the-variants as fill-answer
 use Rattle.lerc_image.specs.declared.WalkAnswer.{WalkAnswer}
@@ -30,7 +30,7 @@ use Rattle.lerc_image.specs.Walk.{Walk, walkSays, walkCount}
 use Rattle.lerc_image.specs.Tiles.{tilesSays, tilesImage}
 use Rattle.lerc_image.proofs.Partition.{block-lt}
 use Rattle.lerc_image.proofs.Chain.{chain-lengths, chain-first}
-use Rattle.lerc_image.proofs.Decoding.{getD-any}
+use Rattle.lerc_image.proofs.Stages.{getD-any}
 use Rattle.lerc_image.proofs.Painting.{length-painted, painted-cell}
 use Rattle.lerc_image.proofs.Upto.{valid-below}
 use Rattle.lerc_image.proofs.WordsSum as sums

@@ -15,20 +15,20 @@ use borrow.Author.Tests.{le-leb, le-ltb, eq-eqb}
 use Rattle.lerc_words.specs.declared.Refusal.{Refusal}
 use Rattle.lerc_words.specs.Res.{Res, ok, fail, _>>=_, accepts, after}
 use Rattle.lerc_words.specs.Lists.{over, from, tabulate}
-use Rattle.lerc_words.proofs.Laws.{bind-is, bind-fail}
+use Rattle.lerc_words.proofs.Binding.{bind-is, bind-fail}
 use Rattle.lerc_header.specs.declared.Header.{Header}
 use Rattle.lerc_header.specs.declared.Shape.{Shape}
 use Rattle.lerc_header.specs.declared.HeaderAnswer.the-variants as header-answer
 use Rattle.lerc_header.specs.Shape.{cells, maskLength, blockCount, Shaped}
 use Rattle.lerc_header.specs.Header.{shapeOf, extentOf, held}
 use Rattle.lerc_header.proofs.Kept.{header-held, held-shaped}
-use Rattle.lerc_planes.specs.declared.Ranges.{Ranges}
-use Rattle.lerc_planes.specs.declared.RangesRead.{RangesRead}
-use Rattle.lerc_planes.specs.declared.MaskAnswer.{MaskAnswer}
-use Rattle.lerc_planes.specs.declared.MaskAnswer.the-variants as mask-answer
-use Rattle.lerc_planes.specs.Validity.{InForce, bytesOf, spareWith, which as answered, prepareSays, inForce}
-use Rattle.lerc_planes.specs.Ranges.{readRangesSays, rangesSaid}
-use Rattle.lerc_planes.proofs.ValidityLaws.{prepare-found, mask-length}
+use Rattle.lerc_ranges.specs.declared.Ranges.{Ranges}
+use Rattle.lerc_ranges.specs.declared.RangesRead.{RangesRead}
+use Rattle.lerc_validity.specs.declared.MaskAnswer.{MaskAnswer}
+use Rattle.lerc_validity.specs.declared.MaskAnswer.the-variants as mask-answer
+use Rattle.lerc_validity.specs.Validity.{InForce, bytesOf, spareWith, which as answered, prepareSays, inForce}
+use Rattle.lerc_ranges.specs.Ranges.{readRangesSays, rangesSaid}
+use Rattle.lerc_validity.proofs.Prepared.{prepare-found, mask-length}
 use Rattle.lerc_image.specs.declared.WalkAnswer.{WalkAnswer}
 use Rattle.lerc_image.specs.declared.WalkAnswer.the-variants as walk-answer
 use Rattle.lerc_image.specs.Geometry.{tileSize, tileOf, cellOf, rank, isValidCell}
@@ -44,7 +44,7 @@ use Rattle.lerc.specs.declared.ReadAnswer.{ReadAnswer}
 use Rattle.lerc.specs.declared.ReadAnswer.the-variants as read-answer
 use Rattle.lerc.specs.Meaning.{blocks, Meaning, startsOf, cellWord, meaning}
 use Rattle.lerc.specs.Read.{Lent, room, masked, published, readAfter, readSaid, readCount, WholeRead}
-use Rattle.lerc.proofs.Whole.{ranges-held}
+use Rattle.lerc_ranges.proofs.Judged.{ranges-held}
 use Rattle.lerc_theorems.specs.Promises.{lent}
 use Rattle.lerc_theorems.specs.Calls.{HeaderCall, PrepareCall, HandedCall, RangesFrom, WalkCall, FillCalls, ReadCall}
 use Rattle.lerc_theorems.specs.DemandTwo.{Roomy, Exact, WalkAndFills, WalkMeans, DemandTwo}

@@ -8,30 +8,30 @@ use native.Mathlib.Omega.{arith}
 use Rattle.lerc_words.specs.declared.Refusal.{Refusal}
 use Rattle.lerc_words.specs.Res.{Res, ok, fail, _>>=_, refuse, require}
 
-pub fail-is : {A : Type 0} {n j : ℕ} → _≡_ {A = Res A} (fail (refuse n)) (fail (refuse j)) → n ≡ j
-fail-is {n = n} {j = j} e = let z : refuse n ≡ refuse j = cc in ap (λ (x : Refusal). x .number) z
+pub fail-is : {A : Type 0} {r q : Refusal} → _≡_ {A = Res A} (fail r) (fail q) → r ≡ q
+fail-is e = cc
 
 pub not-refused : {A : Type 0} {P : Type 0} {a : A} {r : Refusal} → ok a ≡ fail r → P
 not-refused e = absurd (let z : _≡_ {A = ℕ} 0 1 = cc in omega arith)
 
--- a chain is refused with j: so is its first demand, which then has this number, or that demand holds and the rest is refused with j
-module _ (P : ℕ → Type 0) {j : ℕ} where
-  pub demand : {B : Type 0} (t : Bool) (n : ℕ) (k : Bool → Res B) → (require t n >>= k) ≡ fail (refuse j) → (t ≡ false → P n) → (t ≡ true → k true ≡ fail (refuse j) → P j) → P j
+-- a chain is refused by j: so is its first demand, or that demand holds and the rest is refused by j
+module _ (P : Refusal → Type 0) {j : Refusal} where
+  pub demand : {B : Type 0} (t : Bool) (n : ℕ) (k : Bool → Res B) → (require t n >>= k) ≡ fail j → (t ≡ false → P (refuse n)) → (t ≡ true → k true ≡ fail j → P j) → P j
   demand true n k e f g = g refl e
   demand false n k e f g = subst P (fail-is e) (f refl)
 
   -- the same of a link that is itself an answer
-  pub reading : {A B : Type 0} (m : Res A) (k : A → Res B) → (m >>= k) ≡ fail (refuse j) → (m ≡ fail (refuse j) → P j) → ((a : A) → m ≡ ok a → k a ≡ fail (refuse j) → P j) → P j
+  pub reading : {A B : Type 0} (m : Res A) (k : A → Res B) → (m >>= k) ≡ fail j → (m ≡ fail j → P j) → ((a : A) → m ≡ ok a → k a ≡ fail j → P j) → P j
   reading (ok a) k e f g = g a refl e
-  reading (fail r) k e f g = let z : r ≡ refuse j = cc in f (ap fail z)
+  reading (fail r) k e f g = let z : r ≡ j = cc in f (ap fail z)
 
   -- and of one that is refused with one number only
-  pub reading-one : {A B : Type 0} (n : ℕ) (m : Res A) (k : A → Res B) → ((r : Refusal) → m ≡ fail r → r ≡ refuse n) → (m >>= k) ≡ fail (refuse j) → (m ≡ fail (refuse n) → P n)
-      → ((a : A) → m ≡ ok a → k a ≡ fail (refuse j) → P j) → P j
+  pub reading-one : {A B : Type 0} (n : ℕ) (m : Res A) (k : A → Res B) → ((r : Refusal) → m ≡ fail r → r ≡ refuse n) → (m >>= k) ≡ fail j → (m ≡ fail (refuse n) → P (refuse n))
+      → ((a : A) → m ≡ ok a → k a ≡ fail j → P j) → P j
   reading-one n (ok a) k u e f g = g a refl e
-  reading-one n (fail r) k u e f g = let z : r ≡ refuse j = cc in let y : refuse n ≡ refuse j = sym (u r refl) ∙ z in subst P (ap (λ (x : Refusal). x .number) y) (f (ap fail (u r refl)))
+  reading-one n (fail r) k u e f g = let z : r ≡ j = cc in let y : refuse n ≡ j = sym (u r refl) ∙ z in subst P y (f (ap fail (u r refl)))
 
-  pub choosing : {B : Type 0} (t : Bool) (x y : Res B) → cond t x y ≡ fail (refuse j) → (t ≡ true → x ≡ fail (refuse j) → P j) → (t ≡ false → y ≡ fail (refuse j) → P j) → P j
+  pub choosing : {B : Type 0} (t : Bool) (x y : Res B) → cond t x y ≡ fail j → (t ≡ true → x ≡ fail j → P j) → (t ≡ false → y ≡ fail j → P j) → P j
   choosing true x y e f g = f refl e
   choosing false x y e f g = g refl e
 

@@ -9,8 +9,8 @@ use Rattle.lerc_bits.proofs.Answers.{plan-same, decoded-same}
 use Rattle.lerc_text.proofs.Putting.{put-same}
 use Rattle.lerc_header.specs.declared.Header.{Header}
 use Rattle.lerc_mask.proofs.Passes.{unrolled-same}
-use Rattle.lerc_planes.specs.declared.Ranges.{Ranges}
-use Rattle.lerc_planes.proofs.ValidityLaws.{prepared-same}
+use Rattle.lerc_ranges.specs.declared.Ranges.{Ranges}
+use Rattle.lerc_validity.proofs.Prepared.{prepared-same}
 use Rattle.lerc_block.proofs.Answers.{said-same as block-same, read-same as block-read-same}
 use Rattle.lerc_image.specs.declared.WalkAnswer.{WalkAnswer}
 use Rattle.lerc_image.specs.declared.FillAnswer.{FillAnswer}
@@ -21,7 +21,7 @@ use Rattle.lerc_image.specs.Tiles.{Tiled}
 use Rattle.lerc.specs.declared.ReadAnswer.{ReadAnswer}
 use Rattle.lerc.specs.Read.{Lent, WholeRead}
 use Rattle.lerc_theorems.specs.Promises.{Answers, NoRoom, NoRoomInC}
-use Rattle.lerc_theorems.proofs.Answers.{word-same, integer-same, offset-same, sample-same, stored-same, header-same, held-same, pairs-same, way-same, walk-same, fill-same, read-same, counts-same}
+use Rattle.lerc_theorems.proofs.Answers.{block-plan-same, word-same, integer-same, offset-same, sample-same, stored-same, header-same, open-same, held-same, pairs-same, way-same, walk-same, fill-same, read-same, counts-same}
 
 -- ---- promises of an answer and of lent slices
 
@@ -57,6 +57,10 @@ no-room = record {
   peek = given (λ k a. tt) _ (λ k a r x p. p);
   bytes = given (λ k a. tt) _ (λ k a r x p. p);
   word = told (λ k a. tt) word-same _ (λ k a r x p. p);
+  copy-bytes = record { asks-nothing = λ k a. tt; same = λ k a r q x y p s. (refl, p ∙ sym s) };
+  copy-words = record { asks-nothing = λ k a. tt; same = λ k a r q x y p s. (refl, p ∙ sym s) };
+  fill-bytes = record { asks-nothing = λ k a. tt; same = λ k a r q x y p s. (refl, p ∙ sym s) };
+  fill-words = record { asks-nothing = λ k a. tt; same = λ k a r q x y p s. (refl, p ∙ sym s) };
   integer-refusal = given (λ k a. tt) _ (λ k a r x p. p);
   plus = given (λ k a. tt) _ (λ k a r x p. p);
   scale = given (λ k a. tt) _ (λ k a r x p. p);
@@ -77,12 +81,16 @@ no-room = record {
   plan-refusal = given (λ k a. tt) _ (λ k a r x p. p);
   counts-refusal = given (λ k a. tt) _ (λ k a r x p. p);
   inspect = told (λ k a. tt) plan-same _ (λ k a r x p. p);
+  decode-plan = record { asks-nothing = λ k a. tt; same = λ k a r q x y p s. decoded-same p s };
+  check-plan = told (λ k a. tt) counts-same _ (λ k a r x p. p);
   decode-counts = record { asks-nothing = λ k a. tt; same = λ k a r q x y p s. decoded-same p s };
   check-counts = told (λ k a. tt) counts-same _ (λ k a r x p. p);
   header-refusal = given (λ k a. tt) _ (λ k a r x p. p);
   held-refusal = given (λ k a. tt) _ (λ k a r x p. p);
+  open-refusal = given (λ k a. tt) _ (λ k a r x p. p);
   pair-right = given (λ k a. tt) _ (λ k a r x p. p);
   held = told (λ k a. tt) held-same _ (λ k a r x p. p);
+  open-blob = told (λ k a. tt) open-same _ (λ k a r x p. p);
   read-header = told (λ k a. tt) header-same _ (λ k a r x p. p);
   runs-refusal = given (λ k a. tt) _ (λ k a r x p. p);
   is-valid = given (λ k a. tt) _ (λ k a r x p. p);
@@ -93,12 +101,16 @@ no-room = record {
   pairs-refusal = given (λ k a. tt) _ (λ k a r x p. p);
   constants-refusal = given (λ k a. tt) _ (λ k a r x p. p);
   prepare-mask = record { asks-nothing = λ k a. tt; same = λ k a r q x y p s. prepared-same p s };
+  find-mask = record { asks-nothing = λ k a. tt; same = λ k a r q x y p s. prepared-same p s };
   mask-in-force = record { asks-nothing = λ k a. tt; same = λ k a r q x y p s. (p ∙ sym s, refl) };
   pairs = told (λ k a. tt) pairs-same _ (λ k a r x p. p);
+  ranges-in = given (λ k a. tt) _ (λ k a r x p. p);
   read-ranges = given (λ k a. tt) _ (λ k a r x p. p);
   convert = given (λ k a. tt) _ (λ k a r x p. p);
   block-refusal = given (λ k a. tt) _ (λ k a r x p. p);
-  block-end = told (λ k a. tt) block-same _ (λ k a r x p. p);
+  block-plan-refusal = given (λ k a. tt) _ (λ k a r x p. p);
+  block-plan-end = told (λ k a. tt) block-same _ (λ k a r x p. p);
+  inspect-block = told (λ k a. tt) block-plan-same _ (λ k a r x p. p);
   read-block = record { asks-nothing = λ k a. tt; same = λ k a r q x y p s. block-read-same p s };
   check-block = told (λ k a. tt) block-same _ (λ k a r x p. p);
   walk-refusal = given (λ k a. tt) _ (λ k a r x p. p);
@@ -107,6 +119,9 @@ no-room = record {
   read-sweep = told (λ k a. tt) way-same _ (λ k a r x p. p);
   walk = record { asks-nothing = λ k a. tt; same = λ k a r q x y p s. walked-same p s };
   fill = record { asks-nothing = λ k a. tt; same = λ k a r q x y p s. filled-same p s };
+  check-tiles = told (λ k a. tt) walk-same _ (λ k a r x p. p);
+  list-tiles = record { asks-nothing = λ k a. tt; same = λ k a r q x y p s. (refl, p ∙ sym s) };
+  fill-tiles = record { asks-nothing = λ k a. tt; same = λ k a r q x y p s. (refl, p ∙ sym s) };
   decode-tiles = record { asks-nothing = λ k a. tt; same = λ k a r q x y p s. tiled-same p s };
   fill-each = record { asks-nothing = λ k a. tt; same = λ k a r q x y p s. (p .says ∙ sym (s .says), p .image ∙ sym (s .image)) };
   put-line = record { asks-nothing = λ k a. tt; same = λ k a r q x y p s. put-same p s };

@@ -10,25 +10,27 @@ use native.Mathlib.Nat.{add-zero, add-suc, suc-add}
 use lib.ListN.{length, getD, take}
 use lib.Dec.{leb, ltb, eqb}
 use borrow.Author.Tests.{ltb-true, ltb-false, lt-ltb, le-ltb, leb-true, leb-false, le-leb, lt-leb, eqb-false, ne-eqb, not-true, not-false}
+use Rattle.lerc_words.specs.declared.Refusal.{Refusal}
 use Rattle.lerc_words.specs.Res.{ok, fail, refuse, wordAt}
-use Rattle.lerc_words.proofs.Laws.{bind-is, and-is, ok-is, wordAt-fails, wordAt-no}
+use Rattle.lerc_words.proofs.Binding.{bind-is, and-is, ok-is}
+use Rattle.lerc_words.proofs.Little.{wordAt-fails, wordAt-no}
 use Rattle.lerc_numeric.specs.Kinds.{typeSize}
 use Rattle.lerc_header.specs.declared.Header.{Header}
 use Rattle.lerc_header.specs.Header.{shapeOf, headerSays}
 use Rattle.lerc_header.specs.Shape.{cells, maskLength, blockCount}
-use Rattle.lerc_planes.specs.declared.Ranges.{Ranges}
-use Rattle.lerc_planes.specs.Validity.{bytesOf, maskSays}
-use Rattle.lerc_planes.specs.Ranges.{pairsRight, rangesSays, constantWords}
+use Rattle.lerc_ranges.specs.declared.Ranges.{Ranges}
+use Rattle.lerc_validity.specs.Validity.{bytesOf, maskSays}
+use Rattle.lerc_ranges.specs.Ranges.{pairsRight, rangesSays, constantWords}
 use Rattle.lerc_block.specs.Block.{Block, rawWords}
 use Rattle.lerc_image.specs.Geometry.{tileOf, tileValid}
-use Rattle.lerc_image.specs.Sweep.{Way, rawFrom, blocksFrom, hasModeByte, modeAt, moded, swept}
+use Rattle.lerc_sweep.specs.Sweep.{Way, rawFrom, blocksFrom, hasModeByte, modeAt, moded, swept}
 use Rattle.lerc_image.specs.Blocks.{Chain, blockAt, chain, allBlocks}
-use Rattle.lerc_image.specs.Walk.{walked, bodyWalked, walkSays}
+use Rattle.lerc_image.specs.Walk.{wayWalked, bodyWalked, walkSays}
 use Rattle.lerc_image.specs.Fill.{fillSays}
-use Rattle.lerc_image.specs.Tiles.{tilesSays}
+use Rattle.lerc_image.specs.Tiles.{checkedTiles, tilesSays}
 use Rattle.lerc.specs.Meaning.{rawBody, blockBody, bodyFrom, sweptBody, constantBody, bodySays, meaningFrom}
 use Rattle.lerc.specs.Read.{Lent, room, Masked, masked, readSays}
-use Rattle.lerc_theorems.specs.Table.{ModeRefused, mode-cut, mode-wrong, mode-coded, SweepRefused, sweep-cut, sweep-wrong, mode-refused, BlockAtRefused, ChainRefused, block-refused, WalkBodyRefused, walk-sweep, walk-raw, walk-blocks, WalkRoom, WalkRefused, walk-held, walk-room, walk-pairs, walk-other, walk-body, FillRoom, NoFillRoom, FillRefused, fill-held, fill-number, fill-room, fill-pairs, fill-block, TilesRefused, tiles-held, tiles-room, tiles-blocks, BodyRefused, body-ranges, body-constant, body-sweep, body-raw, body-blocks, WholeRefused, whole-header, whole-room, whole-mask, whole-body}
+use Rattle.lerc_theorems.specs.Table.{ModeRefused, mode-cut, mode-wrong, mode-coded, SweepRefused, sweep-cut, sweep-wrong, mode-refused, BlockAtRefused, ChainRefused, block-refused, WalkBodyRefused, walk-sweep, walk-raw, walk-blocks, WalkRoom, WalkRefused, walk-held, walk-room, walk-pairs, walk-other, walk-body, FillRoom, NoFillRoom, FillRefused, fill-held, fill-number, fill-room, fill-pairs, fill-block, CheckRefused, check-held, check-room, check-blocks, TilesRefused, tiles-held, tiles-room, tiles-blocks, BodyRefused, body-ranges, body-constant, body-sweep, body-raw, body-blocks, WholeRefused, whole-header, whole-room, whole-mask, whole-body}
 use Rattle.lerc_theorems.proofs.Wrong.{pairs-not, not-pairs}
 use Rattle.lerc_theorems.proofs.Wrong as wrong
 use Rattle.lerc_theorems.proofs.Demands.{fail-is, demand, reading, reading-one, choosing, not-refused, and-not, and-first, and-second}
@@ -38,7 +40,7 @@ use Rattle.lerc_theorems.proofs.Headers.{right-held, held-exactly, hold
 -- ---- sweep and mode byte
 
 module _ (s : List ℕ) where
-  mode-at : {n : ℕ} (at : ℕ) → modeAt s at ≡ fail (refuse n) → ModeRefused s at n
+  mode-at : {n : Refusal} (at : ℕ) → modeAt s at ≡ fail n → ModeRefused s at n
   unfolding modeAt
   mode-at at e =
       let P = ModeRefused s at in
@@ -47,14 +49,14 @@ module _ (s : List ℕ) where
       let l = ltb-true v 3 t in
       demand P (eqb v 0) 10 _ e (λ u. let z : v ≢ 0 = eqb-false v 0 u in mode-coded v d (omega (arith, z)) (omega arith)) (λ u e. not-refused e)))
 
-  at-mode : {n at : ℕ} → ModeRefused s at n → modeAt s at ≡ fail (refuse n)
+  at-mode : {n : Refusal} {at : ℕ} → ModeRefused s at n → modeAt s at ≡ fail n
   unfolding modeAt
   at-mode (mode-cut l) = rw (wordAt-no 1 s _ l)
   at-mode (mode-wrong v d l) = rw (d, le-ltb v 3 l)
   at-mode (mode-coded v d l u) = let a : v < 3 = omega arith in let z : v ≢ 0 = λ q. absurd (omega arith) in rw (d, lt-ltb v 3 a, ne-eqb v 0 z)
 
   module _ (kind error at : ℕ) where
-    sweep-refused : {n : ℕ} → swept s kind error at ≡ fail (refuse n) → SweepRefused s kind error at n
+    sweep-refused : {n : Refusal} → swept s kind error at ≡ fail n → SweepRefused s kind error at n
     unfolding swept moded
     sweep-refused e =
         let P = SweepRefused s kind error at in
@@ -66,25 +68,25 @@ module _ (s : List ℕ) where
         let z : v ≡ 0 = omega (arith, o) in
         choosing P (hasModeByte kind error) _ _ e (λ m e. mode-refused (rw (z) at d) m (mode-at (at + 1) e)) (λ m e. not-refused e))))
 
-    refused-sweep : {n : ℕ} → SweepRefused s kind error at n → swept s kind error at ≡ fail (refuse n)
+    refused-sweep : {n : Refusal} → SweepRefused s kind error at n → swept s kind error at ≡ fail n
     unfolding swept moded
     refused-sweep (sweep-cut l) = rw (wordAt-no 1 s at l)
     refused-sweep (sweep-wrong v d l) = rw (d, le-ltb v 2 l)
     refused-sweep (mode-refused d m r) = rw (d, m, at-mode r)
 
-    pub sweep-exactly : (n : ℕ) → (swept s kind error at ≡ fail (refuse n)) ↔ SweepRefused s kind error at n
+    pub sweep-exactly : (n : Refusal) → (swept s kind error at ≡ fail n) ↔ SweepRefused s kind error at n
     sweep-exactly n = (sweep-refused, refused-sweep)
 
 -- ---- blocks
 
 module _ (s : List ℕ) (h : Header) (maxima m : List ℕ) where
-  pub block-at-exactly : (n at j : ℕ) → (blockAt s h maxima m n at ≡ fail (refuse j)) ↔ BlockAtRefused s h maxima m n at j
+  pub block-at-exactly : (n at : ℕ) (j : Refusal) → (blockAt s h maxima m n at ≡ fail j) ↔ BlockAtRefused s h maxima m n at j
   unfolding blockAt
   block-at-exactly n at j =
       let t = tileOf (shapeOf h) n in
       block-exactly s (h .kind) (h .error) (getD maxima (t .d) 0) at (t .x) (tileValid (shapeOf h) m t) j
 
-  chain-refused : {j : ℕ} (f n at : ℕ) → chain s h maxima m f n at ≡ fail (refuse j) → ChainRefused s h maxima m f n at j
+  chain-refused : {j : Refusal} (f n at : ℕ) → chain s h maxima m f n at ≡ fail j → ChainRefused s h maxima m f n at j
   unfolding chain
   chain-refused zero n at e = not-refused e
   chain-refused {j} (suc f) n at e =
@@ -96,7 +98,7 @@ module _ (s : List ℕ) (h : Header) (maxima m : List ℕ) where
       later b d (block-refused k c l p q) =
           block-refused {j = j} (suc k) (record { starts = at ∷ c .starts; words = b .words ∷ c .words; end = c .end }) (omega arith) (rw (d, p)) (rw (add-suc) (rw (suc-add) at q))
 
-  refused-at : {j : ℕ} (f n at k : ℕ) (c : Chain) → k < f → chain s h maxima m k n at ≡ ok c → blockAt s h maxima m (n + k) (c .end) ≡ fail (refuse j) → chain s h maxima m f n at ≡ fail (refuse j)
+  refused-at : {j : Refusal} (f n at k : ℕ) (c : Chain) → k < f → chain s h maxima m k n at ≡ ok c → blockAt s h maxima m (n + k) (c .end) ≡ fail j → chain s h maxima m f n at ≡ fail j
   unfolding chain
   refused-at zero n at k c l p q = absurd (omega arith)
   refused-at (suc f) n at zero c l p q =
@@ -108,31 +110,31 @@ module _ (s : List ℕ) (h : Header) (maxima m : List ℕ) where
       let z : x .end ≡ c .end = ap (λ (y : Chain). y .end) (ok-is p) in
       rw (d, refused-at {j = j} f (suc n) (b .next) k x (omega arith) g (rw (suc-add) (rw (add-suc, ← z) at q)))
 
-  pub chain-exactly : (f n at j : ℕ) → (chain s h maxima m f n at ≡ fail (refuse j)) ↔ ChainRefused s h maxima m f n at j
+  pub chain-exactly : (f n at : ℕ) (j : Refusal) → (chain s h maxima m f n at ≡ fail j) ↔ ChainRefused s h maxima m f n at j
   chain-exactly f n at j = (chain-refused f n at, back)
     where
-      back : ChainRefused s h maxima m f n at j → chain s h maxima m f n at ≡ fail (refuse j)
+      back : ChainRefused s h maxima m f n at j → chain s h maxima m f n at ≡ fail j
       back (block-refused k c l p q) = refused-at f n at k c l p (block-at-exactly (n + k) (c .end) j .1 q)
 
 -- ---- walk
 
 module _ (s : List ℕ) (h : Header) (r : Ranges) (m : List ℕ) where
-  walk-body-refused : {n : ℕ} → bodyWalked s h (r .max) m (r .at) ≡ fail (refuse n) → WalkBodyRefused s h r m n
-  unfolding bodyWalked walked
+  walk-body-refused : {n : Refusal} → bodyWalked s h (r .max) m (r .at) ≡ fail n → WalkBodyRefused s h r m n
+  unfolding bodyWalked wayWalked
   walk-body-refused {n} e = reading (WalkBodyRefused s h r m) (swept s (h .kind) (h .error) (r .at)) _ e (λ d. walk-sweep (sweep-exactly s (h .kind) (h .error) (r .at) n .0 d)) (λ w d e. on w d e)
     where
-      on : (w : Way) → swept s (h .kind) (h .error) (r .at) ≡ ok w → walked s h (r .max) m w ≡ fail (refuse n) → WalkBodyRefused s h r m n
+      on : (w : Way) → swept s (h .kind) (h .error) (r .at) ≡ ok w → wayWalked s h (r .max) m w ≡ fail n → WalkBodyRefused s h r m n
       on (rawFrom at) d e = rw (← fail-is e) (walk-raw at d)
       on (blocksFrom at) d e = walk-blocks at d (chain-exactly s h (r .max) m (blockCount (shapeOf h)) 0 at n .0 e)
 
-  refused-walk-body : {n : ℕ} → WalkBodyRefused s h r m n → bodyWalked s h (r .max) m (r .at) ≡ fail (refuse n)
-  unfolding bodyWalked walked
+  refused-walk-body : {n : Refusal} → WalkBodyRefused s h r m n → bodyWalked s h (r .max) m (r .at) ≡ fail n
+  unfolding bodyWalked wayWalked
   refused-walk-body {n} (walk-sweep d) = rw (sweep-exactly s (h .kind) (h .error) (r .at) n .1 d)
   refused-walk-body (walk-raw at d) = rw (d)
   refused-walk-body {n} (walk-blocks at d c) = rw (d, chain-exactly s h (r .max) m (blockCount (shapeOf h)) 0 at n .1 c)
 
 module _ (b : List ℕ) (h : Header) (r : Ranges) (m : List ℕ) (entries : ℕ) where
-  walk-refused : {n : ℕ} → walkSays b h r m entries ≡ fail (refuse n) → WalkRefused b h r m entries n
+  walk-refused : {n : Refusal} → walkSays b h r m entries ≡ fail n → WalkRefused b h r m entries n
   unfolding walkSays
   walk-refused {n} e =
       let P = WalkRefused b h r m entries in
@@ -146,7 +148,7 @@ module _ (b : List ℕ) (h : Header) (r : Ranges) (m : List ℕ) (entries : ℕ)
       (λ t e. let (u, v) = and-is _ _ t in
       walk-body g k p (λ z. absurd (let w = ltb-true 0 (h .valid) u in omega arith)) (not-true _ v) (walk-body-refused (take (h .size) b) h r m e)))))
 
-  refused-walk : {n : ℕ} → WalkRefused b h r m entries n → walkSays b h r m entries ≡ fail (refuse n)
+  refused-walk : {n : Refusal} → WalkRefused b h r m entries n → walkSays b h r m entries ≡ fail n
   unfolding walkSays
   refused-walk {n} (walk-held d) = rw (held-exactly h (length b) n .1 d)
   refused-walk (walk-room g s) =
@@ -164,7 +166,7 @@ module _ (b : List ℕ) (h : Header) (r : Ranges) (m : List ℕ) (entries : ℕ)
       let z : 0 < h .valid = omega (arith, v) in
       rw (right-held h (length b) g, le-leb _ _ (k .mask), le-leb _ _ (k .list), p, lt-ltb 0 (h .valid) z, c, refused-walk-body (take (h .size) b) h r m w)
 
-  pub walk-exactly : (n : ℕ) → (walkSays b h r m entries ≡ fail (refuse n)) ↔ WalkRefused b h r m entries n
+  pub walk-exactly : (n : Refusal) → (walkSays b h r m entries ≡ fail n) ↔ WalkRefused b h r m entries n
   walk-exactly n = (walk-refused, refused-walk)
 
 -- ---- fill, and all blocks at once
@@ -193,7 +195,7 @@ module _ (h : Header) (m : List ℕ) (entries words : ℕ) where
   not-room (inr (inr u)) = and-second (leb (maskLength (shapeOf h)) (length m) && leb (blockCount (shapeOf h)) entries) _ (lt-leb _ _ u)
 
 module _ (b : List ℕ) (h : Header) (r : Ranges) (m list : List ℕ) (n words : ℕ) where
-  fill-refused : {j : ℕ} → fillSays b h r m list n words ≡ fail (refuse j) → FillRefused b h r m list n words j
+  fill-refused : {j : Refusal} → fillSays b h r m list n words ≡ fail j → FillRefused b h r m list n words j
   unfolding fillSays
   fill-refused {j} e =
       let P = FillRefused b h r m list n words in
@@ -204,7 +206,7 @@ module _ (b : List ℕ) (h : Header) (r : Ranges) (m list : List ℕ) (n words :
       let k = room-is h m (length list) words u in
       demand P (pairsRight (h .depth) r) 7 _ e (λ p. fill-pairs g l k (pairs-not (h .depth) r p)) (λ p e. fill-block g l k p (block-at-exactly (take (h .size) b) h (r .max) m n (getD list n 0) j .0 e)))))
 
-  refused-fill : {j : ℕ} → FillRefused b h r m list n words j → fillSays b h r m list n words ≡ fail (refuse j)
+  refused-fill : {j : Refusal} → FillRefused b h r m list n words j → fillSays b h r m list n words ≡ fail j
   unfolding fillSays
   refused-fill {j} (fill-held d) = rw (held-exactly h (length b) j .1 d)
   refused-fill (fill-number g l) = rw (right-held h (length b) g, le-ltb _ _ l)
@@ -213,11 +215,29 @@ module _ (b : List ℕ) (h : Header) (r : Ranges) (m list : List ℕ) (n words :
   refused-fill {j} (fill-block g l k p e) =
       rw (right-held h (length b) g, lt-ltb _ _ l, is-room h m (length list) words k, p) (block-at-exactly (take (h .size) b) h (r .max) m n (getD list n 0) j .1 e)
 
-  pub fill-exactly : (j : ℕ) → (fillSays b h r m list n words ≡ fail (refuse j)) ↔ FillRefused b h r m list n words j
+  pub fill-exactly : (j : Refusal) → (fillSays b h r m list n words ≡ fail j) ↔ FillRefused b h r m list n words j
   fill-exactly j = (fill-refused, refused-fill)
 
+module _ (b : List ℕ) (h : Header) (m maxima : List ℕ) (at : ℕ) where
+  check-refused : {j : Refusal} → checkedTiles b h m maxima at ≡ fail j → CheckRefused b h m maxima at j
+  unfolding checkedTiles
+  check-refused {j} e =
+      let P = CheckRefused b h m maxima at in
+      holding h (length b) P _ e (λ d. check-held d) (λ g e.
+      demand P (leb (maskLength (shapeOf h)) (length m)) 5 _ e (λ u. check-room g (leb-false _ _ u)) (λ u e.
+      check-blocks g (leb-true _ _ u) (chain-exactly (take (h .size) b) h maxima m (blockCount (shapeOf h)) 0 at j .0 e)))
+
+  refused-check : {j : Refusal} → CheckRefused b h m maxima at j → checkedTiles b h m maxima at ≡ fail j
+  unfolding checkedTiles
+  refused-check {j} (check-held d) = rw (held-exactly h (length b) j .1 d)
+  refused-check (check-room g u) = rw (right-held h (length b) g, lt-leb _ _ u)
+  refused-check {j} (check-blocks g k c) = rw (right-held h (length b) g, le-leb _ _ k) (chain-exactly (take (h .size) b) h maxima m (blockCount (shapeOf h)) 0 at j .1 c)
+
+  pub check-exactly : (j : Refusal) → (checkedTiles b h m maxima at ≡ fail j) ↔ CheckRefused b h m maxima at j
+  check-exactly j = (check-refused, refused-check)
+
 module _ (b : List ℕ) (h : Header) (m maxima : List ℕ) (at entries words : ℕ) where
-  tiles-refused : {j : ℕ} → tilesSays b h m maxima at entries words ≡ fail (refuse j) → TilesRefused b h m maxima at entries words j
+  tiles-refused : {j : Refusal} → tilesSays b h m maxima at entries words ≡ fail j → TilesRefused b h m maxima at entries words j
   unfolding tilesSays
   tiles-refused {j} e =
       let P = TilesRefused b h m maxima at entries words in
@@ -225,20 +245,20 @@ module _ (b : List ℕ) (h : Header) (m maxima : List ℕ) (at entries words : �
       demand P (fillRoom h m entries words) 5 _ e (λ u. tiles-room g (room-not h m entries words u)) (λ u e.
       tiles-blocks g (room-is h m entries words u) (chain-exactly (take (h .size) b) h maxima m (blockCount (shapeOf h)) 0 at j .0 e)))
 
-  refused-tiles : {j : ℕ} → TilesRefused b h m maxima at entries words j → tilesSays b h m maxima at entries words ≡ fail (refuse j)
+  refused-tiles : {j : Refusal} → TilesRefused b h m maxima at entries words j → tilesSays b h m maxima at entries words ≡ fail j
   unfolding tilesSays
   refused-tiles {j} (tiles-held d) = rw (held-exactly h (length b) j .1 d)
   refused-tiles (tiles-room g u) = rw (right-held h (length b) g, not-room h m entries words u)
   refused-tiles {j} (tiles-blocks g k c) = rw (right-held h (length b) g, is-room h m entries words k) (chain-exactly (take (h .size) b) h maxima m (blockCount (shapeOf h)) 0 at j .1 c)
 
-  pub tiles-exactly : (j : ℕ) → (tilesSays b h m maxima at entries words ≡ fail (refuse j)) ↔ TilesRefused b h m maxima at entries words j
+  pub tiles-exactly : (j : Refusal) → (tilesSays b h m maxima at entries words ≡ fail j) ↔ TilesRefused b h m maxima at entries words j
   tiles-exactly j = (tiles-refused, refused-tiles)
 
 -- ---- whole read
 
 module _ (s : List ℕ) (h : Header) (m : List ℕ) where
   -- behind the ranges
-  rest-refused : {n : ℕ} (r : Ranges) → h .valid ≢ 0 → rangesSays s h ≡ ok r → cond (r .constant) (constantBody h r) (sweptBody s h r m) ≡ fail (refuse n) → BodyRefused s h m n
+  rest-refused : {n : Refusal} (r : Ranges) → h .valid ≢ 0 → rangesSays s h ≡ ok r → cond (r .constant) (constantBody h r) (sweptBody s h r m) ≡ fail n → BodyRefused s h m n
   unfolding constantBody sweptBody rawBody rawWords blockBody
   rest-refused {n} r v d e =
       let P = BodyRefused s h m in
@@ -246,7 +266,7 @@ module _ (s : List ℕ) (h : Header) (m : List ℕ) where
       (λ c e. reading P (constantWords (h .depth) (h .kind) (r .min)) _ e (λ w. body-constant r v d c (constants-exactly (h .depth) (h .kind) (r .min) n .0 w)) (λ ws w e. not-refused e))
       (λ c e. reading P (swept s (h .kind) (h .error) (r .at)) _ e (λ w. body-sweep r v d c (sweep-exactly s (h .kind) (h .error) (r .at) n .0 w)) (λ w q e. on c w q e))
     where
-      on : r .constant ≡ false → (w : Way) → swept s (h .kind) (h .error) (r .at) ≡ ok w → bodyFrom s h r m w ≡ fail (refuse n) → BodyRefused s h m n
+      on : r .constant ≡ false → (w : Way) → swept s (h .kind) (h .error) (r .at) ≡ ok w → bodyFrom s h r m w ≡ fail n → BodyRefused s h m n
       on c (rawFrom at) q e =
           let P = BodyRefused s h m in
           let t = leb (at + h .valid * h .depth * typeSize (h .kind)) (length s) in
@@ -254,7 +274,7 @@ module _ (s : List ℕ) (h : Header) (m : List ℕ) where
       on c (blocksFrom at) q e =
           reading (BodyRefused s h m) (allBlocks s h (r .max) m at) _ e (λ w. body-blocks r at v d c q (chain-exactly s h (r .max) m (blockCount (shapeOf h)) 0 at n .0 w)) (λ k w e. not-refused e)
 
-  body-refused : {n : ℕ} → bodySays s h m ≡ fail (refuse n) → BodyRefused s h m n
+  body-refused : {n : Refusal} → bodySays s h m ≡ fail n → BodyRefused s h m n
   unfolding bodySays
   body-refused {n} e =
       let P = BodyRefused s h m in
@@ -262,7 +282,7 @@ module _ (s : List ℕ) (h : Header) (m : List ℕ) where
       let v = eqb-false (h .valid) 0 t in
       reading P (rangesSays s h) _ e (λ d. body-ranges v (ranges-exactly s h n .0 d)) (λ r d e. rest-refused r v d e))
 
-  refused-body : {n : ℕ} → BodyRefused s h m n → bodySays s h m ≡ fail (refuse n)
+  refused-body : {n : Refusal} → BodyRefused s h m n → bodySays s h m ≡ fail n
   unfolding bodySays constantBody sweptBody rawBody rawWords blockBody
   refused-body {n} (body-ranges v d) = rw (ne-eqb _ _ v, ranges-exactly s h n .1 d)
   refused-body {n} (body-constant r v d c w) = rw (ne-eqb _ _ v, d, c, constants-exactly (h .depth) (h .kind) (r .min) n .1 w)
@@ -270,11 +290,11 @@ module _ (s : List ℕ) (h : Header) (m : List ℕ) where
   refused-body (body-raw r at v d c w l) = rw (ne-eqb _ _ v, d, c, w, lt-leb _ _ l)
   refused-body {n} (body-blocks r at v d c w k) = rw (ne-eqb _ _ v, d, c, w, chain-exactly s h (r .max) m (blockCount (shapeOf h)) 0 at n .1 k)
 
-  pub body-exactly : (n : ℕ) → (bodySays s h m ≡ fail (refuse n)) ↔ BodyRefused s h m n
+  pub body-exactly : (n : Refusal) → (bodySays s h m ≡ fail n) ↔ BodyRefused s h m n
   body-exactly n = (body-refused, refused-body)
 
 module _ (b : List ℕ) (reuse : Bool) (l : Lent) where
-  masked-refused : {n : ℕ} → masked b reuse l ≡ fail (refuse n) → WholeRefused b reuse l n
+  masked-refused : {n : Refusal} → masked b reuse l ≡ fail n → WholeRefused b reuse l n
   unfolding masked
   masked-refused {n} e =
       let P = WholeRefused b reuse l in
@@ -283,23 +303,23 @@ module _ (b : List ℕ) (reuse : Bool) (l : Lent) where
       reading P (maskSays (take (h .size) b) h reuse (l .kept)) _ e
       (λ q. let (z, w) = mask-exactly (take (h .size) b) h reuse (l .kept) n .0 q in rw (z) (whole-mask h d t w)) (λ m q e. not-refused e)))
 
-  whole-refused : {n : ℕ} → readSays b reuse l ≡ fail (refuse n) → WholeRefused b reuse l n
+  whole-refused : {n : Refusal} → readSays b reuse l ≡ fail n → WholeRefused b reuse l n
   unfolding readSays meaningFrom
   whole-refused {n} e =
       let P = WholeRefused b reuse l in
       reading P (masked b reuse l) _ e masked-refused (λ k d e.
       reading P (bodySays (take (k .header .size) b) (k .header) (bytesOf (k .mask))) _ e (λ q. whole-body k d (body-exactly (take (k .header .size) b) (k .header) (bytesOf (k .mask)) n .0 q)) (λ y q e. not-refused e))
 
-  refused-behind : {n : ℕ} (k : Masked) → masked b reuse l ≡ ok k → BodyRefused (take (k .header .size) b) (k .header) (bytesOf (k .mask)) n → readSays b reuse l ≡ fail (refuse n)
+  refused-behind : {n : Refusal} (k : Masked) → masked b reuse l ≡ ok k → BodyRefused (take (k .header .size) b) (k .header) (bytesOf (k .mask)) n → readSays b reuse l ≡ fail n
   unfolding readSays meaningFrom
   refused-behind {n} k d w = rw (d, body-exactly (take (k .header .size) b) (k .header) (bytesOf (k .mask)) n .1 w)
 
-  refused-whole : {n : ℕ} → WholeRefused b reuse l n → readSays b reuse l ≡ fail (refuse n)
+  refused-whole : {n : Refusal} → WholeRefused b reuse l n → readSays b reuse l ≡ fail n
   unfolding readSays masked meaningFrom
   refused-whole {n} (whole-header d) = rw (header-exactly b n .1 d)
   refused-whole (whole-room h d t) = rw (d, wrong.not-room h l t)
-  refused-whole (whole-mask h d t w) = rw (d, t, mask-exactly (take (h .size) b) h reuse (l .kept) 6 .1 (refl, w))
+  refused-whole (whole-mask h d t w) = rw (d, t, mask-exactly (take (h .size) b) h reuse (l .kept) (refuse 6) .1 (refl, w))
   refused-whole (whole-body k d w) = refused-behind k d w
 
-  pub whole-exactly : (n : ℕ) → (readSays b reuse l ≡ fail (refuse n)) ↔ WholeRefused b reuse l n
+  pub whole-exactly : (n : Refusal) → (readSays b reuse l ≡ fail n) ↔ WholeRefused b reuse l n
   whole-exactly n = (whole-refused, refused-whole)

@@ -18,13 +18,13 @@ use Rattle.lerc_mask.specs.Mask.{pixelValid}
 use Rattle.lerc_header.specs.declared.Header.{Header}
 use Rattle.lerc_header.specs.Shape.{strips}
 use Rattle.lerc_header.specs.Header.{errorRight, pairRight, fieldsRight, withinCeilings, held, keyRight, headerOf, headerSays}
-use Rattle.lerc_planes.specs.declared.Ranges.{Ranges}
-use Rattle.lerc_planes.specs.Validity.{new, uniform, maskSays}
-use Rattle.lerc_planes.specs.Ranges.{numberAt, byDepth, codedRanges, pairsRight, rangesSays, readRangesSays, rangesSaid}
+use Rattle.lerc_ranges.specs.declared.Ranges.{Ranges}
+use Rattle.lerc_validity.specs.Validity.{new, uniform, maskSays}
+use Rattle.lerc_ranges.specs.Ranges.{numberAt, byDepth, codedRanges, pairsRight, rangesSays, readRangesSays, rangesSaid}
 use Rattle.lerc_block.specs.Block.{levelBlock, offsetAt, finiteOffset, offsetBlock, formed, flagAt, blockSays}
 use Rattle.lerc_image.specs.Geometry.{tileOf, pixelOf, blockOf, placeIn, rank, isValidCell}
 use Rattle.lerc_image.specs.Paint.{painted, inBlock, indexOf}
-use Rattle.lerc_image.specs.Sweep.{moded, swept}
+use Rattle.lerc_sweep.specs.Sweep.{moded, swept}
 use Rattle.lerc_image.specs.Blocks.{blockAt, chain}
 use Rattle.lerc_image.specs.declared.FillAnswer.{FillAnswer}
 use Rattle.lerc_image.specs.declared.FillAnswer.the-variants as fill-answer

@@ -12,25 +12,25 @@ use lib.Dec.{leb, ltb}
 use borrow.Author.Tests.{le-leb, lt-ltb, le-ltb, leb-true, ltb-true}
 use Rattle.lerc_words.specs.Res.{ok, fail, refuse, require}
 use Rattle.lerc_words.specs.Lists.{over, total}
-use Rattle.lerc_words.proofs.Laws.{bind-is, require-is, and-is, ok-is}
+use Rattle.lerc_words.proofs.Binding.{bind-is, require-is, and-is, ok-is}
 use Rattle.lerc_header.specs.declared.Header.{Header}
 use Rattle.lerc_header.specs.Shape.{cells, blockCount, maskLength, Shaped}
 use Rattle.lerc_header.specs.Header.{shapeOf, extentOf, held}
 use Rattle.lerc_header.proofs.Kept.{held-is, held-shaped}
-use Rattle.lerc_planes.specs.declared.Ranges.{Ranges}
-use Rattle.lerc_planes.specs.Validity.{InForce, bytesOf}
-use Rattle.lerc_planes.specs.Ranges.{pairsRight, readRangesSays}
-use Rattle.lerc_image.specs.Paint.{filled, fills}
-use Rattle.lerc_image.specs.Sweep.{Way, rawFrom, blocksFrom, swept}
+use Rattle.lerc_ranges.specs.declared.Ranges.{Ranges}
+use Rattle.lerc_validity.specs.Validity.{InForce, bytesOf}
+use Rattle.lerc_ranges.specs.Ranges.{pairsRight, readRangesSays}
+use Rattle.lerc_image.specs.Paint.{filledBlock, fills}
+use Rattle.lerc_sweep.specs.Sweep.{Way, rawFrom, blocksFrom, swept}
 use Rattle.lerc_image.specs.Blocks.{Chain, blockAt, allBlocks}
 use Rattle.lerc_image.specs.Fill.{fillSays, fillImage}
-use Rattle.lerc_image.specs.Walk.{walked, bodyWalked, walkSays, walkList}
+use Rattle.lerc_image.specs.Walk.{wayWalked, bodyWalked, walkSays, walkList}
 use Rattle.lerc_image.proofs.Chain.{chain-block, chain-lengths}
-use Rattle.lerc_image.proofs.Decoding.{getD-any}
+use Rattle.lerc_image.proofs.Stages.{getD-any}
 use Rattle.lerc_fills.specs.Each.{one, filledOf, fillEach}
 use Rattle.lerc_fills.proofs.Turns.{length-fill}
 use Rattle.lerc.specs.Meaning.{blocks, bodySays, meaning}
-use Rattle.lerc.proofs.Whole.{ranges-held}
+use Rattle.lerc_ranges.proofs.Judged.{ranges-held}
 use Rattle.lerc_theorems.specs.DemandThree.{below}
 use Rattle.lerc_theorems.proofs.Bodies.{coded-is, coded-says}
 use Rattle.lerc_theorems.proofs.Meanings.{meaning-is, keeps, pairs-kept, mask-kept}
@@ -50,8 +50,8 @@ pub record Walking (b : List ℕ) (h : Header) (r : Ranges) (m : List ℕ) (entr
 
 module _ (s : List ℕ) (h : Header) (maxima m : List ℕ) (c : Chain) where
   -- the sweep byte announced blocks
-  way-is : (w : Way) → walked s h maxima m w ≡ ok c → (from : ℕ) × (w ≡ blocksFrom from) × (allBlocks s h maxima m from ≡ ok c)
-  unfolding walked
+  way-is : (w : Way) → wayWalked s h maxima m w ≡ ok c → (from : ℕ) × (w ≡ blocksFrom from) × (allBlocks s h maxima m from ≡ ok c)
+  unfolding wayWalked
   way-is (rawFrom at) e = absurd (let z : _≡_ {A = ℕ} 0 1 = cc in omega arith)
   way-is (blocksFrom at) e = (at, refl, e)
 
@@ -98,7 +98,7 @@ walked-body b h r m entries c w e =
     is-false true q = absurd (let z : _≡_ {A = ℕ} 0 1 = cc in omega arith)
     is-false false q = refl
 
--- a body in blocks is walked, with the ranges that it has
+-- a body in blocks is wayWalked, with the ranges that it has
 pub means-walking : (b : List ℕ) (reuse : Bool) (kept : List ℕ) (h : Header) (f : InForce) (c : Chain) → meaning b reuse kept ≡ ok (record { header = h; mask = f; body = blocks c })
     → maskLength (shapeOf h) ≤ length kept → (r : Ranges) → readRangesSays b h ≡ ok r → (entries : ℕ) → blockCount (shapeOf h) ≤ entries → Walking b h r (bytesOf f) entries c
 means-walking b reuse kept h f c e l r q entries room =
@@ -124,7 +124,7 @@ means-walking b reuse kept h f c e l r q entries room =
     pos (suc n) q = omega arith
 
 pub walking-says : (b : List ℕ) (h : Header) (r : Ranges) (m : List ℕ) (entries : ℕ) (c : Chain) → Walking b h r m entries c → walkSays b h r m entries ≡ ok c
-unfolding walkSays bodyWalked walked
+unfolding walkSays bodyWalked wayWalked
 walking-says b h r m entries c w = rw (w .kept, le-leb _ _ (w .mask), le-leb _ _ (w .list), w .pairs, lt-ltb _ _ (w .some), w .coded, w .sweep) (w .blocks)
 
 -- ---- fills with its header, ranges, mask and list
@@ -155,11 +155,11 @@ module _ (b : List ℕ) (h : Header) (r : Ranges) (m : List ℕ) (entries : ℕ)
     fill-no n room l = rw (w .kept, le-ltb n (blockCount (shapeOf h)) l)
 
     -- one fill
-    pub image-is : (n : ℕ) (image : List ℕ) → cells (shapeOf h) ≤ length image → fillImage b h r m list n image ≡ filled (shapeOf h) m wordsOf n image
+    pub image-is : (n : ℕ) (image : List ℕ) → cells (shapeOf h) ≤ length image → fillImage b h r m list n image ≡ filledBlock (shapeOf h) m wordsOf n image
     unfolding fillImage
     image-is n image q = go (decLt n (blockCount (shapeOf h)))
       where
-        go : Dec (n < blockCount (shapeOf h)) → fillImage b h r m list n image ≡ filled (shapeOf h) m wordsOf n image
+        go : Dec (n < blockCount (shapeOf h)) → fillImage b h r m list n image ≡ filledBlock (shapeOf h) m wordsOf n image
         go (yes l) = rw (fill-ok n (length image) l q, lt-ltb n (blockCount (shapeOf h)) l)
         go (no l) = rw (fill-no n (length image) (omega arith), le-ltb n (blockCount (shapeOf h)) (omega arith))
 

@@ -12,7 +12,8 @@ use lib.Dec.{leb, ltb, eqb}
 use borrow.Author.Tests.{le-leb, ltb-true, eqb-false}
 use Rattle.lerc_words.specs.Res.{ok, _>>=_, require, each, little, wordAt}
 use Rattle.lerc_words.specs.Lists.{tabulate}
-use Rattle.lerc_words.proofs.Laws.{Stays, bind-is, require-is, ok-is, little-same, wordAt-is, wordAt-ok}
+use Rattle.lerc_words.proofs.Binding.{bind-is, require-is, ok-is}
+use Rattle.lerc_words.proofs.Little.{Stays, little-same, wordAt-is, wordAt-ok}
 use Rattle.lerc_words.proofs.Tables.{tabulate-same}
 use Rattle.lerc_numeric.specs.Numeric.{same}
 use Rattle.lerc_numeric.specs.Kinds.{typeSize, valueOf}
@@ -27,10 +28,10 @@ use Rattle.lerc_header.specs.declared.Header.{Header}
 use Rattle.lerc_header.specs.Limits.{depthLimit}
 use Rattle.lerc_header.specs.Shape.{pixels, blockCount}
 use Rattle.lerc_header.specs.Header.{shapeOf, headerBytes, rangesAt}
-use Rattle.lerc_planes.specs.declared.Ranges.{Ranges}
-use Rattle.lerc_planes.specs.Validity.{uniform, kept, unrolled, maskSays}
-use Rattle.lerc_planes.specs.Ranges.{uniformRanges, numberAt, byDepth, maximaAt, rangesEnd, codedRanges, pairsRight, rangesSays, constantWords}
-use Rattle.lerc_image.specs.Sweep.{Way, rawFrom, blocksFrom, hasModeByte, modeAt, moded, swept}
+use Rattle.lerc_ranges.specs.declared.Ranges.{Ranges}
+use Rattle.lerc_validity.specs.Validity.{uniform, kept, unrolled, maskSays}
+use Rattle.lerc_ranges.specs.Ranges.{uniformRanges, numberAt, byDepth, maximaAt, rangesEnd, codedRanges, pairsRight, rangesSays, constantWords}
+use Rattle.lerc_sweep.specs.Sweep.{Way, rawFrom, blocksFrom, hasModeByte, modeAt, moded, swept}
 use Rattle.lerc_image.specs.Blocks.{Chain, blockAt, chain, allBlocks}
 use Rattle.lerc_image.proofs.Chain.{chain-none, chain-front, chain-parts}
 use Rattle.lerc.specs.Meaning.{Body, empty, rawBody, blockBody, bodyFrom, sweptBody, constantBody, bodySays, endOf}

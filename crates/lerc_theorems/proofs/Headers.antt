@@ -9,19 +9,21 @@ use native.Mathlib.Omega.{arith}
 use lib.ListN.{length, take, drop}
 use lib.Dec.{leb, eqb}
 use borrow.Author.Tests.{leb-true, leb-false, le-leb, lt-leb, eqb-true, eqb-false, eq-eqb, ne-eqb}
+use Rattle.lerc_words.specs.declared.Refusal.{Refusal}
 use Rattle.lerc_words.specs.Res.{Res, ok, fail, _>>=_, refuse, require}
-use Rattle.lerc_words.proofs.Laws.{bind-is, require-is, and-is}
+use Rattle.lerc_words.proofs.Binding.{bind-is, require-is, and-is}
 use Rattle.lerc_numeric.specs.Numeric.{same}
 use Rattle.lerc_header.specs.declared.Header.{Header}
 use Rattle.lerc_header.specs.declared.Extent.{Extent}
-use Rattle.lerc_header.specs.Header.{headerBytes, shapeOf, extentOf, fieldsRight, withinCeilings, keyRight, headerOf, held, headerSays}
+use Rattle.lerc_header.specs.Limits.{depthLimit}
+use Rattle.lerc_header.specs.Header.{headerBytes, rangesAt, shapeOf, extentOf, fieldsRight, withinCeilings, keyRight, headerOf, held, headerSays}
 use Rattle.lerc_header.specs.Shape.{pixels, maskLength}
 use Rattle.lerc_header.proofs.Kept.{held-is}
 use Rattle.lerc_mask.specs.Mask.{validBelow, coded}
 use Rattle.lerc_mask.proofs.Runs.{coded-six}
-use Rattle.lerc_planes.specs.Validity.{uniform, kept, unrolled, maskSays, prepareSays}
-use Rattle.lerc_planes.specs.Ranges.{rangesEnd, codedRanges, pairsRight, rangesSays, readRangesSays}
-use Rattle.lerc_theorems.specs.Table.{HeldRight, HeldRefused, field-wrong, ceiling-passed, blob-cut, HeaderRefused, header-cut, key-wrong, not-held, Uniform, MaskWrong, uniform-coded, not-allowed, miscounted, runs-wrong, PrepareRefused, mask-held, mask-room, mask-wrong, RangesRefused, ranges-cut, pairs-wrong, ReadRangesRefused, ranges-held, ranges-wrong}
+use Rattle.lerc_validity.specs.Validity.{uniform, kept, unrolled, maskSays, findSays, prepareSays}
+use Rattle.lerc_ranges.specs.Ranges.{rangesEnd, codedRanges, pairsRight, rangesSays, rangesInSays, readRangesSays}
+use Rattle.lerc_theorems.specs.Table.{HeldRight, HeldRefused, field-wrong, ceiling-passed, blob-cut, HeaderRefused, header-cut, key-wrong, not-held, Uniform, MaskWrong, uniform-coded, not-allowed, miscounted, runs-wrong, FindRefused, find-room, section-cut, find-wrong, PrepareRefused, mask-held, mask-room, mask-wrong, RangesRefused, ranges-cut, pairs-wrong, RangesInRefused, depths-many, ranges-not-in, ReadRangesRefused, ranges-held, ranges-wrong}
 use Rattle.lerc_theorems.proofs.Masks.{coded-wrong, wrong-coded}
 use Rattle.lerc_theorems.proofs.Wrong.{pairs-not, not-pairs, fields-not, not-fields, ceilings-not, not-ceilings}
 use Rattle.lerc_theorems.proofs.Demands.{demand, reading, reading-one, choosing, not-refused, and-not, and-first, and-second}
@@ -40,7 +42,7 @@ module _ (h : Header) (len : ℕ) where
       let (_, r, e) = bind-is (require (leb (h .size) len) 1) _ e in
       record { fields = require-is _ 3 p; ceilings = require-is _ 4 q; whole = leb-true _ _ (require-is _ 1 r) }
 
-  held-refused : {n : ℕ} → held h len ≡ fail (refuse n) → HeldRefused h len n
+  held-refused : {n : Refusal} → held h len ≡ fail n → HeldRefused h len n
   unfolding held
   held-refused e =
       let P = HeldRefused h len in
@@ -48,21 +50,21 @@ module _ (h : Header) (len : ℕ) where
       demand P (withinCeilings h) 4 _ e (λ t. ceiling-passed f (ceilings-not h t)) (λ c e.
       demand P (leb (h .size) len) 1 _ e (λ t. blob-cut f c (leb-false _ _ t)) (λ t e. not-refused e)))
 
-  refused-held : {n : ℕ} → HeldRefused h len n → held h len ≡ fail (refuse n)
+  refused-held : {n : Refusal} → HeldRefused h len n → held h len ≡ fail n
   unfolding held
   refused-held (field-wrong f) = rw (not-fields h f)
   refused-held (ceiling-passed f c) = rw (f, not-ceilings h c)
   refused-held (blob-cut f c l) = rw (f, c, lt-leb _ _ l)
 
-  pub held-exactly : (n : ℕ) → (held h len ≡ fail (refuse n)) ↔ HeldRefused h len n
+  pub held-exactly : (n : Refusal) → (held h len ≡ fail n) ↔ HeldRefused h len n
   held-exactly n = (held-refused, refused-held)
 
   -- a chain that begins by holding a header is refused: so is the header, or it is right and the rest is refused
-  pub holding : (P : ℕ → Type 0) {j : ℕ} {B : Type 0} (k : Extent → Res B) → (held h len >>= k) ≡ fail (refuse j) → (HeldRefused h len j → P j) → (HeldRight h len → k (extentOf h) ≡ fail (refuse j) → P j) → P j
-  holding P {j} k e f g = reading P (held h len) k e (λ d. f (held-refused d)) (λ x d e. g (held-right d) (subst (λ y. k y ≡ fail (refuse j)) (held-is h len d) e))
+  pub holding : (P : Refusal → Type 0) {j : Refusal} {B : Type 0} (k : Extent → Res B) → (held h len >>= k) ≡ fail j → (HeldRefused h len j → P j) → (HeldRight h len → k (extentOf h) ≡ fail j → P j) → P j
+  holding P {j} k e f g = reading P (held h len) k e (λ d. f (held-refused d)) (λ x d e. g (held-right d) (subst (λ y. k y ≡ fail j) (held-is h len d) e))
 
 module _ (b : List ℕ) where
-  header-refused : {n : ℕ} → headerSays b ≡ fail (refuse n) → HeaderRefused b n
+  header-refused : {n : Refusal} → headerSays b ≡ fail n → HeaderRefused b n
   unfolding headerSays
   header-refused e =
       let P = HeaderRefused b in
@@ -70,13 +72,13 @@ module _ (b : List ℕ) where
       demand P (keyRight b) 2 _ e (key-wrong (leb-true _ _ l)) (λ k e.
       reading P (held (headerOf b) (length b)) _ e (λ d. not-held (leb-true _ _ l) k (held-refused (headerOf b) (length b) d)) (λ x d e. not-refused e)))
 
-  refused-header : {n : ℕ} → HeaderRefused b n → headerSays b ≡ fail (refuse n)
+  refused-header : {n : Refusal} → HeaderRefused b n → headerSays b ≡ fail n
   unfolding headerSays
   refused-header (header-cut l) = rw (lt-leb _ _ l)
   refused-header (key-wrong l k) = rw (le-leb _ _ l, k)
   refused-header (not-held l k r) = rw (le-leb _ _ l, k, refused-held (headerOf b) (length b) r)
 
-  pub header-exactly : (n : ℕ) → (headerSays b ≡ fail (refuse n)) ↔ HeaderRefused b n
+  pub header-exactly : (n : Refusal) → (headerSays b ≡ fail n) ↔ HeaderRefused b n
   header-exactly n = (header-refused, refused-header)
 
 -- ---- the mask
@@ -89,26 +91,26 @@ pick false false z p q v = absurd (⊎-elim (λ e. let n : _≡_ {A = ℕ} 0 1 =
 
 module _ (s : List ℕ) (h : Header) (reuse : Bool) (old : List ℕ) where
   -- "Any breach is 6."
-  abbrev Wrong : ℕ → Type 0
-  Wrong n = (n ≡ 6) × MaskWrong s h reuse old
+  abbrev Wrong : Refusal → Type 0
+  Wrong n = (n ≡ refuse 6) × MaskWrong s h reuse old
 
-  uniform-refused : {n : ℕ} (byte : ℕ) → Uniform h → uniform h byte ≡ fail (refuse n) → Wrong n
+  uniform-refused : {n : Refusal} (byte : ℕ) → Uniform h → uniform h byte ≡ fail n → Wrong n
   unfolding uniform
   uniform-refused byte v e = demand Wrong (eqb (h .mask) 0) 6 _ e (λ t. (refl, uniform-coded v (eqb-false _ _ t))) (λ t e. not-refused e)
 
-  kept-refused : {n : ℕ} → (Uniform h → ⊥) → h .mask ≡ 0 → kept h reuse old ≡ fail (refuse n) → Wrong n
+  kept-refused : {n : Refusal} → (Uniform h → ⊥) → h .mask ≡ 0 → kept h reuse old ≡ fail n → Wrong n
   unfolding kept
   kept-refused u z e =
       demand Wrong reuse 6 _ e (λ t. (refl, not-allowed u z t)) (λ a e.
       demand Wrong (eqb (validBelow (pixels (shapeOf h)) (take (maskLength (shapeOf h)) old)) (h .valid)) 6 _ e (λ t. (refl, miscounted u z a (eqb-false _ _ t))) (λ t e. not-refused e))
 
-  unrolled-refused : {n : ℕ} → (Uniform h → ⊥) → h .mask ≢ 0 → unrolled s h ≡ fail (refuse n) → Wrong n
+  unrolled-refused : {n : Refusal} → (Uniform h → ⊥) → h .mask ≢ 0 → unrolled s h ≡ fail n → Wrong n
   unfolding unrolled
   unrolled-refused u z e =
       let c = coded (take (h .mask) (drop headerBytes s)) (pixels (shapeOf h)) (h .valid) in
       reading-one Wrong 6 c _ (coded-six _ (pixels (shapeOf h)) (h .valid)) e (λ d. (refl, runs-wrong u z (coded-wrong _ (pixels (shapeOf h)) (h .valid) d))) (λ m d e. not-refused e)
 
-  mask-refused : {n : ℕ} → maskSays s h reuse old ≡ fail (refuse n) → Wrong n
+  mask-refused : {n : Refusal} → maskSays s h reuse old ≡ fail n → Wrong n
   unfolding maskSays
   mask-refused e =
       choosing Wrong (eqb (h .valid) 0) _ _ e (λ t e. uniform-refused 0 (inl (eqb-true _ _ t)) e) (λ t e.
@@ -132,11 +134,11 @@ module _ (s : List ℕ) (h : Header) (reuse : Bool) (old : List ℕ) where
   refused-mask (miscounted u z a c) = not-uniform u ∙ rw (eq-eqb _ _ z, a, ne-eqb _ _ c)
   refused-mask (runs-wrong u z c) = not-uniform u ∙ rw (ne-eqb _ _ z, wrong-coded (take (h .mask) (drop headerBytes s)) (pixels (shapeOf h)) (h .valid) c)
 
-  pub mask-exactly : (n : ℕ) → (maskSays s h reuse old ≡ fail (refuse n)) ↔ ((n ≡ 6) × MaskWrong s h reuse old)
+  pub mask-exactly : (n : Refusal) → (maskSays s h reuse old ≡ fail n) ↔ ((n ≡ refuse 6) × MaskWrong s h reuse old)
   mask-exactly n = (mask-refused, λ p. rw (p .0) (refused-mask (p .1)))
 
 module _ (b : List ℕ) (h : Header) (reuse : Bool) (old : List ℕ) (room : ℕ) where
-  prepare-refused : {n : ℕ} → prepareSays b h reuse old room ≡ fail (refuse n) → PrepareRefused b h reuse old room n
+  prepare-refused : {n : Refusal} → prepareSays b h reuse old room ≡ fail n → PrepareRefused b h reuse old room n
   unfolding prepareSays
   prepare-refused {n} e =
       let P = PrepareRefused b h reuse old room in
@@ -146,20 +148,41 @@ module _ (b : List ℕ) (h : Header) (reuse : Bool) (old : List ℕ) (room : ℕ
       (λ t e. let (u, v) = and-is _ _ t in let (z, w) = mask-exactly (take (h .size) b) h reuse old n .0 e in
       rw (z) (mask-wrong r (leb-true _ _ u) (leb-true _ _ v) w)))
 
-  refused-prepare : {n : ℕ} → PrepareRefused b h reuse old room n → prepareSays b h reuse old room ≡ fail (refuse n)
+  refused-prepare : {n : Refusal} → PrepareRefused b h reuse old room n → prepareSays b h reuse old room ≡ fail n
   unfolding prepareSays
   refused-prepare {n} (mask-held d) = rw (held-exactly h (length b) n .1 d)
   refused-prepare (mask-room r s) =
       rw (right-held h (length b) r, ⊎-elim (λ u. and-first _ (leb (maskLength (shapeOf h)) room) (lt-leb _ _ u)) (λ u. and-second (leb (maskLength (shapeOf h)) (length old)) _ (lt-leb _ _ u)) s)
-  refused-prepare (mask-wrong r u v w) = rw (right-held h (length b) r, le-leb _ _ u, le-leb _ _ v, mask-exactly (take (h .size) b) h reuse old 6 .1 (refl, w))
+  refused-prepare (mask-wrong r u v w) = rw (right-held h (length b) r, le-leb _ _ u, le-leb _ _ v, mask-exactly (take (h .size) b) h reuse old (refuse 6) .1 (refl, w))
 
-  pub prepare-exactly : (n : ℕ) → (prepareSays b h reuse old room ≡ fail (refuse n)) ↔ PrepareRefused b h reuse old room n
+  pub prepare-exactly : (n : Refusal) → (prepareSays b h reuse old room ≡ fail n) ↔ PrepareRefused b h reuse old room n
   prepare-exactly n = (prepare-refused, refused-prepare)
+
+module _ (s : List ℕ) (h : Header) (reuse : Bool) (old : List ℕ) (room : ℕ) where
+  find-refused : {n : Refusal} → findSays s h reuse old room ≡ fail n → FindRefused s h reuse old room n
+  unfolding findSays
+  find-refused {n} e =
+      let P = FindRefused s h reuse old room in
+      demand P (leb (maskLength (shapeOf h)) (length old) && leb (maskLength (shapeOf h)) room) 5 _ e
+      (λ t. find-room (⊎-elim (λ u. inl (leb-false _ _ u)) (λ u. inr (leb-false _ _ u)) (and-not _ _ t)))
+      (λ t e. let (u, v) = and-is _ _ t in
+      demand P (leb (rangesAt h) (length s)) 1 _ e (λ w. section-cut (leb-true _ _ u) (leb-true _ _ v) (leb-false _ _ w))
+      (λ w e. let (z, x) = mask-exactly s h reuse old n .0 e in rw (z) (find-wrong (leb-true _ _ u) (leb-true _ _ v) (leb-true _ _ w) x)))
+
+  refused-find : {n : Refusal} → FindRefused s h reuse old room n → findSays s h reuse old room ≡ fail n
+  unfolding findSays
+  refused-find (find-room t) =
+      rw (⊎-elim (λ u. and-first _ (leb (maskLength (shapeOf h)) room) (lt-leb _ _ u)) (λ u. and-second (leb (maskLength (shapeOf h)) (length old)) _ (lt-leb _ _ u)) t)
+  refused-find (section-cut u v l) = rw (le-leb _ _ u, le-leb _ _ v, lt-leb _ _ l)
+  refused-find (find-wrong u v l w) = rw (le-leb _ _ u, le-leb _ _ v, le-leb _ _ l, mask-exactly s h reuse old (refuse 6) .1 (refl, w))
+
+  pub find-exactly : (n : Refusal) → (findSays s h reuse old room ≡ fail n) ↔ FindRefused s h reuse old room n
+  find-exactly n = (find-refused, refused-find)
 
 -- ---- ranges
 
 module _ (s : List ℕ) (h : Header) where
-  ranges-refused : {n : ℕ} → rangesSays s h ≡ fail (refuse n) → RangesRefused s h n
+  ranges-refused : {n : Refusal} → rangesSays s h ≡ fail n → RangesRefused s h n
   unfolding rangesSays
   ranges-refused e =
       let P = RangesRefused s h in
@@ -167,24 +190,38 @@ module _ (s : List ℕ) (h : Header) where
       demand P (leb (rangesEnd h) (length s)) 1 _ e (λ u. ranges-cut t (leb-false _ _ u)) (λ u e.
       demand P (pairsRight (h .depth) (codedRanges s h)) 7 _ e (λ v. pairs-wrong t (leb-true _ _ u) (pairs-not (h .depth) (codedRanges s h) v)) (λ v e. not-refused e)))
 
-  refused-ranges : {n : ℕ} → RangesRefused s h n → rangesSays s h ≡ fail (refuse n)
+  refused-ranges : {n : Refusal} → RangesRefused s h n → rangesSays s h ≡ fail n
   unfolding rangesSays
   refused-ranges (ranges-cut t l) = rw (t, lt-leb _ _ l)
   refused-ranges (pairs-wrong t l p) = rw (t, le-leb _ _ l, not-pairs (h .depth) (codedRanges s h) p)
 
-  pub ranges-exactly : (n : ℕ) → (rangesSays s h ≡ fail (refuse n)) ↔ RangesRefused s h n
+  pub ranges-exactly : (n : Refusal) → (rangesSays s h ≡ fail n) ↔ RangesRefused s h n
   ranges-exactly n = (ranges-refused, refused-ranges)
 
+module _ (s : List ℕ) (h : Header) where
+  ranges-in-refused : {n : Refusal} → rangesInSays s h ≡ fail n → RangesInRefused s h n
+  unfolding rangesInSays
+  ranges-in-refused {n} e =
+      demand (RangesInRefused s h) (leb (h .depth) depthLimit) 4 _ e (λ t. depths-many (leb-false _ _ t)) (λ t e. ranges-not-in (leb-true _ _ t) (ranges-exactly s h n .0 e))
+
+  refused-ranges-in : {n : Refusal} → RangesInRefused s h n → rangesInSays s h ≡ fail n
+  unfolding rangesInSays
+  refused-ranges-in (depths-many l) = rw (lt-leb _ _ l)
+  refused-ranges-in {n} (ranges-not-in l d) = rw (le-leb _ _ l, ranges-exactly s h n .1 d)
+
+  pub ranges-in-exactly : (n : Refusal) → (rangesInSays s h ≡ fail n) ↔ RangesInRefused s h n
+  ranges-in-exactly n = (ranges-in-refused, refused-ranges-in)
+
 module _ (b : List ℕ) (h : Header) where
-  read-ranges-refused : {n : ℕ} → readRangesSays b h ≡ fail (refuse n) → ReadRangesRefused b h n
+  read-ranges-refused : {n : Refusal} → readRangesSays b h ≡ fail n → ReadRangesRefused b h n
   unfolding readRangesSays
   read-ranges-refused {n} e =
       holding h (length b) (ReadRangesRefused b h) _ e (λ d. ranges-held d) (λ r e. ranges-wrong r (ranges-exactly (take (h .size) b) h n .0 e))
 
-  refused-read-ranges : {n : ℕ} → ReadRangesRefused b h n → readRangesSays b h ≡ fail (refuse n)
+  refused-read-ranges : {n : Refusal} → ReadRangesRefused b h n → readRangesSays b h ≡ fail n
   unfolding readRangesSays
   refused-read-ranges {n} (ranges-held d) = rw (held-exactly h (length b) n .1 d)
   refused-read-ranges {n} (ranges-wrong r d) = rw (right-held h (length b) r, ranges-exactly (take (h .size) b) h n .1 d)
 
-  pub read-ranges-exactly : (n : ℕ) → (readRangesSays b h ≡ fail (refuse n)) ↔ ReadRangesRefused b h n
+  pub read-ranges-exactly : (n : Refusal) → (readRangesSays b h ≡ fail n) ↔ ReadRangesRefused b h n
   read-ranges-exactly n = (read-ranges-refused, refused-read-ranges)

@@ -10,8 +10,8 @@ use lib.Dec.{leb}
 use Rattle.lerc_words.specs.Res.{Res, ok, fail, after}
 use Rattle.lerc_words.specs.Lists.{over}
 use Rattle.lerc_header.specs.declared.Header.{Header}
-use Rattle.lerc_planes.specs.declared.Ranges.{Ranges}
-use Rattle.lerc_planes.specs.Validity.{InForce}
+use Rattle.lerc_ranges.specs.declared.Ranges.{Ranges}
+use Rattle.lerc_validity.specs.Validity.{InForce}
 use Rattle.lerc.specs.Meaning.{Meaning}
 use Rattle.lerc.specs.Read.{Lent, readSays, masked, refusedAfter, readAfter}
 use Rattle.lerc_c.specs.Records.{numberOf}

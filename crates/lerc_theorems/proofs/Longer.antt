@@ -19,14 +19,14 @@ use Rattle.lerc_header.specs.Shape.{pixels, cells, blockCount, maskLength, Shap
 use Rattle.lerc_header.specs.Header.{shapeOf, extentOf, held}
 use Rattle.lerc_header.proofs.Kept.{held-shaped}
 use Rattle.lerc_mask.specs.Mask.{pixelValid}
-use Rattle.lerc_planes.specs.declared.Ranges.{Ranges}
+use Rattle.lerc_ranges.specs.declared.Ranges.{Ranges}
 use Rattle.lerc_block.specs.Block.{Block}
 use Rattle.lerc_image.specs.Geometry.{tileOf, pixelOf, tileSize, blockOf, placeIn, rank, tileValid, isValidCell}
 use Rattle.lerc_image.specs.Paint.{inBlock, indexOf, wordOf, scattered}
-use Rattle.lerc_image.specs.Sweep.{Way, rawFrom, blocksFrom, swept}
+use Rattle.lerc_sweep.specs.Sweep.{Way, rawFrom, blocksFrom, swept}
 use Rattle.lerc_image.specs.Blocks.{blockAt, chain}
 use Rattle.lerc_image.specs.Fill.{fillSays, fillImage}
-use Rattle.lerc_image.specs.Walk.{walked, bodyWalked, walkSays}
+use Rattle.lerc_image.specs.Walk.{wayWalked, bodyWalked, walkSays}
 use Rattle.lerc_image.proofs.Partition.{block-lt, place-lt, pixel-lt}
 use Rattle.lerc_image.proofs.Chain.{fronted, chain-none, chain-front}
 use Rattle.lerc_image.proofs.Painting.{painted-same, painted-words}
@@ -97,8 +97,8 @@ module _ (b : List ℕ) (h : Header) (w : held h (length b) ≡ ok (extentOf h))
       on (ok d) g = rw (g (d .next))
       on (fail r) g = refl
 
-  way-same : (s maxima : List ℕ) (y : Way) → walked s h maxima m y ≡ walked s h maxima q y
-  unfolding walked
+  way-same : (s maxima : List ℕ) (y : Way) → wayWalked s h maxima m y ≡ wayWalked s h maxima q y
+  unfolding wayWalked
   way-same s maxima (rawFrom at) = refl
   way-same s maxima (blocksFrom at) = chain-same s maxima (blockCount (shapeOf h)) 0 at (omega arith)
 
@@ -106,7 +106,7 @@ module _ (b : List ℕ) (h : Header) (w : held h (length b) ≡ ok (extentOf h))
   unfolding bodyWalked
   body-same s maxima at = on (swept s (h .kind) (h .error) at)
     where
-      on : (y : Res Way) → (y >>= walked s h maxima m) ≡ (y >>= walked s h maxima q)
+      on : (y : Res Way) → (y >>= wayWalked s h maxima m) ≡ (y >>= wayWalked s h maxima q)
       on (ok y) = way-same s maxima y
       on (fail r) = refl
 

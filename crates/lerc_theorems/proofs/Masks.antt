@@ -10,7 +10,7 @@ use lib.ListN.{length, getD, take, drop, replicate}
 use lib.Dec.{leb, ltb, eqb}
 use borrow.Author.Tests.{ltb-true, ltb-false, lt-ltb, le-ltb, leb-true, leb-false, le-leb, lt-leb, eqb-true, eqb-false, eq-eqb, ne-eqb}
 use Rattle.lerc_words.specs.Res.{Res, ok, fail, refuse, little}
-use Rattle.lerc_words.proofs.Laws.{and-is}
+use Rattle.lerc_words.proofs.Binding.{and-is}
 use Rattle.lerc_mask.specs.Mask.{validBelow, maskBytes, copyAt, repeatAt, endAt, signedAt, stepAt, onStep, runs, maskRuns, coded}
 use Rattle.lerc_theorems.specs.MaskTable.{StepWrong, run-cut, run-none, copy-cut, copy-long, repeat-cut, repeat-long, end-inside, end-short, CopyRight, RepeatRight, Reached, begun, copied, repeated, CodedWrong, run-wrong, count-wrong}
 use Rattle.lerc_theorems.proofs.Demands.{demand, reading, not-refused, and-second}

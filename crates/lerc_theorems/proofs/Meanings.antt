@@ -10,16 +10,17 @@ use lib.ListN.{length, take, length-take}
 use lib.Seq.{take-all, take-take, getD-take}
 use borrow.Author.Tests.{le-leb, leb-true}
 use Rattle.lerc_words.specs.Res.{Res, ok, fail, _>>=_, require, little}
-use Rattle.lerc_words.proofs.Laws.{bind-is, ok-is, and-is, little-same}
+use Rattle.lerc_words.proofs.Binding.{bind-is, ok-is, and-is}
+use Rattle.lerc_words.proofs.Little.{little-same}
 use Rattle.lerc_header.specs.declared.Header.{Header}
 use Rattle.lerc_header.specs.Shape.{cells, maskLength, blockCount}
 use Rattle.lerc_header.specs.Header.{shapeOf, headerBytes, rangesAt, keyRight, extentOf, held, headerOf, headerSays}
 use Rattle.lerc_header.proofs.Kept.{header-held, held-shaped, held-size, held-pair}
-use Rattle.lerc_planes.specs.declared.Ranges.{Ranges}
-use Rattle.lerc_planes.specs.Ranges.{rangesSays}
-use Rattle.lerc_planes.proofs.RangesLaws.{RangesKept, ranges-kept}
-use Rattle.lerc_planes.proofs.ValidityLaws.{Right, mask-told}
-use Rattle.lerc_planes.specs.Validity.{InForce, bytesOf, maskSays}
+use Rattle.lerc_ranges.specs.declared.Ranges.{Ranges}
+use Rattle.lerc_ranges.specs.Ranges.{rangesSays}
+use Rattle.lerc_ranges.proofs.Judged.{RangesKept, ranges-kept}
+use Rattle.lerc_validity.proofs.Prepared.{Right, mask-told}
+use Rattle.lerc_validity.specs.Validity.{InForce, bytesOf, maskSays}
 use Rattle.lerc.specs.Meaning.{Meaning, endOf, bodySays, meaningFrom, meaning}
 use Rattle.lerc.specs.Read.{Lent, room, Masked, masked, readSays}
 use Rattle.lerc_theorems.specs.DemandTwo.{Roomy}

@@ -12,7 +12,7 @@ use lib.Dec.{leb, ltb, eqb}
 use borrow.Author.Tests.{eqb-false, ne-eqb}
 use Rattle.lerc_words.specs.declared.Refusal.{Refusal}
 use Rattle.lerc_words.specs.Res.{Res, ok, fail, _>>=_, refuse, require, each, wordAt}
-use Rattle.lerc_words.proofs.Laws.{bind-is, ok-is, and-is, bind-fail}
+use Rattle.lerc_words.proofs.Binding.{bind-is, ok-is, and-is, bind-fail}
 use Rattle.lerc_words.proofs.Each.{each-replicate, each-replicate-fails}
 use Rattle.lerc_numeric.specs.Numeric.{negative, same}
 use Rattle.lerc_numeric.specs.Kinds.{valueOf}
@@ -26,12 +26,12 @@ use Rattle.lerc_header.specs.Header.{shapeOf, headerBytes, rangesAt, keyRight, 
 use Rattle.lerc_header.proofs.Kept.{header-held, held-shaped, held-kept}
 use Rattle.lerc_mask.specs.Mask.{validBelow, coded}
 use Rattle.lerc_mask.proofs.Runs.{coded-six}
-use Rattle.lerc_planes.specs.declared.Ranges.{Ranges}
-use Rattle.lerc_planes.specs.Validity.{bytesOf, uniform, kept, unrolled, maskSays}
-use Rattle.lerc_planes.specs.Ranges.{uniformRanges, numberAt, maximaAt, rangesEnd, codedRanges, pairsRight, rangesSays, constantWords}
-use Rattle.lerc_planes.proofs.RangesTable.{getD-by-depth}
+use Rattle.lerc_ranges.specs.declared.Ranges.{Ranges}
+use Rattle.lerc_validity.specs.Validity.{bytesOf, uniform, kept, unrolled, maskSays}
+use Rattle.lerc_ranges.specs.Ranges.{uniformRanges, numberAt, maximaAt, rangesEnd, codedRanges, pairsRight, rangesSays, constantWords}
+use Rattle.lerc_ranges.proofs.ByDepth.{getD-by-depth}
 use Rattle.lerc_image.specs.Geometry.{tileOf}
-use Rattle.lerc_image.specs.Sweep.{Way, rawFrom, blocksFrom, hasModeByte, modeAt, moded, swept}
+use Rattle.lerc_sweep.specs.Sweep.{Way, rawFrom, blocksFrom, hasModeByte, modeAt, moded, swept}
 use Rattle.lerc_image.specs.Blocks.{blockAt, chain, allBlocks}
 use Rattle.lerc_image.proofs.Partition.{tile-depth}
 use Rattle.lerc.specs.Meaning.{empty, constant, rawBody, blockBody, bodyFrom, sweptBody, constantBody, bodySays, meaningFrom, meaning}

@@ -10,30 +10,31 @@ use lib.Dec.{leb}
 use borrow.Author.Tests.{leb-true, leb-false, le-leb, lt-leb}
 use Rattle.lerc_words.specs.declared.Refusal.{Refusal}
 use Rattle.lerc_words.specs.Res.{Res, ok, fail, _>>=_, refuse, require}
-use Rattle.lerc_words.proofs.Laws.{bind-no, bind-fail}
+use Rattle.lerc_words.proofs.Binding.{bind-no, bind-fail}
 use Rattle.lerc_bits.proofs.Answers.{plan-same}
 use Rattle.lerc_header.specs.Limits.{depthLimit}
+use Rattle.lerc_header.specs.Header.{headerSays, openSays}
 use Rattle.lerc_mask.specs.Mask.{maskBytes, decoded}
 use Rattle.lerc_mask.proofs.Runs.{coded-six}
-use Rattle.lerc_planes.specs.declared.Ranges.{Ranges}
-use Rattle.lerc_planes.specs.declared.RangesRead.{RangesRead}
-use Rattle.lerc_planes.specs.declared.RangesAnswer.the-variants as ranges-answer
-use Rattle.lerc_planes.specs.declared.Constants.{Constants}
-use Rattle.lerc_planes.specs.declared.ConstantsAnswer.the-variants as constants-answer
-use Rattle.lerc_planes.specs.Validity.{InForce, reused, new, which}
-use Rattle.lerc_planes.specs.Ranges.{pairsRight, pairsSays, rangesSaid, constantsSaid}
+use Rattle.lerc_ranges.specs.declared.Ranges.{Ranges}
+use Rattle.lerc_ranges.specs.declared.RangesRead.{RangesRead}
+use Rattle.lerc_ranges.specs.declared.RangesAnswer.the-variants as ranges-answer
+use Rattle.lerc_ranges.specs.declared.Constants.{Constants}
+use Rattle.lerc_ranges.specs.declared.ConstantsAnswer.the-variants as constants-answer
+use Rattle.lerc_validity.specs.Validity.{InForce, reused, new, which}
+use Rattle.lerc_ranges.specs.Ranges.{pairsRight, pairsSays, rangesSaid, constantsSaid}
 use Rattle.lerc_block.proofs.Answers.{said-same as block-same}
 use Rattle.lerc_image.specs.Paint.{among}
-use Rattle.lerc_theorems.specs.Table.{RunsRefused, runs-room, runs-breach, PairsRefused, pair-wrong}
+use Rattle.lerc_theorems.specs.Table.{HeaderRefused, RunsRefused, runs-room, runs-breach, PairsRefused, pair-wrong}
 use Rattle.lerc_theorems.specs.Numbers.{NumbersExactly, NumbersOnly}
-use Rattle.lerc_theorems.proofs.Answers.{word-same, integer-same, offset-same, sample-same, stored-same, counts-same, header-same, held-same, runs-same, mask-same, pairs-same, way-same, walk-same, fill-same, read-same}
-use Rattle.lerc_theorems.proofs.Given.{word-in, integer-in, kind-in, sample-in, stored-in, plan-in, counts-in, held-in, header-in, runs-in, prepare-in, pairs-in, read-ranges-in, constants-in, end-in, read-block-in, sweep-in, walk-in, fill-in, tiles-in, whole-in}
+use Rattle.lerc_theorems.proofs.Answers.{block-plan-same, word-same, integer-same, offset-same, sample-same, stored-same, counts-same, header-same, open-same, held-same, runs-same, mask-same, pairs-same, way-same, walk-same, fill-same, read-same}
+use Rattle.lerc_theorems.proofs.Given.{word-in, integer-in, kind-in, sample-in, stored-in, plan-in, counts-in, held-in, header-in, runs-in, prepare-in, find-in, pairs-in, ranges-in-in, read-ranges-in, constants-in, planned-in, block-plan-in, read-block-in, sweep-in, walk-in, fill-in, check-in, tiles-in, whole-in}
 use Rattle.lerc_theorems.proofs.Masks.{coded-wrong, wrong-coded}
 use Rattle.lerc_theorems.proofs.Wrong.{pairs-not, not-pairs}
 use Rattle.lerc_theorems.proofs.Demands.{demand, not-refused}
-use Rattle.lerc_theorems.proofs.Headers.{held-exactly, header-exactly, prepare-exactly, read-ranges-exactly}
-use Rattle.lerc_theorems.proofs.Blocks.{word-exactly, sample-exactly, integer-exactly, stored-exactly, kind-exactly, constants-exactly, plan-exactly, counts-exactly, read-block-exactly, end-exactly}
-use Rattle.lerc_theorems.proofs.Entries.{sweep-exactly, walk-exactly, fill-exactly, tiles-exactly, whole-exactly}
+use Rattle.lerc_theorems.proofs.Headers.{held-exactly, header-exactly, prepare-exactly, find-exactly, ranges-in-exactly, read-ranges-exactly}
+use Rattle.lerc_theorems.proofs.Blocks.{word-exactly, sample-exactly, integer-exactly, stored-exactly, kind-exactly, constants-exactly, plan-exactly, counts-exactly, read-block-exactly, planned-exactly, block-plan-exactly}
+use Rattle.lerc_theorems.proofs.Entries.{sweep-exactly, walk-exactly, fill-exactly, check-exactly, tiles-exactly, whole-exactly}
 
 -- ---- from a promise to its definition
 
@@ -41,58 +42,62 @@ by-way : {A B C : Type 0} → (A ↔ B) → (B ↔ C) → A ↔ C
 by-way p q = (λ a. q .0 (p .0 a), λ c. p .1 (q .1 c))
 
 -- an answer is a refusal exactly where what it says is one
-told : {R B : Type 0} {said : R → Res B} {q : R} {n : ℕ} → ((r q : R) → said r ≡ said q → r ≡ q) → said q ≡ fail (refuse n) → {m : Res B} {r : R} → said r ≡ m → (r ≡ q) ↔ (m ≡ fail (refuse n))
+told : {R B : Type 0} {said : R → Res B} {q : R} {n : Refusal} → ((r q : R) → said r ≡ said q → r ≡ q) → said q ≡ fail n → {m : Res B} {r : R} → said r ≡ m → (r ≡ q) ↔ (m ≡ fail n)
 told {said = said} {q = q} inj is {r = r} p = (λ e. sym p ∙ ap said e ∙ is, λ e. inj r q (p ∙ e ∙ sym is))
 
 -- what is told of an accepted value refuses nothing
-behind : {A B : Type 0} (m : Res A) (f : A → B) (n : ℕ) → ((m >>= λ a. ok (f a)) ≡ fail (refuse n)) ↔ (m ≡ fail (refuse n))
+behind : {A B : Type 0} (m : Res A) (f : A → B) (n : Refusal) → ((m >>= λ a. ok (f a)) ≡ fail n) ↔ (m ≡ fail n)
 behind m f n = (bind-fail m f, λ e. bind-no _ e)
 
-behind-which : (m : Res InForce) (n : ℕ) → ((m >>= which) ≡ fail (refuse n)) ↔ (m ≡ fail (refuse n))
+behind-which : (m : Res InForce) (n : Refusal) → ((m >>= which) ≡ fail n) ↔ (m ≡ fail n)
 behind-which m n = (there m, λ e. bind-no which e)
   where
-    there : (m : Res InForce) → (m >>= which) ≡ fail (refuse n) → m ≡ fail (refuse n)
+    there : (m : Res InForce) → (m >>= which) ≡ fail n → m ≡ fail n
     there (ok (reused m)) e = not-refused e
     there (ok (new m)) e = not-refused e
     there (fail r) e = cc
 
-pairs-exactly : (depth : ℕ) (r : Ranges) (n : ℕ) → (pairsSays depth r ≡ fail (refuse n)) ↔ PairsRefused depth r n
+open-exactly : (b : List ℕ) (n : Refusal) → (openSays b ≡ fail n) ↔ HeaderRefused b n
+unfolding openSays
+open-exactly b n = by-way (behind (headerSays b) _ n) (header-exactly b n)
+
+pairs-exactly : (depth : ℕ) (r : Ranges) (n : Refusal) → (pairsSays depth r ≡ fail n) ↔ PairsRefused depth r n
 unfolding pairsSays
 pairs-exactly depth r n = (there (pairsRight (min depth depthLimit) r) refl, back)
   where
-    there : (t : Bool) → pairsRight (min depth depthLimit) r ≡ t → require t 7 ≡ fail (refuse n) → PairsRefused depth r n
+    there : (t : Bool) → pairsRight (min depth depthLimit) r ≡ t → require t 7 ≡ fail n → PairsRefused depth r n
     there true d e = not-refused e
     there false d e = demand (PairsRefused depth r) false 7 (λ t. require t 7) e (λ _. pair-wrong (pairs-not (min depth depthLimit) r d)) (λ t _. absurd (let z : _≡_ {A = ℕ} 0 1 = cc in omega arith))
 
-    back : {n : ℕ} → PairsRefused depth r n → pairsSays depth r ≡ fail (refuse n)
+    back : {n : Refusal} → PairsRefused depth r n → pairsSays depth r ≡ fail n
     back (pair-wrong d) = rw (not-pairs (min depth depthLimit) r d)
 
 module _ (s : List ℕ) (count valid room : ℕ) where
-  runs-refused : {n : ℕ} → decoded s count valid room ≡ fail (refuse n) → RunsRefused s count valid room n
+  runs-refused : {n : Refusal} → decoded s count valid room ≡ fail n → RunsRefused s count valid room n
   unfolding decoded
   runs-refused {n} e =
       demand (RunsRefused s count valid room) (leb (maskBytes count) room) 5 _ e (λ t. runs-room (leb-false _ _ t)) (λ t e.
-      let z : n ≡ 6 = ap (λ (x : Refusal). x .number) (coded-six s count valid (refuse n) e) in
+      let z : n ≡ refuse 6 = coded-six s count valid n e in
       rw (z) (runs-breach (leb-true _ _ t) (coded-wrong s count valid (rw (z) at e))))
 
-  refused-runs : {n : ℕ} → RunsRefused s count valid room n → decoded s count valid room ≡ fail (refuse n)
+  refused-runs : {n : Refusal} → RunsRefused s count valid room n → decoded s count valid room ≡ fail n
   unfolding decoded
   refused-runs (runs-room l) = rw (lt-leb _ _ l)
   refused-runs (runs-breach l c) = rw (le-leb _ _ l, wrong-coded s count valid c)
 
-ranges-told : (m : Res Ranges) (r : RangesRead) → r ≡ rangesSaid m → (n : ℕ) → (r .answer ≡ ranges-answer.Refused (refuse n)) ↔ (m ≡ fail (refuse n))
+ranges-told : (m : Res Ranges) (r : RangesRead) → r ≡ rangesSaid m → (n : Refusal) → (r .answer ≡ ranges-answer.Refused n) ↔ (m ≡ fail n)
 ranges-told m r p n = (there m p, λ e. ap (λ (x : RangesRead). x .answer) (p ∙ ap rangesSaid e))
   where
-    there : (m : Res Ranges) → r ≡ rangesSaid m → r .answer ≡ ranges-answer.Refused (refuse n) → m ≡ fail (refuse n)
+    there : (m : Res Ranges) → r ≡ rangesSaid m → r .answer ≡ ranges-answer.Refused n → m ≡ fail n
     there (ok x) p e = absurd (let y = rw (p) at e in let z : _≡_ {A = ℕ} 0 1 = cc in omega arith)
-    there (fail w) p e = let y = rw (p) at e in let z : w ≡ refuse n = cc in ap fail z
+    there (fail w) p e = let y = rw (p) at e in let z : w ≡ n = cc in ap fail z
 
-constants-told : (m : Res (List ℕ)) (r : Constants) → r ≡ constantsSaid m → (n : ℕ) → (r .answer ≡ constants-answer.Refused (refuse n)) ↔ (m ≡ fail (refuse n))
+constants-told : (m : Res (List ℕ)) (r : Constants) → r ≡ constantsSaid m → (n : Refusal) → (r .answer ≡ constants-answer.Refused n) ↔ (m ≡ fail n)
 constants-told m r p n = (there m p, λ e. ap (λ (x : Constants). x .answer) (p ∙ ap constantsSaid e))
   where
-    there : (m : Res (List ℕ)) → r ≡ constantsSaid m → r .answer ≡ constants-answer.Refused (refuse n) → m ≡ fail (refuse n)
+    there : (m : Res (List ℕ)) → r ≡ constantsSaid m → r .answer ≡ constants-answer.Refused n → m ≡ fail n
     there (ok x) p e = absurd (let y = rw (p) at e in let z : _≡_ {A = ℕ} 0 1 = cc in omega arith)
-    there (fail w) p e = let y = rw (p) at e in let z : w ≡ refuse n = cc in ap fail z
+    there (fail w) p e = let y = rw (p) at e in let z : w ≡ n = cc in ap fail z
 
 -- ---- the tables are exact
 
@@ -104,29 +109,35 @@ numbers-exactly = record {
   read-sample = λ k a r x p n. by-way (told sample-same refl p) (sample-exactly _ _ _ n);
   stored = λ k a r x p n. by-way (told stored-same refl p) (stored-exactly _ _ n);
   inspect = λ k a r x p n. by-way (told plan-same refl p) (plan-exactly _ _ n);
+  decode-plan = λ k a r x p n. by-way (told counts-same refl (p .says)) (by-way (behind _ _ n) (planned-exactly _ _ n));
+  check-plan = λ k a r x p n. by-way (told counts-same refl p) (by-way (behind _ _ n) (planned-exactly _ _ n));
   decode-counts = λ k a r x p n. by-way (told counts-same refl (p .says)) (by-way (behind _ _ n) (counts-exactly _ _ n));
   check-counts = λ k a r x p n. by-way (told counts-same refl p) (by-way (behind _ _ n) (counts-exactly _ _ n));
   held = λ k a r x p n. by-way (told held-same refl p) (held-exactly _ _ n);
+  open-blob = λ k a r x p n. by-way (told open-same refl p) (open-exactly _ n);
   read-header = λ k a r x p n. by-way (told header-same refl p) (header-exactly _ n);
   decode-mask = λ k a r x p n. by-way (told runs-same refl (p .says)) (by-way (behind _ _ n) (runs-refused _ _ _ _, refused-runs _ _ _ _));
   prepare-mask = λ k a r x p n. by-way (told mask-same refl (p .says)) (by-way (behind-which _ n) (prepare-exactly _ _ _ _ _ n));
+  find-mask = λ k a r x p n. by-way (told mask-same refl (p .says)) (by-way (behind-which _ n) (find-exactly _ _ _ _ _ n));
   pairs = λ k a r x p n. by-way (told pairs-same refl p) (pairs-exactly _ _ n);
+  ranges-in = λ k a r x p n. by-way (ranges-told _ r p n) (ranges-in-exactly _ _ n);
   read-ranges = λ k a r x p n. by-way (ranges-told _ r p n) (read-ranges-exactly _ _ n);
   convert = λ k a r x p n. by-way (constants-told _ r p n) (constants-exactly _ _ _ n);
-  block-end = λ k a r x p n. by-way (told block-same refl p) (end-exactly _ _ _ _ n);
+  inspect-block = λ k a r x p n. by-way (told block-plan-same refl p) (block-plan-exactly _ _ _ _ _ n);
   read-block = λ k a r x p n. by-way (told block-same refl (p .says)) (by-way (behind _ _ n) (read-block-exactly _ _ _ _ _ _ _ n));
   check-block = λ k a r x p n. by-way (told block-same refl p) (by-way (behind _ _ n) (read-block-exactly _ _ _ _ _ _ _ n));
   read-sweep = λ k a r x p n. by-way (told way-same refl p) (sweep-exactly _ _ _ _ n);
   walk = λ k a r x p n. by-way (told walk-same refl (p .says)) (by-way (behind _ _ n) (walk-exactly _ _ _ _ _ n));
   fill = λ k a r x p n. by-way (told fill-same refl (p .says)) (by-way (behind _ _ n) (fill-exactly _ _ _ _ _ _ _ n));
+  check-tiles = λ k a r x p n. by-way (told walk-same refl p) (by-way (behind _ _ n) (check-exactly _ _ _ _ _ n));
   decode-tiles = λ k a r x p n. by-way (told walk-same refl (p .says)) (by-way (behind _ _ n) (tiles-exactly _ _ _ _ _ _ _ n));
   read = λ k a r x p n. by-way (told read-same refl (p .says)) (by-way (behind _ _ n) (whole-exactly _ _ _ n));
 }
 
 -- ---- no other numbers
 
-abbrev In : List ℕ → ℕ → Type 0
-In numbers n = among numbers n ≡ true
+abbrev In : List ℕ → Refusal → Type 0
+In numbers why = among numbers (why .number) ≡ true
 
 pub numbers-only : NumbersOnly
 numbers-only = record {
@@ -136,21 +147,27 @@ numbers-only = record {
   read-sample = λ k a r x p n e. sample-in (In (1 ∷ [])) refl (numbers-exactly .read-sample k a r x p n .0 e);
   stored = λ k a r x p n e. stored-in (In (9 ∷ [])) refl (numbers-exactly .stored k a r x p n .0 e);
   inspect = λ k a r x p n e. plan-in (In (1 ∷ 8 ∷ [])) refl refl (numbers-exactly .inspect k a r x p n .0 e);
+  decode-plan = λ k a r x p n e. planned-in (In (8 ∷ [])) refl (numbers-exactly .decode-plan k a r x p n .0 e);
+  check-plan = λ k a r x p n e. planned-in (In (8 ∷ [])) refl (numbers-exactly .check-plan k a r x p n .0 e);
   decode-counts = λ k a r x p n e. counts-in (In (1 ∷ 8 ∷ [])) refl refl (numbers-exactly .decode-counts k a r x p n .0 e);
   check-counts = λ k a r x p n e. counts-in (In (1 ∷ 8 ∷ [])) refl refl (numbers-exactly .check-counts k a r x p n .0 e);
   held = λ k a r x p n e. held-in (In (1 ∷ 3 ∷ 4 ∷ [])) refl refl refl (numbers-exactly .held k a r x p n .0 e);
+  open-blob = λ k a r x p n e. header-in (In (1 ∷ 2 ∷ 3 ∷ 4 ∷ [])) refl refl refl refl (numbers-exactly .open-blob k a r x p n .0 e);
   read-header = λ k a r x p n e. header-in (In (1 ∷ 2 ∷ 3 ∷ 4 ∷ [])) refl refl refl refl (numbers-exactly .read-header k a r x p n .0 e);
   decode-mask = λ k a r x p n e. runs-in (In (5 ∷ 6 ∷ [])) refl refl (numbers-exactly .decode-mask k a r x p n .0 e);
   prepare-mask = λ k a r x p n e. prepare-in (In (1 ∷ 3 ∷ 4 ∷ 5 ∷ 6 ∷ [])) refl refl refl refl refl (numbers-exactly .prepare-mask k a r x p n .0 e);
+  find-mask = λ k a r x p n e. find-in (In (1 ∷ 5 ∷ 6 ∷ [])) refl refl refl (numbers-exactly .find-mask k a r x p n .0 e);
   pairs = λ k a r x p n e. pairs-in (In (7 ∷ [])) refl (numbers-exactly .pairs k a r x p n .0 e);
+  ranges-in = λ k a r x p n e. ranges-in-in (In (1 ∷ 4 ∷ 7 ∷ [])) refl refl refl (numbers-exactly .ranges-in k a r x p n .0 e);
   read-ranges = λ k a r x p n e. read-ranges-in (In (1 ∷ 3 ∷ 4 ∷ 7 ∷ [])) refl refl refl refl (numbers-exactly .read-ranges k a r x p n .0 e);
   convert = λ k a r x p n e. constants-in (In (9 ∷ [])) refl (numbers-exactly .convert k a r x p n .0 e);
-  block-end = λ k a r x p n e. end-in (In (1 ∷ 8 ∷ [])) refl refl (numbers-exactly .block-end k a r x p n .0 e);
+  inspect-block = λ k a r x p n e. block-plan-in (In (1 ∷ 8 ∷ [])) refl refl (numbers-exactly .inspect-block k a r x p n .0 e);
   read-block = λ k a r x p n e. read-block-in (In (1 ∷ 8 ∷ 9 ∷ [])) refl refl refl (numbers-exactly .read-block k a r x p n .0 e);
   check-block = λ k a r x p n e. read-block-in (In (1 ∷ 8 ∷ 9 ∷ [])) refl refl refl (numbers-exactly .check-block k a r x p n .0 e);
   read-sweep = λ k a r x p n e. sweep-in (In (1 ∷ 8 ∷ 10 ∷ [])) refl refl refl (numbers-exactly .read-sweep k a r x p n .0 e);
   walk = λ k a r x p n e. walk-in (In (1 ∷ 3 ∷ 4 ∷ 5 ∷ 7 ∷ 8 ∷ 9 ∷ 10 ∷ [])) refl refl refl refl refl refl refl refl (numbers-exactly .walk k a r x p n .0 e);
   fill = λ k a r x p n e. fill-in (In (1 ∷ 3 ∷ 4 ∷ 5 ∷ 7 ∷ 8 ∷ 9 ∷ 11 ∷ [])) refl refl refl refl refl refl refl refl (numbers-exactly .fill k a r x p n .0 e);
+  check-tiles = λ k a r x p n e. check-in (In (1 ∷ 3 ∷ 4 ∷ 5 ∷ 8 ∷ 9 ∷ [])) refl refl refl refl refl refl (numbers-exactly .check-tiles k a r x p n .0 e);
   decode-tiles = λ k a r x p n e. tiles-in (In (1 ∷ 3 ∷ 4 ∷ 5 ∷ 8 ∷ 9 ∷ [])) refl refl refl refl refl refl (numbers-exactly .decode-tiles k a r x p n .0 e);
   read = λ k a r x p n e. whole-in (In (1 ∷ 2 ∷ 3 ∷ 4 ∷ 5 ∷ 6 ∷ 7 ∷ 8 ∷ 9 ∷ 10 ∷ [])) refl refl refl refl refl refl refl refl refl refl (numbers-exactly .read k a r x p n .0 e);
 }

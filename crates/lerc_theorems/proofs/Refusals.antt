@@ -8,7 +8,7 @@ use native.Mathlib.Omega.{arith}
 use lib.ListN.{length, take, replicate}
 use Rattle.lerc_words.specs.declared.Refusal.{Refusal}
 use Rattle.lerc_words.specs.Res.{Res, ok, fail, _>>=_, require, after}
-use Rattle.lerc_words.proofs.Laws.{bind-is, require-is, ok-is, bind-fail}
+use Rattle.lerc_words.proofs.Binding.{bind-is, require-is, ok-is, bind-fail}
 use Rattle.lerc_header.specs.declared.Header.{Header}
 use Rattle.lerc_header.specs.Limits.{depthLimit}
 use Rattle.lerc_header.specs.Header.{shapeOf, headerSays}
@@ -25,16 +25,16 @@ use Rattle.lerc_image.specs.Blocks.{Chain}
 use Rattle.lerc_image.specs.Walk.{walkSays, walkList, Walked}
 use Rattle.lerc_image.specs.Fill.{fillSays, fillImage, Filled}
 use Rattle.lerc_image.specs.Tiles.{Tiled}
-use Rattle.lerc_planes.specs.declared.Ranges.{Ranges}
-use Rattle.lerc_planes.specs.declared.RangesRead.{RangesRead}
-use Rattle.lerc_planes.specs.declared.RangesAnswer.the-variants as ranges
-use Rattle.lerc_planes.specs.declared.Constants.{Constants}
-use Rattle.lerc_planes.specs.declared.ConstantsAnswer.the-variants as constants
-use Rattle.lerc_planes.specs.declared.MaskAnswer.{MaskAnswer}
-use Rattle.lerc_planes.specs.declared.MaskAnswer.the-variants as mask
-use Rattle.lerc_planes.specs.Validity.{Prepared, InForce, reused, new, which, maskSays, inForce}
-use Rattle.lerc_planes.specs.Ranges.{noRanges, rangesSaid, readRangesSays, constantWords, constantsSaid}
-use Rattle.lerc_planes.proofs.ValidityLaws.{mask-told}
+use Rattle.lerc_ranges.specs.declared.Ranges.{Ranges}
+use Rattle.lerc_ranges.specs.declared.RangesRead.{RangesRead}
+use Rattle.lerc_ranges.specs.declared.RangesAnswer.the-variants as ranges
+use Rattle.lerc_ranges.specs.declared.Constants.{Constants}
+use Rattle.lerc_ranges.specs.declared.ConstantsAnswer.the-variants as constants
+use Rattle.lerc_validity.specs.declared.MaskAnswer.{MaskAnswer}
+use Rattle.lerc_validity.specs.declared.MaskAnswer.the-variants as mask
+use Rattle.lerc_validity.specs.Validity.{Prepared, InForce, reused, new, which, maskSays, inForce}
+use Rattle.lerc_ranges.specs.Ranges.{noRanges, rangesSaid, rangesInSays, readRangesSays, constantWords, constantsSaid}
+use Rattle.lerc_validity.proofs.Prepared.{mask-told}
 use Rattle.lerc.specs.declared.ReadAnswer.the-variants as read
 use Rattle.lerc.specs.Read.{Lent, room, Masked, masked, readSays, refusedAfter, WholeRead}
 use Rattle.lerc_theorems.specs.Refusals.{RefusalsKeep, RefusalsEmpty, NewMask, WholeKeeps}
@@ -73,9 +73,11 @@ tiled-keeps c p = let e = bind-fail c _ (sym (p .says)) in (p .list ∙ rw (e), 
 
 pub refusals-keep : RefusalsKeep
 refusals-keep = record {
+  decode-plan = λ k a x why p. decoded-keeps _ p;
   decode-counts = λ k a x why p. decoded-keeps _ p;
   decode-mask = λ k a x why p. unrolled-keeps _ p;
   prepare-mask = λ k a x why p. prepared-keeps _ p;
+  find-mask = λ k a x why p. prepared-keeps _ p;
   read-block = λ k a x why p. read-keeps _ p;
   walk = λ k a x why p. walked-keeps _ _ _ _ p;
   fill = λ k a x why p. filled-keeps _ _ _ _ _ _ p;
@@ -100,6 +102,7 @@ no-mask m old spare e d = rw (d) at e
 pub refusals-empty : RefusalsEmpty
 refusals-empty = record {
   ranges = λ k a r x why p. no-ranges (readRangesSays (a .0 .now) (a .1 .0)) p;
+  ranges-found = λ k a r x why p. no-ranges (rangesInSays (a .0 .now) (a .1 .0)) p;
   constants = λ k a r x why p. no-words (constantWords (a .1 .0) (a .1 .1 .0) (a .0)) p;
   mask = λ k a r x why p. no-mask _ _ _ p;
 }

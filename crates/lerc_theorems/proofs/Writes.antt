@@ -3,41 +3,42 @@
 use mathlib.Core.Path.{_≡_, _∙_, sym, ap, refl}
 use mathlib.Core.Bool.{Bool, true, false, _&&_, _||_}
 use mathlib.Core.List.{List, [], _∷_, _++_}
-use Prim.Native.Nat.{ℕ, _+_, _-_, _≤_, _<_}
+use Prim.Native.Nat.{ℕ, zero, suc, _+_, _-_, _≤_, _<_}
 use native.Mathlib.Omega.{arith}
 use native.Mathlib.Decide.{decLt}
+use native.Mathlib.Nat.{le-refl, le-trans}
 use lib.ListN.{length, getD, take, drop, length-append, length-drop, List·getD-eq-default}
 use lib.Dec.{leb, eqb}
 use lib.Seq.{getD-append-add, getD-drop}
 use borrow.Author.Tests.{leb-true}
 use Rattle.lerc_words.specs.Res.{Res, ok, fail, require, after}
 use Rattle.lerc_words.specs.Lists.{over}
-use Rattle.lerc_words.proofs.Laws.{bind-is, require-is, and-is, ok-is, cond-elim}
+use Rattle.lerc_words.proofs.Binding.{bind-is, require-is, and-is, ok-is, cond-elim}
 use Rattle.lerc_bits.specs.declared.CountsAnswer.the-variants as counts
 use Rattle.lerc_bits.specs.Bits.{Counts, Span, Decoded}
 use Rattle.lerc_header.specs.declared.Header.{Header}
-use Rattle.lerc_header.specs.Header.{shapeOf, extentOf, held}
+use Rattle.lerc_header.specs.Header.{shapeOf, rangesAt, extentOf, held}
 use Rattle.lerc_header.specs.Shape.{cells, maskLength, blockCount}
 use Rattle.lerc_header.proofs.Kept.{held-is}
 use Rattle.lerc_mask.specs.Mask.{maskBytes, decoded}
 use Rattle.lerc_mask.proofs.Runs.{coded-length}
-use Rattle.lerc_planes.specs.declared.Ranges.{Ranges}
-use Rattle.lerc_planes.specs.declared.MaskAnswer.{MaskAnswer}
-use Rattle.lerc_planes.specs.Validity.{InForce, reused, new, bytesOf, prepareSays, spareWith, Prepared}
-use Rattle.lerc_planes.proofs.ValidityLaws.{prepare-found, mask-length, mask-told}
+use Rattle.lerc_ranges.specs.declared.Ranges.{Ranges}
+use Rattle.lerc_validity.specs.declared.MaskAnswer.{MaskAnswer}
+use Rattle.lerc_validity.specs.Validity.{InForce, reused, new, bytesOf, findSays, prepareSays, spareWith, Prepared}
+use Rattle.lerc_validity.proofs.Prepared.{prepare-found, mask-length, mask-told}
 use Rattle.lerc_block.specs.declared.BlockAnswer.the-variants as block
 use Rattle.lerc_block.specs.Block.{tileLimit, readBlockSays, BlockRead}
 use Rattle.lerc_block.proofs.Accepted.{block-words}
 use Rattle.lerc_image.specs.Paint.{painted, inBlock, wordOf}
 use Rattle.lerc_image.proofs.Painting.{length-painted, painted-cell}
-use Rattle.lerc_planes.specs.Ranges.{rangesSays}
+use Rattle.lerc_ranges.specs.Ranges.{rangesSays}
 use Rattle.lerc_image.specs.declared.WalkAnswer.{WalkAnswer}
 use Rattle.lerc_image.specs.Geometry.{isValidCell}
-use Rattle.lerc_image.specs.Sweep.{Way, rawFrom, blocksFrom, swept}
+use Rattle.lerc_sweep.specs.Sweep.{Way, rawFrom, blocksFrom, swept}
 use Rattle.lerc_image.specs.Blocks.{Chain, chain}
 use Rattle.lerc_image.specs.Walk.{walkSays, walkList, Walked}
 use Rattle.lerc_image.specs.Fill.{fillSays, fillImage}
-use Rattle.lerc_image.specs.Tiles.{tilesSays, Tiled}
+use Rattle.lerc_image.specs.Tiles.{blockEnd, headStarts, roomToList, listedTiles, isListed, listedImage, roomToFill, filledTiles, tilesSays, Tiled}
 use Rattle.lerc_image.proofs.Chain.{chain-lengths}
 use Rattle.lerc_fills.specs.Each.{fillEach}
 use Rattle.lerc.specs.declared.ReadAnswer.the-variants as read
@@ -81,6 +82,13 @@ but-painted image which word = record { long = length-painted image word which; 
         let l : length image ≤ c = omega arith in
         let k : length (painted image which word) ≤ c = rw (length-painted image word which) l in
         List·getD-eq-default (painted image which word) 0 k ∙ sym (List·getD-eq-default image 0 l)
+
+-- fewer entries, and fewer cells
+alike-more : {k n : ℕ} {old x : List ℕ} → k ≤ n → AlikeFrom k old x → AlikeFrom n old x
+alike-more h p = record { long = p .long; rest = λ i l. p .rest i (le-trans h l) }
+
+but-fewer : {which others : ℕ → Bool} {old x : List ℕ} → ((c : ℕ) → others c ≡ false → which c ≡ false) → AlikeBut which old x → AlikeBut others old x
+but-fewer f p = record { long = p .long; rest = λ c e. p .rest c (f c e) }
 
 -- one after the other
 but-then : {which others : ℕ → Bool} {old mid x : List ℕ} → AlikeBut which old mid → AlikeBut others mid x → AlikeBut (λ c. which c || others c) old x
@@ -143,6 +151,20 @@ prepare-writes b h reuse kept {r} {old} {x} p = go (prepareSays b h reuse kept (
     go (fail q) e d = alike-same (maskLength (shapeOf h)) d
     go (ok f) e d = rw (d) (spare-alike (maskLength (shapeOf h)) f old (mask-length b h reuse kept (length old) f e) (prepare-found b h reuse kept (length old) f e .there))
 
+find-writes : (s : List ℕ) (h : Header) (reuse : Bool) (kept : List ℕ) {r : MaskAnswer} {old x : List ℕ} → Prepared (findSays s h reuse kept (length old)) r old x → AlikeFrom (maskLength (shapeOf h)) old x
+unfolding findSays
+find-writes s h reuse kept {r} {old} {x} p = go (findSays s h reuse kept (length old)) refl (p .spare)
+  where
+    go : (m : Res InForce) → findSays s h reuse kept (length old) ≡ m → x ≡ after m old (λ f. spareWith f old) → AlikeFrom (maskLength (shapeOf h)) old x
+    go (fail q) e d = alike-same (maskLength (shapeOf h)) d
+    go (ok f) e d =
+        let n = maskLength (shapeOf h) in
+        let (_, q, e) = bind-is (require (leb n (length kept) && leb n (length old)) 5) _ e in
+        let (k, l) = and-is (leb n (length kept)) (leb n (length old)) (require-is _ 5 q) in
+        let (_, _, e) = bind-is (require (leb (rangesAt h) (length s)) 1) _ e in
+        let t = rw (e) at (mask-told s h kept reuse (leb-true n (length kept) k)) in
+        rw (d) (spare-alike n f old (t .size) (leb-true n (length old) l))
+
 -- ---- the list and the image
 
 module _ (b : List ℕ) (h : Header) where
@@ -164,6 +186,41 @@ module _ (b : List ℕ) (h : Header) where
   each-writes g m list [] old = but-same _ refl
   each-writes g m list (n ∷ ns) old = but-then (one-writes g m list n old) (each-writes g m list ns (fillImage b h g m list n old))
 
+  -- as many starts as there are blocks, or fewer
+  starts-most : (s m : List ℕ) (f n at : ℕ) → length (headStarts s h m f n at) ≤ f
+  unfolding headStarts
+  starts-most s m zero n at = le-refl 0
+  starts-most s m (suc f) n at = go (blockEnd s h m n at) (λ end. starts-most s m f (suc n) end)
+    where
+      go : (x : Res ℕ) → ((end : ℕ) → length (headStarts s h m f (suc n) end) ≤ f) → suc (length (after x [] (λ end. headStarts s h m f (suc n) end))) ≤ suc f
+      go (fail r) k = omega arith
+      go (ok end) k = let l = k end in omega arith
+
+  list-writes : (m : List ℕ) (at : ℕ) (list : List ℕ) → AlikeFrom (blockCount (shapeOf h)) list (listedTiles b h m at list)
+  unfolding listedTiles roomToList
+  list-writes m at list = go (roomToList b h m (length list)) refl
+    where
+      go : (x : Res Bool) → roomToList b h m (length list) ≡ x → AlikeFrom (blockCount (shapeOf h)) list (after x list (λ _. over (headStarts (take (h .size) b) h m (blockCount (shapeOf h)) 0 at) list))
+      go (fail r) e = alike-same _ refl
+      go (ok t) e =
+          let (x, d, e) = bind-is (held h (length b)) _ e in
+          let i : x ≡ extentOf h = held-is h (length b) d in
+          let (_, l) = and-is (leb (x .mask) (length m)) (leb (x .blocks) (length list)) (require-is _ 5 e) in
+          let k : blockCount (shapeOf h) ≤ length list = rw (i) at (leb-true (x .blocks) (length list) l) in
+          let few = starts-most (take (h .size) b) m (blockCount (shapeOf h)) 0 at in
+          alike-more few (alike-over (headStarts (take (h .size) b) h m (blockCount (shapeOf h)) 0 at) list (omega arith))
+
+  fill-writes : (m maxima list image : List ℕ) → AlikeBut (isValidCell (shapeOf h) m) image (filledTiles b h m maxima list image)
+  unfolding filledTiles listedImage
+  fill-writes m maxima list image = go (roomToFill b h m (length list) (length image))
+    where
+      s : List ℕ
+      s = take (h .size) b
+
+      go : (x : Res Bool) → AlikeBut (isValidCell (shapeOf h) m) image (after x image (λ _. listedImage s h maxima m list image))
+      go (fail r) = but-same _ refl
+      go (ok t) = but-fewer (λ c e. rw (e)) (but-painted image (isListed s h maxima m list) _)
+
   tiles-starts : (m maxima : List ℕ) (at entries words : ℕ) (c : Chain) → tilesSays b h m maxima at entries words ≡ ok c → (length (c .starts) ≡ blockCount (shapeOf h)) × (blockCount (shapeOf h) ≤ entries)
   unfolding tilesSays
   tiles-starts m maxima at entries words c e =
@@ -184,13 +241,17 @@ module _ (b : List ℕ) (h : Header) where
 
 pub writes-only : WritesOnly
 writes-only = record {
+  decode-plan = λ k a n next x p. decode-rest _ p;
   decode-counts = λ k a n next x p. decode-rest _ p;
   read-block = λ k a next x p. read-rest _ _ _ _ _ _ _ p;
   decode-mask = λ k a r x p. alike-after (maskBytes (a .1 .0)) _ (λ m. m) (decoded-is (a .0 .now) (a .1 .0) (a .1 .1 .0) (length (a .1 .1 .1 .0 .now))) (p .left);
   prepare-mask = λ k a r x p. prepare-writes _ _ _ _ p;
+  find-mask = λ k a r x p. find-writes _ _ _ _ p;
   walk = λ k a r x p. walk-writes _ _ _ _ p;
   fill = λ k a r x p. rw (p .image) (one-writes _ _ _ _ _ _ _);
   fill-each = λ k a r x p. rw (p .image) (each-writes _ _ _ _ _ _ _);
+  list-tiles = λ k a r x p. rw (p) (list-writes _ _ _ _ _);
+  fill-tiles = λ k a r x p. rw (p) (fill-writes _ _ _ _ _ _);
   tiles-list = λ k a r x p. tiles-write _ _ _ _ _ p .0;
   tiles-image = λ k a r x p. tiles-write _ _ _ _ _ p .1;
 }
@@ -245,9 +306,9 @@ module _ (b : List ℕ) (reuse : Bool) (l : Lent) (x : Lent) where
         image = but-painted (l .image) (isValidCell (shapeOf h) (bytesOf (k .mask))) _;
       })
 
-  pub whole-writes : (n end : ℕ) → WholeRead b reuse (read.Whole n end) l x → WholeWrites b reuse n l x
+  pub whole-writes : (h : Header) (n end : ℕ) → WholeRead b reuse (read.Whole h n end) l x → WholeWrites b reuse n l x
   unfolding readSays meaningFrom
-  whole-writes n end w =
+  whole-writes h n end w =
       let (m, e, c) = bind-is (readSays b reuse l) readCount (sym (w .says)) in
       let (k, d, f) = bind-is (masked b reuse l) _ e in
       let (y, p, f) = bind-is (bodySays (take (k .header .size) b) (k .header) (bytesOf (k .mask))) _ f in

@@ -9,7 +9,7 @@ use lib.ListN.{length, getD}
 use lib.Dec.{leb, ltb}
 use borrow.Author.Tests.{ltb-true, ltb-false, leb-false, not-true, not-false}
 use Rattle.lerc_words.specs.Lists.{allTo}
-use Rattle.lerc_words.proofs.Laws.{and-is}
+use Rattle.lerc_words.proofs.Binding.{and-is}
 use Rattle.lerc_words.proofs.Tables.{all-fails}
 use Rattle.lerc_numeric.specs.Numeric.{negative, finite, mag, less}
 use Rattle.lerc_header.specs.declared.Header.{Header}
@@ -17,8 +17,8 @@ use Rattle.lerc_header.specs.Limits.{sideways, depthLimit, cellLimit, sideLimit
 use Rattle.lerc_header.specs.Header.{shapeOf, rangesAt, errorRight, pairRight, fieldsRight, withinCeilings}
 use Rattle.lerc_header.specs.Shape.{cells, maskLength, blockCount}
 use Rattle.lerc_header.proofs.Kept.{Right, Within, fields-right, within-ceilings}
-use Rattle.lerc_planes.specs.declared.Ranges.{Ranges}
-use Rattle.lerc_planes.specs.Ranges.{pairsRight}
+use Rattle.lerc_ranges.specs.declared.Ranges.{Ranges}
+use Rattle.lerc_ranges.specs.Ranges.{pairsRight}
 use Rattle.lerc.specs.Read.{Lent, room}
 use Rattle.lerc_theorems.specs.Table.{PairWrong, low-not-finite, high-not-finite, crossed, SomePairWrong, pair-at, FieldWrong, no-rows, no-columns, no-depth, no-side, valid-many, kind-large, error-negative, error-large, min-max-wrong, size-small, CeilingPassed, rows-many, columns-many, depth-large, cells-many, side-large, size-large, TooShort, kept-short, spare-short, list-short, image-short}
 use Rattle.lerc_theorems.proofs.Meanings.{Rooms, rooms}

@@ -8,13 +8,13 @@ use Prim.Native.Nat.{ℕ}
 use Rattle.lerc_header.specs.declared.Header.{Header}
 use Rattle.lerc_header.specs.declared.HeaderAnswer.{HeaderAnswer}
 use Rattle.lerc_header.proofs.read_header.Reads as read-header
-use Rattle.lerc_planes.specs.declared.Ranges.{Ranges}
-use Rattle.lerc_planes.specs.declared.RangesRead.{RangesRead}
-use Rattle.lerc_planes.specs.declared.RangesAnswer.the-variants as ranges-answer
-use Rattle.lerc_planes.specs.declared.MaskAnswer.{MaskAnswer}
-use Rattle.lerc_planes.proofs.prepare_mask.Reads as prepare-mask
-use Rattle.lerc_planes.proofs.mask_in_force.Reads as mask-in-force
-use Rattle.lerc_planes.proofs.read_ranges.Reads as read-ranges
+use Rattle.lerc_ranges.specs.declared.Ranges.{Ranges}
+use Rattle.lerc_ranges.specs.declared.RangesRead.{RangesRead}
+use Rattle.lerc_ranges.specs.declared.RangesAnswer.the-variants as ranges-answer
+use Rattle.lerc_validity.specs.declared.MaskAnswer.{MaskAnswer}
+use Rattle.lerc_validity.proofs.prepare_mask.Reads as prepare-mask
+use Rattle.lerc_validity.proofs.mask_in_force.Reads as mask-in-force
+use Rattle.lerc_ranges.proofs.read_ranges.Reads as read-ranges
 use Rattle.lerc_image.specs.declared.WalkAnswer.{WalkAnswer}
 use Rattle.lerc_image.specs.declared.FillAnswer.{FillAnswer}
 use Rattle.lerc_image.proofs.walk.Reads as walk

@@ -30,4 +30,4 @@ pub record DemandOne : Type 0 where
   -- "Success writes only the mask's length, the list's first count entries and valid cells."
   pub writes-only : WritesOnly
   -- the same of whole read
-  pub whole-writes : (k : _) (a : _) (x : _) (n end : ℕ) → read.Post k a (answer.Whole n end) x → WholeWrites (a .0 .now) (a .1 .0) n (lent a) (lent x)
+  pub whole-writes : (k : _) (a : _) (x : _) (h : _) (n end : ℕ) → read.Post k a (answer.Whole h n end) x → WholeWrites (a .0 .now) (a .1 .0) n (lent a) (lent x)

@@ -17,11 +17,11 @@ use Rattle.lerc_header.specs.declared.HeaderAnswer.the-variants as header-answe
 use Rattle.lerc_header.specs.Shape.{pixels, cells, maskLength, blockCount}
 use Rattle.lerc_header.specs.Header.{shapeOf, headerBytes, headerOf, headerSays}
 use Rattle.lerc_mask.specs.Mask.{validBelow}
-use Rattle.lerc_planes.specs.declared.Ranges.{Ranges}
-use Rattle.lerc_planes.specs.declared.RangesRead.{RangesRead}
-use Rattle.lerc_planes.specs.declared.RangesAnswer.the-variants as ranges-answer
-use Rattle.lerc_planes.specs.declared.MaskAnswer.{MaskAnswer}
-use Rattle.lerc_planes.specs.Validity.{InForce, bytesOf, maskSays, spareWith}
+use Rattle.lerc_ranges.specs.declared.Ranges.{Ranges}
+use Rattle.lerc_ranges.specs.declared.RangesRead.{RangesRead}
+use Rattle.lerc_ranges.specs.declared.RangesAnswer.the-variants as ranges-answer
+use Rattle.lerc_validity.specs.declared.MaskAnswer.{MaskAnswer}
+use Rattle.lerc_validity.specs.Validity.{InForce, bytesOf, maskSays, spareWith}
 use Rattle.lerc_image.specs.declared.WalkAnswer.{WalkAnswer}
 use Rattle.lerc_image.specs.declared.WalkAnswer.the-variants as walk-answer
 use Rattle.lerc_image.specs.Geometry.{tileSize, tileOf, tileHere, cellOf, blockOf, placeIn, rank, isValidCell, positionOf, nextOf}
@@ -40,8 +40,8 @@ Roomy b l = (h : Header) → headerSays b ≡ ok h → room h l ≡ true
 
 -- what a whole read of a blob with meaning m answers and leaves
 pub record Exact (m : Meaning) (r : ReadAnswer) (old new : Lent) : Type 0 where
-  -- the count of blocks, and the end
-  pub answer : readSaid r ≡ ok (record { blocks = length (startsOf (m .body)); end = endOf (m .body) })
+  -- the header, the count of blocks, and the end
+  pub answer : readSaid r ≡ ok (record { header = m .header; blocks = length (startsOf (m .body)); end = endOf (m .body) })
   -- the mask in the kept mask's first bytes; what was made for it stands in the spare
   pub kept : new .kept ≡ over (bytesOf (m .mask)) (old .kept)
   pub spare : new .spare ≡ spareWith (m .mask) (old .spare)

@@ -8,7 +8,6 @@ use mathlib.Core.List.{List, [], _∷_}
 use Prim.Native.Nat.{ℕ}
 use lib.ListN.{length}
 use Rattle.lerc_words.specs.declared.Refusal.{Refusal}
-use Rattle.lerc_words.specs.Res.{refuse}
 use Rattle.lerc_image.specs.Paint.{among}
 use Rattle.lerc_words.proofs.word.Reads as word
 use Rattle.lerc_words.specs.declared.WordAnswer.the-variants as word-answer
@@ -23,50 +22,58 @@ use Rattle.lerc_samples.specs.declared.StoredAnswer.the-variants as stored-answ
 use Rattle.lerc_bits.proofs.inspect.Reads as inspect
 use Rattle.lerc_bits.specs.declared.PlanAnswer.the-variants as plan-answer
 use Rattle.lerc_bits.proofs.decode.Reads as decode-counts
+use Rattle.lerc_bits.proofs.decode_plan.Reads as decode-plan
+use Rattle.lerc_bits.proofs.check_plan.Reads as check-plan
 use Rattle.lerc_bits.proofs.check.Reads as check-counts
 use Rattle.lerc_bits.specs.declared.CountsAnswer.the-variants as counts-answer
 use Rattle.lerc_header.proofs.Header.held.Reads as held
 use Rattle.lerc_header.specs.declared.HeldAnswer.the-variants as held-answer
+use Rattle.lerc_header.proofs.open_blob.Reads as open-blob
+use Rattle.lerc_header.specs.declared.OpenAnswer.the-variants as open-answer
 use Rattle.lerc_header.proofs.read_header.Reads as read-header
 use Rattle.lerc_header.specs.declared.HeaderAnswer.the-variants as header-answer
 use Rattle.lerc_mask.proofs.decode.Reads as decode-mask
 use Rattle.lerc_mask.specs.declared.RunsAnswer.the-variants as runs-answer
-use Rattle.lerc_planes.proofs.prepare_mask.Reads as prepare-mask
-use Rattle.lerc_planes.specs.declared.MaskAnswer.the-variants as mask-answer
-use Rattle.lerc_planes.proofs.pairs.Reads as pairs
-use Rattle.lerc_planes.specs.declared.PairsAnswer.the-variants as pairs-answer
-use Rattle.lerc_planes.proofs.read_ranges.Reads as read-ranges
-use Rattle.lerc_planes.specs.declared.RangesAnswer.the-variants as ranges-answer
-use Rattle.lerc_planes.proofs.convert.Reads as convert
-use Rattle.lerc_planes.specs.declared.ConstantsAnswer.the-variants as constants-answer
-use Rattle.lerc_block.proofs.block_end.Reads as block-end
+use Rattle.lerc_validity.proofs.prepare_mask.Reads as prepare-mask
+use Rattle.lerc_validity.specs.declared.MaskAnswer.the-variants as mask-answer
+use Rattle.lerc_validity.proofs.find_mask.Reads as find-mask
+use Rattle.lerc_ranges.proofs.ranges_in.Reads as ranges-in
+use Rattle.lerc_ranges.proofs.pairs.Reads as pairs
+use Rattle.lerc_ranges.specs.declared.PairsAnswer.the-variants as pairs-answer
+use Rattle.lerc_ranges.proofs.read_ranges.Reads as read-ranges
+use Rattle.lerc_ranges.specs.declared.RangesAnswer.the-variants as ranges-answer
+use Rattle.lerc_ranges.proofs.convert.Reads as convert
+use Rattle.lerc_ranges.specs.declared.ConstantsAnswer.the-variants as constants-answer
+use Rattle.lerc_block.proofs.inspect_block.Reads as inspect-block
+use Rattle.lerc_block.specs.declared.plan.BlockPlanAnswer.the-variants as block-plan-answer
 use Rattle.lerc_block.specs.declared.BlockAnswer.the-variants as block-answer
 use Rattle.lerc_block.proofs.read_block.Reads as read-block
 use Rattle.lerc_block.proofs.check_block.Reads as check-block
-use Rattle.lerc_image.proofs.read_sweep.Reads as read-sweep
-use Rattle.lerc_image.specs.declared.sweep.WayAnswer.the-variants as way-answer
+use Rattle.lerc_sweep.proofs.read_sweep.Reads as read-sweep
+use Rattle.lerc_sweep.specs.declared.WayAnswer.the-variants as way-answer
 use Rattle.lerc_image.proofs.walk.Reads as walk
 use Rattle.lerc_image.specs.declared.WalkAnswer.the-variants as walk-answer
 use Rattle.lerc_image.proofs.fill.Reads as fill
 use Rattle.lerc_image.specs.declared.FillAnswer.the-variants as fill-answer
+use Rattle.lerc_image.proofs.check_tiles.Reads as check-tiles
 use Rattle.lerc_image.proofs.decode_tiles.Reads as decode-tiles
 use Rattle.lerc.specs.declared.ReadAnswer.the-variants as read-answer
 use Rattle.lerc.proofs.read.Reads as read
 use Rattle.lerc_theorems.specs.Promises.{lent}
-use Rattle.lerc_theorems.specs.BlockTable.{WordRefused, IntegerRefused, KindRefused, SampleRefused, StoredRefused, PlanRefused, CountsRefused, ConstantsRefused, EndRefused, ReadBlockRefused}
-use Rattle.lerc_theorems.specs.Table.{HeldRefused, HeaderRefused, RunsRefused, PrepareRefused, PairsRefused, ReadRangesRefused, SweepRefused, WalkRefused, FillRefused, TilesRefused, WholeRefused}
+use Rattle.lerc_theorems.specs.BlockTable.{WordRefused, IntegerRefused, KindRefused, SampleRefused, StoredRefused, PlanRefused, CountsRefused, PlannedRefused, ConstantsRefused, BlockPlanRefused, ReadBlockRefused}
+use Rattle.lerc_theorems.specs.Table.{HeldRefused, HeaderRefused, RunsRefused, PrepareRefused, FindRefused, PairsRefused, RangesInRefused, ReadRangesRefused, SweepRefused, WalkRefused, FillRefused, CheckRefused, TilesRefused, WholeRefused}
 
--- an answer that is a refusal with this number
-abbrev pub By : {R : Type 0} → (Refusal → R) → R → ℕ → Type 0
-By Refused r n = r ≡ Refused (refuse n)
+-- an answer that is this refusal
+abbrev pub By : {R : Type 0} → (Refusal → R) → R → Refusal → Type 0
+By Refused r why = r ≡ Refused why
 
--- a promise by which n is given exactly where the table says so
-abbrev pub Exactly : {K A R O : Type 0} → (K → A → R → O → Type 0) → (R → ℕ → Type 0) → (A → ℕ → Type 0) → Type 0
-Exactly {K} {A} {R} {O} Post refuses When = (k : K) (a : A) (r : R) (x : O) → Post k a r x → (n : ℕ) → refuses r n ↔ When a n
+-- a promise by which a refusal is given exactly where the table says so
+abbrev pub Exactly : {K A R O : Type 0} → (K → A → R → O → Type 0) → (R → Refusal → Type 0) → (A → Refusal → Type 0) → Type 0
+Exactly {K} {A} {R} {O} Post refuses When = (k : K) (a : A) (r : R) (x : O) → Post k a r x → (why : Refusal) → refuses r why ↔ When a why
 
 -- a promise by which no other numbers are given
-abbrev pub Only : {K A R O : Type 0} → (K → A → R → O → Type 0) → (R → ℕ → Type 0) → List ℕ → Type 0
-Only {K} {A} {R} {O} Post refuses numbers = (k : K) (a : A) (r : R) (x : O) → Post k a r x → (n : ℕ) → refuses r n → among numbers n ≡ true
+abbrev pub Only : {K A R O : Type 0} → (K → A → R → O → Type 0) → (R → Refusal → Type 0) → List ℕ → Type 0
+Only {K} {A} {R} {O} Post refuses numbers = (k : K) (a : A) (r : R) (x : O) → Post k a r x → (why : Refusal) → refuses r why → among numbers (why .number) ≡ true
 
 -- "given when": each number of each function, exactly
 pub record NumbersExactly : Type 0 where
@@ -76,21 +83,27 @@ pub record NumbersExactly : Type 0 where
   pub read-sample : Exactly read-sample.Post (By sample-answer.Refused) (λ a. SampleRefused (a .1 .1 .0) (a .0 .now) (a .1 .0))
   pub stored : Exactly stored.Post (By stored-answer.Refused) (λ a. StoredRefused (a .1 .0) (a .0))
   pub inspect : Exactly inspect.Post (By plan-answer.Refused) (λ a. PlanRefused (a .0 .now) (a .1 .0))
+  pub decode-plan : Exactly decode-plan.Post (By counts-answer.Refused) (λ a. PlannedRefused (a .0 .now) (a .1 .0))
+  pub check-plan : Exactly check-plan.Post (By counts-answer.Refused) (λ a. PlannedRefused (a .0 .now) (a .1 .0))
   pub decode-counts : Exactly decode-counts.Post (By counts-answer.Refused) (λ a. CountsRefused (a .0 .now) (a .1 .0))
   pub check-counts : Exactly check-counts.Post (By counts-answer.Refused) (λ a. CountsRefused (a .0 .now) (a .1 .0))
   pub held : Exactly held.Post (By held-answer.Refused) (λ a. HeldRefused (a .0) (a .1 .0))
+  pub open-blob : Exactly open-blob.Post (By open-answer.Refused) (λ a. HeaderRefused (a .0 .now))
   pub read-header : Exactly read-header.Post (By header-answer.Refused) (λ a. HeaderRefused (a .0 .now))
   pub decode-mask : Exactly decode-mask.Post (By runs-answer.Refused) (λ a. RunsRefused (a .0 .now) (a .1 .0) (a .1 .1 .0) (length (a .1 .1 .1 .0 .now)))
   pub prepare-mask : Exactly prepare-mask.Post (By mask-answer.Refused) (λ a. PrepareRefused (a .0 .now) (a .1 .0) (a .1 .1 .0) (a .1 .1 .1 .0 .now) (length (a .1 .1 .1 .1 .0 .now)))
+  pub find-mask : Exactly find-mask.Post (By mask-answer.Refused) (λ a. FindRefused (a .0 .now) (a .1 .0) (a .1 .1 .0) (a .1 .1 .1 .0 .now) (length (a .1 .1 .1 .1 .0 .now)))
   pub pairs : Exactly pairs.Post (By pairs-answer.Refused) (λ a. PairsRefused (a .0) (a .1 .0))
+  pub ranges-in : Exactly ranges-in.Post (λ r. By ranges-answer.Refused (r .answer)) (λ a. RangesInRefused (a .0 .now) (a .1 .0))
   pub read-ranges : Exactly read-ranges.Post (λ r. By ranges-answer.Refused (r .answer)) (λ a. ReadRangesRefused (a .0 .now) (a .1 .0))
   pub convert : Exactly convert.Post (λ r. By constants-answer.Refused (r .answer)) (λ a. ConstantsRefused (a .1 .0) (a .1 .1 .0) (a .0))
-  pub block-end : Exactly block-end.Post (By block-answer.Refused) (λ a. EndRefused (a .0 .now) (a .1 .0) (a .1 .1 .0) (a .1 .1 .1 .0))
+  pub inspect-block : Exactly inspect-block.Post (By block-plan-answer.Refused) (λ a. BlockPlanRefused (a .0 .now) (a .1 .0) (a .1 .1 .0) (a .1 .1 .1 .0) (a .1 .1 .1 .1 .0))
   pub read-block : Exactly read-block.Post (By block-answer.Refused) (λ a. ReadBlockRefused (a .0 .now) (a .1 .0) (a .1 .1 .0) (a .1 .1 .1 .0) (a .1 .1 .1 .1 .0) (a .1 .1 .1 .1 .1 .0) (a .1 .1 .1 .1 .1 .1 .0))
   pub check-block : Exactly check-block.Post (By block-answer.Refused) (λ a. ReadBlockRefused (a .0 .now) (a .1 .0) (a .1 .1 .0) (a .1 .1 .1 .0) (a .1 .1 .1 .1 .0) (a .1 .1 .1 .1 .1 .0) (a .1 .1 .1 .1 .1 .1 .0))
   pub read-sweep : Exactly read-sweep.Post (By way-answer.Refused) (λ a. SweepRefused (a .0 .now) (a .1 .1 .0) (a .1 .1 .1 .0) (a .1 .0))
   pub walk : Exactly walk.Post (By walk-answer.Refused) (λ a. WalkRefused (a .0 .now) (a .1 .0) (a .1 .1 .0) (a .1 .1 .1 .0 .now) (length (a .1 .1 .1 .1 .0 .now)))
   pub fill : Exactly fill.Post (By fill-answer.Refused) (λ a. FillRefused (a .0 .now) (a .1 .0) (a .1 .1 .0) (a .1 .1 .1 .0 .now) (a .1 .1 .1 .1 .0 .now) (a .1 .1 .1 .1 .1 .0) (length (a .1 .1 .1 .1 .1 .1 .0 .now)))
+  pub check-tiles : Exactly check-tiles.Post (By walk-answer.Refused) (λ a. CheckRefused (a .0 .now) (a .1 .0) (a .1 .1 .0 .now) (a .1 .1 .1 .0 .now) (a .1 .1 .1 .1 .0))
   pub decode-tiles : Exactly decode-tiles.Post (By walk-answer.Refused) (λ a. TilesRefused (a .0 .now) (a .1 .0) (a .1 .1 .0 .now) (a .1 .1 .1 .0 .now) (a .1 .1 .1 .1 .0) (length (a .1 .1 .1 .1 .1 .0 .now)) (length (a .1 .1 .1 .1 .1 .1 .0 .now)))
   pub read : Exactly read.Post (By read-answer.Refused) (λ a. WholeRefused (a .0 .now) (a .1 .0) (lent a))
 
@@ -102,20 +115,26 @@ pub record NumbersOnly : Type 0 where
   pub read-sample : Only read-sample.Post (By sample-answer.Refused) (1 ∷ [])
   pub stored : Only stored.Post (By stored-answer.Refused) (9 ∷ [])
   pub inspect : Only inspect.Post (By plan-answer.Refused) (1 ∷ 8 ∷ [])
+  pub decode-plan : Only decode-plan.Post (By counts-answer.Refused) (8 ∷ [])
+  pub check-plan : Only check-plan.Post (By counts-answer.Refused) (8 ∷ [])
   pub decode-counts : Only decode-counts.Post (By counts-answer.Refused) (1 ∷ 8 ∷ [])
   pub check-counts : Only check-counts.Post (By counts-answer.Refused) (1 ∷ 8 ∷ [])
   pub held : Only held.Post (By held-answer.Refused) (1 ∷ 3 ∷ 4 ∷ [])
+  pub open-blob : Only open-blob.Post (By open-answer.Refused) (1 ∷ 2 ∷ 3 ∷ 4 ∷ [])
   pub read-header : Only read-header.Post (By header-answer.Refused) (1 ∷ 2 ∷ 3 ∷ 4 ∷ [])
   pub decode-mask : Only decode-mask.Post (By runs-answer.Refused) (5 ∷ 6 ∷ [])
   pub prepare-mask : Only prepare-mask.Post (By mask-answer.Refused) (1 ∷ 3 ∷ 4 ∷ 5 ∷ 6 ∷ [])
+  pub find-mask : Only find-mask.Post (By mask-answer.Refused) (1 ∷ 5 ∷ 6 ∷ [])
   pub pairs : Only pairs.Post (By pairs-answer.Refused) (7 ∷ [])
+  pub ranges-in : Only ranges-in.Post (λ r. By ranges-answer.Refused (r .answer)) (1 ∷ 4 ∷ 7 ∷ [])
   pub read-ranges : Only read-ranges.Post (λ r. By ranges-answer.Refused (r .answer)) (1 ∷ 3 ∷ 4 ∷ 7 ∷ [])
   pub convert : Only convert.Post (λ r. By constants-answer.Refused (r .answer)) (9 ∷ [])
-  pub block-end : Only block-end.Post (By block-answer.Refused) (1 ∷ 8 ∷ [])
+  pub inspect-block : Only inspect-block.Post (By block-plan-answer.Refused) (1 ∷ 8 ∷ [])
   pub read-block : Only read-block.Post (By block-answer.Refused) (1 ∷ 8 ∷ 9 ∷ [])
   pub check-block : Only check-block.Post (By block-answer.Refused) (1 ∷ 8 ∷ 9 ∷ [])
   pub read-sweep : Only read-sweep.Post (By way-answer.Refused) (1 ∷ 8 ∷ 10 ∷ [])
   pub walk : Only walk.Post (By walk-answer.Refused) (1 ∷ 3 ∷ 4 ∷ 5 ∷ 7 ∷ 8 ∷ 9 ∷ 10 ∷ [])
   pub fill : Only fill.Post (By fill-answer.Refused) (1 ∷ 3 ∷ 4 ∷ 5 ∷ 7 ∷ 8 ∷ 9 ∷ 11 ∷ [])
+  pub check-tiles : Only check-tiles.Post (By walk-answer.Refused) (1 ∷ 3 ∷ 4 ∷ 5 ∷ 8 ∷ 9 ∷ [])
   pub decode-tiles : Only decode-tiles.Post (By walk-answer.Refused) (1 ∷ 3 ∷ 4 ∷ 5 ∷ 8 ∷ 9 ∷ [])
   pub read : Only read.Post (By read-answer.Refused) (1 ∷ 2 ∷ 3 ∷ 4 ∷ 5 ∷ 6 ∷ 7 ∷ 8 ∷ 9 ∷ 10 ∷ [])

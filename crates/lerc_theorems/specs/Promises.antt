@@ -10,6 +10,10 @@ use Rattle.lerc_words.proofs.WordAnswer.refusal.Reads as word-refusal
 use Rattle.lerc_words.proofs.peek.Reads as peek
 use Rattle.lerc_words.proofs.bytes.Reads as bytes
 use Rattle.lerc_words.proofs.word.Reads as word
+use Rattle.lerc_slices.proofs.copy_bytes.Reads as copy-bytes
+use Rattle.lerc_slices.proofs.copy_words.Reads as copy-words
+use Rattle.lerc_slices.proofs.fill_bytes.Reads as fill-bytes
+use Rattle.lerc_slices.proofs.fill_words.Reads as fill-words
 use Rattle.lerc_numeric.proofs.IntegerAnswer.refusal.Reads as integer-refusal
 use Rattle.lerc_numeric.proofs.plus.Reads as plus
 use Rattle.lerc_numeric.proofs.scale.Reads as scale
@@ -31,35 +35,46 @@ use Rattle.lerc_bits.proofs.PlanAnswer.refusal.Reads as plan-refusal
 use Rattle.lerc_bits.proofs.CountsAnswer.refusal.Reads as counts-refusal
 use Rattle.lerc_bits.proofs.inspect.Reads as inspect
 use Rattle.lerc_bits.proofs.decode.Reads as decode-counts
+use Rattle.lerc_bits.proofs.decode_plan.Reads as decode-plan
+use Rattle.lerc_bits.proofs.check_plan.Reads as check-plan
 use Rattle.lerc_bits.proofs.check.Reads as check-counts
 use Rattle.lerc_header.proofs.HeaderAnswer.refusal.Reads as header-refusal
 use Rattle.lerc_header.proofs.HeldAnswer.refusal.Reads as held-refusal
 use Rattle.lerc_header.proofs.pair_right.Reads as pair-right
 use Rattle.lerc_header.proofs.Header.held.Reads as held
+use Rattle.lerc_header.proofs.OpenAnswer.refusal.Reads as open-refusal
+use Rattle.lerc_header.proofs.open_blob.Reads as open-blob
 use Rattle.lerc_header.proofs.read_header.Reads as read-header
 use Rattle.lerc_mask.proofs.RunsAnswer.refusal.Reads as runs-refusal
 use Rattle.lerc_mask.proofs.is_valid.Reads as is-valid
 use Rattle.lerc_mask.proofs.count.Reads as count-valid
 use Rattle.lerc_mask.proofs.decode.Reads as decode-mask
-use Rattle.lerc_planes.proofs.MaskAnswer.refusal.Reads as mask-refusal
-use Rattle.lerc_planes.proofs.RangesAnswer.refusal.Reads as ranges-refusal
-use Rattle.lerc_planes.proofs.PairsAnswer.refusal.Reads as pairs-refusal
-use Rattle.lerc_planes.proofs.ConstantsAnswer.refusal.Reads as constants-refusal
-use Rattle.lerc_planes.proofs.prepare_mask.Reads as prepare-mask
-use Rattle.lerc_planes.proofs.mask_in_force.Reads as mask-in-force
-use Rattle.lerc_planes.proofs.pairs.Reads as pairs
-use Rattle.lerc_planes.proofs.read_ranges.Reads as read-ranges
-use Rattle.lerc_planes.proofs.convert.Reads as convert
+use Rattle.lerc_validity.proofs.MaskAnswer.refusal.Reads as mask-refusal
+use Rattle.lerc_ranges.proofs.RangesAnswer.refusal.Reads as ranges-refusal
+use Rattle.lerc_ranges.proofs.PairsAnswer.refusal.Reads as pairs-refusal
+use Rattle.lerc_ranges.proofs.ConstantsAnswer.refusal.Reads as constants-refusal
+use Rattle.lerc_validity.proofs.prepare_mask.Reads as prepare-mask
+use Rattle.lerc_validity.proofs.find_mask.Reads as find-mask
+use Rattle.lerc_validity.proofs.mask_in_force.Reads as mask-in-force
+use Rattle.lerc_ranges.proofs.pairs.Reads as pairs
+use Rattle.lerc_ranges.proofs.ranges_in.Reads as ranges-in
+use Rattle.lerc_ranges.proofs.read_ranges.Reads as read-ranges
+use Rattle.lerc_ranges.proofs.convert.Reads as convert
 use Rattle.lerc_block.proofs.BlockAnswer.refusal.Reads as block-refusal
-use Rattle.lerc_block.proofs.block_end.Reads as block-end
+use Rattle.lerc_block.proofs.plan.BlockPlanAnswer.refusal.Reads as block-plan-refusal
+use Rattle.lerc_block.proofs.plan.BlockPlanAnswer.end.Reads as block-plan-end
+use Rattle.lerc_block.proofs.inspect_block.Reads as inspect-block
 use Rattle.lerc_block.proofs.read_block.Reads as read-block
 use Rattle.lerc_block.proofs.check_block.Reads as check-block
 use Rattle.lerc_image.proofs.WalkAnswer.refusal.Reads as walk-refusal
 use Rattle.lerc_image.proofs.FillAnswer.refusal.Reads as fill-refusal
-use Rattle.lerc_image.proofs.sweep.WayAnswer.refusal.Reads as way-refusal
-use Rattle.lerc_image.proofs.read_sweep.Reads as read-sweep
+use Rattle.lerc_sweep.proofs.WayAnswer.refusal.Reads as way-refusal
+use Rattle.lerc_sweep.proofs.read_sweep.Reads as read-sweep
 use Rattle.lerc_image.proofs.walk.Reads as walk
 use Rattle.lerc_image.proofs.fill.Reads as fill
+use Rattle.lerc_image.proofs.check_tiles.Reads as check-tiles
+use Rattle.lerc_image.proofs.list_tiles.Reads as list-tiles
+use Rattle.lerc_image.proofs.fill_tiles.Reads as fill-tiles
 use Rattle.lerc_image.proofs.decode_tiles.Reads as decode-tiles
 use Rattle.lerc_fills.proofs.fill_each.Reads as fill-each
 use Rattle.lerc.specs.Read.{Lent}
@@ -110,6 +125,11 @@ pub record NoRoom : Type 0 where
   pub peek : Answers peek.Pre peek.Post
   pub bytes : Answers bytes.Pre bytes.Post
   pub word : Answers word.Pre word.Post
+  -- lerc_slices
+  pub copy-bytes : Writes copy-bytes.Pre copy-bytes.Post (λ o. o .1 .0 .now)
+  pub copy-words : Writes copy-words.Pre copy-words.Post (λ o. o .1 .0 .now)
+  pub fill-bytes : Writes fill-bytes.Pre fill-bytes.Post (λ o. o .1 .0 .now)
+  pub fill-words : Writes fill-words.Pre fill-words.Post (λ o. o .1 .0 .now)
   -- lerc_numeric
   pub integer-refusal : Answers integer-refusal.Pre integer-refusal.Post
   pub plus : Answers plus.Pre plus.Post
@@ -133,41 +153,53 @@ pub record NoRoom : Type 0 where
   pub plan-refusal : Answers plan-refusal.Pre plan-refusal.Post
   pub counts-refusal : Answers counts-refusal.Pre counts-refusal.Post
   pub inspect : Answers inspect.Pre inspect.Post
+  pub decode-plan : Writes decode-plan.Pre decode-plan.Post (λ o. o .1 .1 .0 .now)
+  pub check-plan : Answers check-plan.Pre check-plan.Post
   pub decode-counts : Writes decode-counts.Pre decode-counts.Post (λ o. o .1 .1 .0 .now)
   pub check-counts : Answers check-counts.Pre check-counts.Post
   -- lerc_header
   pub header-refusal : Answers header-refusal.Pre header-refusal.Post
   pub held-refusal : Answers held-refusal.Pre held-refusal.Post
+  pub open-refusal : Answers open-refusal.Pre open-refusal.Post
   pub pair-right : Answers pair-right.Pre pair-right.Post
   pub held : Answers held.Pre held.Post
+  pub open-blob : Answers open-blob.Pre open-blob.Post
   pub read-header : Answers read-header.Pre read-header.Post
   -- lerc_mask
   pub runs-refusal : Answers runs-refusal.Pre runs-refusal.Post
   pub is-valid : Answers is-valid.Pre is-valid.Post
   pub count-valid : Answers count-valid.Pre count-valid.Post
   pub decode-mask : Writes decode-mask.Pre decode-mask.Post (λ o. o .1 .1 .1 .0 .now)
-  -- lerc_planes
+  -- lerc_validity and lerc_ranges
   pub mask-refusal : Answers mask-refusal.Pre mask-refusal.Post
   pub ranges-refusal : Answers ranges-refusal.Pre ranges-refusal.Post
   pub pairs-refusal : Answers pairs-refusal.Pre pairs-refusal.Post
   pub constants-refusal : Answers constants-refusal.Pre constants-refusal.Post
   pub prepare-mask : Writes prepare-mask.Pre prepare-mask.Post (λ o. o .1 .1 .1 .1 .0 .now)
+  pub find-mask : Writes find-mask.Pre find-mask.Post (λ o. o .1 .1 .1 .1 .0 .now)
   pub mask-in-force : Fixed {S = Unit {0}} mask-in-force.Pre mask-in-force.Post (λ r. r .now) (λ o. tt)
   pub pairs : Answers pairs.Pre pairs.Post
+  pub ranges-in : Answers ranges-in.Pre ranges-in.Post
   pub read-ranges : Answers read-ranges.Pre read-ranges.Post
   pub convert : Answers convert.Pre convert.Post
   -- lerc_block
   pub block-refusal : Answers block-refusal.Pre block-refusal.Post
-  pub block-end : Answers block-end.Pre block-end.Post
+  pub block-plan-refusal : Answers block-plan-refusal.Pre block-plan-refusal.Post
+  pub block-plan-end : Answers block-plan-end.Pre block-plan-end.Post
+  pub inspect-block : Answers inspect-block.Pre inspect-block.Post
   pub read-block : Writes read-block.Pre read-block.Post (λ o. o .1 .1 .1 .1 .1 .1 .1 .0 .now)
   pub check-block : Answers check-block.Pre check-block.Post
+  -- lerc_sweep
+  pub way-refusal : Answers way-refusal.Pre way-refusal.Post
+  pub read-sweep : Answers read-sweep.Pre read-sweep.Post
   -- lerc_image
   pub walk-refusal : Answers walk-refusal.Pre walk-refusal.Post
   pub fill-refusal : Answers fill-refusal.Pre fill-refusal.Post
-  pub way-refusal : Answers way-refusal.Pre way-refusal.Post
-  pub read-sweep : Answers read-sweep.Pre read-sweep.Post
   pub walk : Writes walk.Pre walk.Post (λ o. o .1 .1 .1 .1 .0 .now)
   pub fill : Writes fill.Pre fill.Post (λ o. o .1 .1 .1 .1 .1 .1 .0 .now)
+  pub check-tiles : Answers check-tiles.Pre check-tiles.Post
+  pub list-tiles : Writes list-tiles.Pre list-tiles.Post (λ o. o .1 .1 .1 .1 .0 .now)
+  pub fill-tiles : Writes fill-tiles.Pre fill-tiles.Post (λ o. o .1 .1 .1 .1 .1 .0 .now)
   pub decode-tiles : Writes {S = List ℕ × List ℕ} decode-tiles.Pre decode-tiles.Post (λ o. (o .1 .1 .1 .1 .1 .0 .now, o .1 .1 .1 .1 .1 .1 .0 .now))
   -- lerc_fills
   pub fill-each : Writes fill-each.Pre fill-each.Post (λ o. o .1 .1 .1 .1 .1 .1 .0 .now)

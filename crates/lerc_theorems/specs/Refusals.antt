@@ -10,6 +10,7 @@ use Rattle.lerc_words.specs.declared.Refusal.{Refusal}
 use Rattle.lerc_words.specs.Res.{ok}
 use Rattle.lerc_words.specs.Lists.{over}
 use Rattle.lerc_bits.specs.declared.CountsAnswer.the-variants as counts
+use Rattle.lerc_bits.proofs.decode_plan.Reads as decode-plan
 use Rattle.lerc_bits.proofs.decode.Reads as decode-counts
 use Rattle.lerc_header.specs.declared.Header.{Header}
 use Rattle.lerc_header.specs.Header.{shapeOf, headerSays}
@@ -17,15 +18,17 @@ use Rattle.lerc_header.specs.Limits.{depthLimit}
 use Rattle.lerc_header.specs.Shape.{maskLength}
 use Rattle.lerc_mask.specs.declared.RunsAnswer.the-variants as runs
 use Rattle.lerc_mask.proofs.decode.Reads as decode-mask
-use Rattle.lerc_planes.specs.declared.MaskAnswer.the-variants as mask
-use Rattle.lerc_planes.specs.declared.RangesAnswer.the-variants as ranges
-use Rattle.lerc_planes.specs.declared.ConstantsAnswer.the-variants as constants
-use Rattle.lerc_planes.specs.Validity.{new, maskSays}
-use Rattle.lerc_planes.specs.Ranges.{noRanges}
-use Rattle.lerc_planes.proofs.prepare_mask.Reads as prepare-mask
-use Rattle.lerc_planes.proofs.mask_in_force.Reads as mask-in-force
-use Rattle.lerc_planes.proofs.read_ranges.Reads as read-ranges
-use Rattle.lerc_planes.proofs.convert.Reads as convert
+use Rattle.lerc_validity.specs.declared.MaskAnswer.the-variants as mask
+use Rattle.lerc_ranges.specs.declared.RangesAnswer.the-variants as ranges
+use Rattle.lerc_ranges.specs.declared.ConstantsAnswer.the-variants as constants
+use Rattle.lerc_validity.specs.Validity.{new, maskSays}
+use Rattle.lerc_ranges.specs.Ranges.{noRanges}
+use Rattle.lerc_validity.proofs.prepare_mask.Reads as prepare-mask
+use Rattle.lerc_validity.proofs.find_mask.Reads as find-mask
+use Rattle.lerc_validity.proofs.mask_in_force.Reads as mask-in-force
+use Rattle.lerc_ranges.proofs.read_ranges.Reads as read-ranges
+use Rattle.lerc_ranges.proofs.ranges_in.Reads as ranges-in
+use Rattle.lerc_ranges.proofs.convert.Reads as convert
 use Rattle.lerc_block.specs.declared.BlockAnswer.the-variants as block
 use Rattle.lerc_block.proofs.read_block.Reads as read-block
 use Rattle.lerc_image.specs.declared.WalkAnswer.the-variants as walked
@@ -41,9 +44,11 @@ Keeps {K} {A} {R} {O} Post Refused before left = (k : K) (a : A) (x : O) (why : 
 
 -- every public function that is lent a slice to write, whole read apart
 pub record RefusalsKeep : Type 0 where
+  pub decode-plan : Keeps decode-plan.Post counts.Refused (λ a. a .1 .1 .0 .now) (λ o. o .1 .1 .0 .now)
   pub decode-counts : Keeps decode-counts.Post counts.Refused (λ a. a .1 .1 .0 .now) (λ o. o .1 .1 .0 .now)
   pub decode-mask : Keeps decode-mask.Post runs.Refused (λ a. a .1 .1 .1 .0 .now) (λ o. o .1 .1 .1 .0 .now)
   pub prepare-mask : Keeps prepare-mask.Post mask.Refused (λ a. a .1 .1 .1 .1 .0 .now) (λ o. o .1 .1 .1 .1 .0 .now)
+  pub find-mask : Keeps find-mask.Post mask.Refused (λ a. a .1 .1 .1 .1 .0 .now) (λ o. o .1 .1 .1 .1 .0 .now)
   pub read-block : Keeps read-block.Post block.Refused (λ a. a .1 .1 .1 .1 .1 .1 .1 .0 .now) (λ o. o .1 .1 .1 .1 .1 .1 .1 .0 .now)
   pub walk : Keeps walk.Post walked.Refused (λ a. a .1 .1 .1 .1 .0 .now) (λ o. o .1 .1 .1 .1 .0 .now)
   pub fill : Keeps fill.Post filled.Refused (λ a. a .1 .1 .1 .1 .1 .1 .0 .now) (λ o. o .1 .1 .1 .1 .1 .1 .0 .now)
@@ -54,6 +59,7 @@ pub record RefusalsKeep : Type 0 where
 -- "A refusal carries its number, and 0 for each count and offset; a part to be handed back is then empty."
 -- An answer that is an enum has no place for more than the number where it is a refusal; these are the others.
 pub record RefusalsEmpty : Type 0 where
+  pub ranges-found : (k : _) (a : _) (r : _) (x : _) (why : Refusal) → ranges-in.Post k a r x → r .answer ≡ ranges.Refused why → r .ranges ≡ noRanges
   pub ranges : (k : _) (a : _) (r : _) (x : _) (why : Refusal) → read-ranges.Post k a r x → r .answer ≡ ranges.Refused why → r .ranges ≡ noRanges
   pub constants : (k : _) (a : _) (r : _) (x : _) (why : Refusal) → convert.Post k a r x → r .answer ≡ constants.Refused why → r .words ≡ replicate depthLimit 0
   -- the mask that is handed back, where preparing it was refused

@@ -7,18 +7,19 @@ use mathlib.Core.Bool.{Bool, true, false}
 use mathlib.Core.List.{List}
 use Prim.Native.Nat.{ℕ, _+_, _*_, _^_, _≤_, _<_, min}
 use lib.ListN.{length, getD, take, drop}
-use Rattle.lerc_words.specs.Res.{ok, wordAt}
+use Rattle.lerc_words.specs.declared.Refusal.{Refusal}
+use Rattle.lerc_words.specs.Res.{ok, refuse, wordAt}
 use Rattle.lerc_numeric.specs.Numeric.{negative, finite, mag, less, same}
 use Rattle.lerc_numeric.specs.Kinds.{typeSize}
 use Rattle.lerc_header.specs.declared.Header.{Header}
 use Rattle.lerc_header.specs.Limits.{depthLimit}
-use Rattle.lerc_header.specs.Header.{headerBytes, shapeOf, fieldsRight, withinCeilings, keyRight, headerOf, headerSays}
+use Rattle.lerc_header.specs.Header.{headerBytes, rangesAt, shapeOf, fieldsRight, withinCeilings, keyRight, headerOf, headerSays}
 use Rattle.lerc_header.specs.Shape.{pixels, cells, maskLength, blockCount}
 use Rattle.lerc_mask.specs.Mask.{validBelow, maskBytes}
-use Rattle.lerc_planes.specs.declared.Ranges.{Ranges}
-use Rattle.lerc_planes.specs.Validity.{bytesOf}
-use Rattle.lerc_planes.specs.Ranges.{rangesEnd, codedRanges, pairsRight, rangesSays}
-use Rattle.lerc_image.specs.Sweep.{rawFrom, blocksFrom, hasModeByte, swept}
+use Rattle.lerc_ranges.specs.declared.Ranges.{Ranges}
+use Rattle.lerc_validity.specs.Validity.{bytesOf}
+use Rattle.lerc_ranges.specs.Ranges.{rangesEnd, codedRanges, pairsRight, rangesSays}
+use Rattle.lerc_sweep.specs.Sweep.{rawFrom, blocksFrom, hasModeByte, swept}
 use Rattle.lerc_image.specs.Geometry.{tileOf, tileValid}
 use Rattle.lerc_image.specs.Blocks.{Chain, chain}
 use Rattle.lerc.specs.Read.{Lent, room, Masked, masked}
@@ -77,16 +78,16 @@ pub record HeldRight (h : Header) (len : ℕ) : Type 0 where
   pub whole : h .size ≤ len
 
 -- "held to these rules again (3, 4, 1 for a slice shorter than the size ..)"
-pub data HeldRefused (h : Header) (len : ℕ) : ℕ → Type 0 where
-  field-wrong : FieldWrong h → HeldRefused h len 3
-  ceiling-passed : fieldsRight h ≡ true → CeilingPassed h → HeldRefused h len 4
-  blob-cut : fieldsRight h ≡ true → withinCeilings h ≡ true → len < h .size → HeldRefused h len 1
+pub data HeldRefused (h : Header) (len : ℕ) : Refusal → Type 0 where
+  field-wrong : FieldWrong h → HeldRefused h len (refuse 3)
+  ceiling-passed : fieldsRight h ≡ true → CeilingPassed h → HeldRefused h len (refuse 4)
+  blob-cut : fieldsRight h ≡ true → withinCeilings h ≡ true → len < h .size → HeldRefused h len (refuse 1)
 
 -- "slice under 70 gives 1; then 2; then 3 ..; Then ceilings (4) ..; Then slice shorter than size: 1."
-pub data HeaderRefused (b : List ℕ) : ℕ → Type 0 where
-  header-cut : length b < headerBytes → HeaderRefused b 1
-  key-wrong : headerBytes ≤ length b → keyRight b ≡ false → HeaderRefused b 2
-  not-held : {n : ℕ} → headerBytes ≤ length b → keyRight b ≡ true → HeldRefused (headerOf b) (length b) n → HeaderRefused b n
+pub data HeaderRefused (b : List ℕ) : Refusal → Type 0 where
+  header-cut : length b < headerBytes → HeaderRefused b (refuse 1)
+  key-wrong : headerBytes ≤ length b → keyRight b ≡ false → HeaderRefused b (refuse 2)
+  not-held : {n : Refusal} → headerBytes ≤ length b → keyRight b ≡ true → HeldRefused (headerOf b) (length b) n → HeaderRefused b n
 
 -- ---- the mask: "mask section wrong", "Any breach is 6."
 
@@ -105,66 +106,77 @@ pub data MaskWrong (s : List ℕ) (h : Header) (reuse : Bool) (old : List ℕ) :
   runs-wrong : (Uniform h → ⊥) → h .mask ≢ 0 → CodedWrong (take (h .mask) (drop headerBytes s)) (pixels (shapeOf h)) (h .valid) → MaskWrong s h reuse old
 
 -- the runs of a section alone: 5 for a slice too short, 6
-pub data RunsRefused (s : List ℕ) (count valid room : ℕ) : ℕ → Type 0 where
-  runs-room : room < maskBytes count → RunsRefused s count valid room 5
-  runs-breach : maskBytes count ≤ room → CodedWrong s count valid → RunsRefused s count valid room 6
+pub data RunsRefused (s : List ℕ) (count valid room : ℕ) : Refusal → Type 0 where
+  runs-room : room < maskBytes count → RunsRefused s count valid room (refuse 5)
+  runs-breach : maskBytes count ≤ room → CodedWrong s count valid → RunsRefused s count valid room (refuse 6)
 
 -- prepare a mask: the header's, 5, 6
-pub data PrepareRefused (b : List ℕ) (h : Header) (reuse : Bool) (old : List ℕ) (room : ℕ) : ℕ → Type 0 where
-  mask-held : {n : ℕ} → HeldRefused h (length b) n → PrepareRefused b h reuse old room n
-  mask-room : HeldRight h (length b) → (length old < maskLength (shapeOf h)) ⊎ (room < maskLength (shapeOf h)) → PrepareRefused b h reuse old room 5
+pub data PrepareRefused (b : List ℕ) (h : Header) (reuse : Bool) (old : List ℕ) (room : ℕ) : Refusal → Type 0 where
+  mask-held : {n : Refusal} → HeldRefused h (length b) n → PrepareRefused b h reuse old room n
+  mask-room : HeldRight h (length b) → (length old < maskLength (shapeOf h)) ⊎ (room < maskLength (shapeOf h)) → PrepareRefused b h reuse old room (refuse 5)
   mask-wrong : HeldRight h (length b) → maskLength (shapeOf h) ≤ length old → maskLength (shapeOf h) ≤ room → MaskWrong (take (h .size) b) h reuse old
-      → PrepareRefused b h reuse old room 6
+      → PrepareRefused b h reuse old room (refuse 6)
+
+-- the mask in the bytes of a blob that was opened: 5, a section that passes the bytes 1, 6
+pub data FindRefused (s : List ℕ) (h : Header) (reuse : Bool) (old : List ℕ) (room : ℕ) : Refusal → Type 0 where
+  find-room : (length old < maskLength (shapeOf h)) ⊎ (room < maskLength (shapeOf h)) → FindRefused s h reuse old room (refuse 5)
+  section-cut : maskLength (shapeOf h) ≤ length old → maskLength (shapeOf h) ≤ room → length s < rangesAt h → FindRefused s h reuse old room (refuse 1)
+  find-wrong : maskLength (shapeOf h) ≤ length old → maskLength (shapeOf h) ≤ room → rangesAt h ≤ length s → MaskWrong s h reuse old → FindRefused s h reuse old room (refuse 6)
 
 -- ---- ranges: "all of which must fit (1) before a number is judged"
 
-pub data RangesRefused (s : List ℕ) (h : Header) : ℕ → Type 0 where
-  ranges-cut : same (h .min) (h .max) ≡ false → length s < rangesEnd h → RangesRefused s h 1
-  pairs-wrong : same (h .min) (h .max) ≡ false → rangesEnd h ≤ length s → SomePairWrong (h .depth) (codedRanges s h) → RangesRefused s h 7
+pub data RangesRefused (s : List ℕ) (h : Header) : Refusal → Type 0 where
+  ranges-cut : same (h .min) (h .max) ≡ false → length s < rangesEnd h → RangesRefused s h (refuse 1)
+  pairs-wrong : same (h .min) (h .max) ≡ false → rangesEnd h ≤ length s → SomePairWrong (h .depth) (codedRanges s h) → RangesRefused s h (refuse 7)
+
+-- the ranges in the bytes of a blob that was opened: more depths than there are entries 4, 1, 7
+pub data RangesInRefused (s : List ℕ) (h : Header) : Refusal → Type 0 where
+  depths-many : depthLimit < h .depth → RangesInRefused s h (refuse 4)
+  ranges-not-in : {n : Refusal} → h .depth ≤ depthLimit → RangesRefused s h n → RangesInRefused s h n
 
 -- read ranges: the header's, 1, 7
-pub data ReadRangesRefused (b : List ℕ) (h : Header) : ℕ → Type 0 where
-  ranges-held : {n : ℕ} → HeldRefused h (length b) n → ReadRangesRefused b h n
-  ranges-wrong : {n : ℕ} → HeldRight h (length b) → RangesRefused (take (h .size) b) h n → ReadRangesRefused b h n
+pub data ReadRangesRefused (b : List ℕ) (h : Header) : Refusal → Type 0 where
+  ranges-held : {n : Refusal} → HeldRefused h (length b) n → ReadRangesRefused b h n
+  ranges-wrong : {n : Refusal} → HeldRight h (length b) → RangesRefused (take (h .size) b) h n → ReadRangesRefused b h n
 
 -- ranges by value: "7 for the pairs below the depth"
-pub data PairsRefused (depth : ℕ) (r : Ranges) : ℕ → Type 0 where
-  pair-wrong : SomePairWrong (min depth depthLimit) r → PairsRefused depth r 7
+pub data PairsRefused (depth : ℕ) (r : Ranges) : Refusal → Type 0 where
+  pair-wrong : SomePairWrong (min depth depthLimit) r → PairsRefused depth r (refuse 7)
 
 -- ---- sweep and mode byte
 
 -- "0 blocks; 1, 2 refused 10; others 8"
-pub data ModeRefused (s : List ℕ) (at : ℕ) : ℕ → Type 0 where
-  mode-cut : length s < at + 1 → ModeRefused s at 1
-  mode-wrong : (v : ℕ) → wordAt 1 s at ≡ ok v → 3 ≤ v → ModeRefused s at 8
-  mode-coded : (v : ℕ) → wordAt 1 s at ≡ ok v → 1 ≤ v → v ≤ 2 → ModeRefused s at 10
+pub data ModeRefused (s : List ℕ) (at : ℕ) : Refusal → Type 0 where
+  mode-cut : length s < at + 1 → ModeRefused s at (refuse 1)
+  mode-wrong : (v : ℕ) → wordAt 1 s at ≡ ok v → 3 ≤ v → ModeRefused s at (refuse 8)
+  mode-coded : (v : ℕ) → wordAt 1 s at ≡ ok v → 1 ≤ v → v ≤ 2 → ModeRefused s at (refuse 10)
 
 -- "1 is raw words ..; 0 goes on; others are 8. Kinds 0 and 1 with error exactly 0.5 have a mode byte"
-pub data SweepRefused (s : List ℕ) (kind error at : ℕ) : ℕ → Type 0 where
-  sweep-cut : length s < at + 1 → SweepRefused s kind error at 1
-  sweep-wrong : (v : ℕ) → wordAt 1 s at ≡ ok v → 2 ≤ v → SweepRefused s kind error at 8
-  mode-refused : {n : ℕ} → wordAt 1 s at ≡ ok 0 → hasModeByte kind error ≡ true → ModeRefused s (at + 1) n → SweepRefused s kind error at n
+pub data SweepRefused (s : List ℕ) (kind error at : ℕ) : Refusal → Type 0 where
+  sweep-cut : length s < at + 1 → SweepRefused s kind error at (refuse 1)
+  sweep-wrong : (v : ℕ) → wordAt 1 s at ≡ ok v → 2 ≤ v → SweepRefused s kind error at (refuse 8)
+  mode-refused : {n : Refusal} → wordAt 1 s at ≡ ok 0 → hasModeByte kind error ≡ true → ModeRefused s (at + 1) n → SweepRefused s kind error at n
 
 -- ---- blocks
 
 -- block n at a start: its tile's column, its tile's valid pixels, its depth's maximum
-abbrev pub BlockAtRefused : List ℕ → Header → List ℕ → List ℕ → ℕ → ℕ → ℕ → Type 0
+abbrev pub BlockAtRefused : List ℕ → Header → List ℕ → List ℕ → ℕ → ℕ → Refusal → Type 0
 BlockAtRefused s h maxima m n at =
     let t = tileOf (shapeOf h) n in
     BlockRefused s at (h .kind) (h .error) (getD maxima (t .d) 0) (t .x) (tileValid (shapeOf h) m t)
 
 -- f blocks from number n on, the first at `at`: k of them are right, and the next is refused
-pub data ChainRefused (s : List ℕ) (h : Header) (maxima m : List ℕ) (f n at : ℕ) : ℕ → Type 0 where
-  block-refused : {j : ℕ} (k : ℕ) (c : Chain) → k < f → chain s h maxima m k n at ≡ ok c → BlockAtRefused s h maxima m (n + k) (c .end) j
+pub data ChainRefused (s : List ℕ) (h : Header) (maxima m : List ℕ) (f n at : ℕ) : Refusal → Type 0 where
+  block-refused : {j : Refusal} (k : ℕ) (c : Chain) → k < f → chain s h maxima m k n at ≡ ok c → BlockAtRefused s h maxima m (n + k) (c .end) j
       → ChainRefused s h maxima m f n at j
 
 -- ---- walk
 
 -- the body: sweep and mode byte; "walk on a body not in blocks": 10; the blocks
-pub data WalkBodyRefused (s : List ℕ) (h : Header) (r : Ranges) (m : List ℕ) : ℕ → Type 0 where
-  walk-sweep : {n : ℕ} → SweepRefused s (h .kind) (h .error) (r .at) n → WalkBodyRefused s h r m n
-  walk-raw : (at : ℕ) → swept s (h .kind) (h .error) (r .at) ≡ ok (rawFrom at) → WalkBodyRefused s h r m 10
-  walk-blocks : {n : ℕ} (at : ℕ) → swept s (h .kind) (h .error) (r .at) ≡ ok (blocksFrom at) → ChainRefused s h (r .max) m (blockCount (shapeOf h)) 0 at n
+pub data WalkBodyRefused (s : List ℕ) (h : Header) (r : Ranges) (m : List ℕ) : Refusal → Type 0 where
+  walk-sweep : {n : Refusal} → SweepRefused s (h .kind) (h .error) (r .at) n → WalkBodyRefused s h r m n
+  walk-raw : (at : ℕ) → swept s (h .kind) (h .error) (r .at) ≡ ok (rawFrom at) → WalkBodyRefused s h r m (refuse 10)
+  walk-blocks : {n : Refusal} (at : ℕ) → swept s (h .kind) (h .error) (r .at) ≡ ok (blocksFrom at) → ChainRefused s h (r .max) m (blockCount (shapeOf h)) 0 at n
       → WalkBodyRefused s h r m n
 
 -- room for the mask and the list
@@ -173,13 +185,13 @@ pub record WalkRoom (h : Header) (m : List ℕ) (entries : ℕ) : Type 0 where
   pub list : blockCount (shapeOf h) ≤ entries
 
 -- 3, 4, 1, 5, 7, 10, then the body
-pub data WalkRefused (b : List ℕ) (h : Header) (r : Ranges) (m : List ℕ) (entries : ℕ) : ℕ → Type 0 where
-  walk-held : {n : ℕ} → HeldRefused h (length b) n → WalkRefused b h r m entries n
-  walk-room : HeldRight h (length b) → (length m < maskLength (shapeOf h)) ⊎ (entries < blockCount (shapeOf h)) → WalkRefused b h r m entries 5
-  walk-pairs : HeldRight h (length b) → WalkRoom h m entries → SomePairWrong (h .depth) r → WalkRefused b h r m entries 7
+pub data WalkRefused (b : List ℕ) (h : Header) (r : Ranges) (m : List ℕ) (entries : ℕ) : Refusal → Type 0 where
+  walk-held : {n : Refusal} → HeldRefused h (length b) n → WalkRefused b h r m entries n
+  walk-room : HeldRight h (length b) → (length m < maskLength (shapeOf h)) ⊎ (entries < blockCount (shapeOf h)) → WalkRefused b h r m entries (refuse 5)
+  walk-pairs : HeldRight h (length b) → WalkRoom h m entries → SomePairWrong (h .depth) r → WalkRefused b h r m entries (refuse 7)
   -- "Empty, constant and raw bodies give a walk 10"
-  walk-other : HeldRight h (length b) → WalkRoom h m entries → pairsRight (h .depth) r ≡ true → (h .valid ≡ 0) ⊎ (r .constant ≡ true) → WalkRefused b h r m entries 10
-  walk-body : {n : ℕ} → HeldRight h (length b) → WalkRoom h m entries → pairsRight (h .depth) r ≡ true → h .valid ≢ 0 → r .constant ≡ false
+  walk-other : HeldRight h (length b) → WalkRoom h m entries → pairsRight (h .depth) r ≡ true → (h .valid ≡ 0) ⊎ (r .constant ≡ true) → WalkRefused b h r m entries (refuse 10)
+  walk-body : {n : Refusal} → HeldRight h (length b) → WalkRoom h m entries → pairsRight (h .depth) r ≡ true → h .valid ≢ 0 → r .constant ≡ false
       → WalkBodyRefused (take (h .size) b) h r m n → WalkRefused b h r m entries n
 
 -- ---- fill, and all blocks at once
@@ -194,37 +206,44 @@ abbrev pub NoFillRoom : Header → List ℕ → ℕ → ℕ → Type 0
 NoFillRoom h m entries words = (length m < maskLength (shapeOf h)) ⊎ ((entries < blockCount (shapeOf h)) ⊎ (words < cells (shapeOf h)))
 
 -- "Fill checks 3, 4, 1, 11, 5, 7, then the block at the listed start."
-pub data FillRefused (b : List ℕ) (h : Header) (r : Ranges) (m list : List ℕ) (n words : ℕ) : ℕ → Type 0 where
-  fill-held : {j : ℕ} → HeldRefused h (length b) j → FillRefused b h r m list n words j
-  fill-number : HeldRight h (length b) → blockCount (shapeOf h) ≤ n → FillRefused b h r m list n words 11
-  fill-room : HeldRight h (length b) → n < blockCount (shapeOf h) → NoFillRoom h m (length list) words → FillRefused b h r m list n words 5
-  fill-pairs : HeldRight h (length b) → n < blockCount (shapeOf h) → FillRoom h m (length list) words → SomePairWrong (h .depth) r → FillRefused b h r m list n words 7
-  fill-block : {j : ℕ} → HeldRight h (length b) → n < blockCount (shapeOf h) → FillRoom h m (length list) words → pairsRight (h .depth) r ≡ true
+pub data FillRefused (b : List ℕ) (h : Header) (r : Ranges) (m list : List ℕ) (n words : ℕ) : Refusal → Type 0 where
+  fill-held : {j : Refusal} → HeldRefused h (length b) j → FillRefused b h r m list n words j
+  fill-number : HeldRight h (length b) → blockCount (shapeOf h) ≤ n → FillRefused b h r m list n words (refuse 11)
+  fill-room : HeldRight h (length b) → n < blockCount (shapeOf h) → NoFillRoom h m (length list) words → FillRefused b h r m list n words (refuse 5)
+  fill-pairs : HeldRight h (length b) → n < blockCount (shapeOf h) → FillRoom h m (length list) words → SomePairWrong (h .depth) r → FillRefused b h r m list n words (refuse 7)
+  fill-block : {j : Refusal} → HeldRight h (length b) → n < blockCount (shapeOf h) → FillRoom h m (length list) words → pairsRight (h .depth) r ≡ true
       → BlockAtRefused (take (h .size) b) h (r .max) m n (getD list n 0) j → FillRefused b h r m list n words j
 
-pub data TilesRefused (b : List ℕ) (h : Header) (m maxima : List ℕ) (at entries words : ℕ) : ℕ → Type 0 where
-  tiles-held : {j : ℕ} → HeldRefused h (length b) j → TilesRefused b h m maxima at entries words j
-  tiles-room : HeldRight h (length b) → NoFillRoom h m entries words → TilesRefused b h m maxima at entries words 5
-  tiles-blocks : {j : ℕ} → HeldRight h (length b) → FillRoom h m entries words → ChainRefused (take (h .size) b) h maxima m (blockCount (shapeOf h)) 0 at j
+-- the same without a list and an image: nothing is written
+pub data CheckRefused (b : List ℕ) (h : Header) (m maxima : List ℕ) (at : ℕ) : Refusal → Type 0 where
+  check-held : {j : Refusal} → HeldRefused h (length b) j → CheckRefused b h m maxima at j
+  check-room : HeldRight h (length b) → length m < maskLength (shapeOf h) → CheckRefused b h m maxima at (refuse 5)
+  check-blocks : {j : Refusal} → HeldRight h (length b) → maskLength (shapeOf h) ≤ length m → ChainRefused (take (h .size) b) h maxima m (blockCount (shapeOf h)) 0 at j
+      → CheckRefused b h m maxima at j
+
+pub data TilesRefused (b : List ℕ) (h : Header) (m maxima : List ℕ) (at entries words : ℕ) : Refusal → Type 0 where
+  tiles-held : {j : Refusal} → HeldRefused h (length b) j → TilesRefused b h m maxima at entries words j
+  tiles-room : HeldRight h (length b) → NoFillRoom h m entries words → TilesRefused b h m maxima at entries words (refuse 5)
+  tiles-blocks : {j : Refusal} → HeldRight h (length b) → FillRoom h m entries words → ChainRefused (take (h .size) b) h maxima m (blockCount (shapeOf h)) 0 at j
       → TilesRefused b h m maxima at entries words j
 
 -- ---- whole read
 
 -- "Valid 0: the body is empty"; else ranges, then a constant, raw or block body
-pub data BodyRefused (s : List ℕ) (h : Header) (m : List ℕ) : ℕ → Type 0 where
-  body-ranges : {n : ℕ} → h .valid ≢ 0 → RangesRefused s h n → BodyRefused s h m n
+pub data BodyRefused (s : List ℕ) (h : Header) (m : List ℕ) : Refusal → Type 0 where
+  body-ranges : {n : Refusal} → h .valid ≢ 0 → RangesRefused s h n → BodyRefused s h m n
   -- a minimum does not fit the kind
-  body-constant : {n : ℕ} (r : Ranges) → h .valid ≢ 0 → rangesSays s h ≡ ok r → r .constant ≡ true → ConstantsRefused (h .depth) (h .kind) (r .min) n → BodyRefused s h m n
-  body-sweep : {n : ℕ} (r : Ranges) → h .valid ≢ 0 → rangesSays s h ≡ ok r → r .constant ≡ false → SweepRefused s (h .kind) (h .error) (r .at) n → BodyRefused s h m n
+  body-constant : {n : Refusal} (r : Ranges) → h .valid ≢ 0 → rangesSays s h ≡ ok r → r .constant ≡ true → ConstantsRefused (h .depth) (h .kind) (r .min) n → BodyRefused s h m n
+  body-sweep : {n : Refusal} (r : Ranges) → h .valid ≢ 0 → rangesSays s h ≡ ok r → r .constant ≡ false → SweepRefused s (h .kind) (h .error) (r .at) n → BodyRefused s h m n
   -- raw words that pass the size
   body-raw : (r : Ranges) (at : ℕ) → h .valid ≢ 0 → rangesSays s h ≡ ok r → r .constant ≡ false → swept s (h .kind) (h .error) (r .at) ≡ ok (rawFrom at)
-      → length s < at + h .valid * h .depth * typeSize (h .kind) → BodyRefused s h m 1
-  body-blocks : {n : ℕ} (r : Ranges) (at : ℕ) → h .valid ≢ 0 → rangesSays s h ≡ ok r → r .constant ≡ false → swept s (h .kind) (h .error) (r .at) ≡ ok (blocksFrom at)
+      → length s < at + h .valid * h .depth * typeSize (h .kind) → BodyRefused s h m (refuse 1)
+  body-blocks : {n : Refusal} (r : Ranges) (at : ℕ) → h .valid ≢ 0 → rangesSays s h ≡ ok r → r .constant ≡ false → swept s (h .kind) (h .error) (r .at) ≡ ok (blocksFrom at)
       → ChainRefused s h (r .max) m (blockCount (shapeOf h)) 0 at n → BodyRefused s h m n
 
 -- the header's; "Room is judged right after the header's refusals": 5; the mask section: 6; the body's
-pub data WholeRefused (b : List ℕ) (reuse : Bool) (l : Lent) : ℕ → Type 0 where
-  whole-header : {n : ℕ} → HeaderRefused b n → WholeRefused b reuse l n
-  whole-room : (h : Header) → headerSays b ≡ ok h → TooShort h l → WholeRefused b reuse l 5
-  whole-mask : (h : Header) → headerSays b ≡ ok h → room h l ≡ true → MaskWrong (take (h .size) b) h reuse (l .kept) → WholeRefused b reuse l 6
-  whole-body : {n : ℕ} (k : Masked) → masked b reuse l ≡ ok k → BodyRefused (take (k .header .size) b) (k .header) (bytesOf (k .mask)) n → WholeRefused b reuse l n
+pub data WholeRefused (b : List ℕ) (reuse : Bool) (l : Lent) : Refusal → Type 0 where
+  whole-header : {n : Refusal} → HeaderRefused b n → WholeRefused b reuse l n
+  whole-room : (h : Header) → headerSays b ≡ ok h → TooShort h l → WholeRefused b reuse l (refuse 5)
+  whole-mask : (h : Header) → headerSays b ≡ ok h → room h l ≡ true → MaskWrong (take (h .size) b) h reuse (l .kept) → WholeRefused b reuse l (refuse 6)
+  whole-body : {n : Refusal} (k : Masked) → masked b reuse l ≡ ok k → BodyRefused (take (k .header .size) b) (k .header) (bytesOf (k .mask)) n → WholeRefused b reuse l n

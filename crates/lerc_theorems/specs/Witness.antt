@@ -16,16 +16,16 @@ use Rattle.lerc_bits.specs.Packing.{bytesOf as bytes}
 use Rattle.lerc_mask.specs.Mask.{pixelValid, copyAt, repeatAt, endAt, signedAt, stepAt, runs, coded}
 use Rattle.lerc_header.specs.Shape.{strips}
 use Rattle.lerc_header.specs.Header.{errorRight, pairRight, fieldsRight, withinCeilings, held, keyRight, headerOf, headerSays}
-use Rattle.lerc_planes.specs.Validity.{uniform, kept, unrolled, maskSays}
-use Rattle.lerc_planes.specs.Ranges.{uniformRanges, numberAt, byDepth, codedRanges, pairsRight, rangesSays, readRangesSays, constantWords}
+use Rattle.lerc_validity.specs.Validity.{uniform, kept, unrolled, maskSays}
+use Rattle.lerc_ranges.specs.Ranges.{uniformRanges, numberAt, byDepth, codedRanges, pairsRight, rangesSays, readRangesSays, constantWords}
 use Rattle.lerc_block.specs.Block.{rawWords, levelBlock, stepValue, steppedBlock, offsetAt, finiteOffset, offsetBlock, formed, flagAt, blockSays}
 use Rattle.lerc_image.specs.Geometry.{tileOf, pixelOf, blockOf, placeIn, rank, isValidCell}
 use Rattle.lerc_image.specs.Paint.{painted, indexOf}
-use Rattle.lerc_image.specs.Sweep.{modeAt, moded, swept}
+use Rattle.lerc_sweep.specs.Sweep.{modeAt, moded, swept}
 use Rattle.lerc_image.specs.Blocks.{blockAt, chain}
 use Rattle.lerc_image.specs.Fill.{fillSays}
-use Rattle.lerc.specs.Meaning.{rawBody, blockBody, sweptBody, constantBody, bodySays, cellWord, meaningFrom}
-use Rattle.lerc.specs.Read.{Lent, room, masked, readSays, published, refusedAfter, readAfter, Whole, readCount}
+use Rattle.lerc.specs.Meaning.{rawBody, blockBody, sweptBody, constantBody, bodySays, cellWord, meaningFrom, startsOf, endOf}
+use Rattle.lerc.specs.Read.{Lent, room, masked, readSays, published, refusedAfter, readAfter}
 use Rattle.lerc_c.specs.Records.{numberOf}
 
 pub record Fields : Type 0 where
@@ -100,12 +100,17 @@ lent entries cells = record { kept = 7 ∷ []; spare = 7 ∷ 7 ∷ []; list = re
 
 -- ---- what each body gives: the answer, and every lent slice afterwards
 
+-- how many blocks, and where the body ends
+pub record Count : Type 0 where
+  pub blocks : ℕ
+  pub end : ℕ
+
 pub record Shown : Type 0 where
-  pub said : Res Whole
+  pub said : Res Count
   pub left : Lent
 
 abbrev pub readInto : Lent → List ℕ → Shown
-readInto l b = record { said = readSays b false l >>= readCount; left = readAfter (readSays b false l) (masked b false l) l }
+readInto l b = record { said = readSays b false l >>= λ m. ok (record { blocks = length (startsOf (m .body)); end = endOf (m .body) }); left = readAfter (readSays b false l) (masked b false l) l }
 
 abbrev pub shown : List ℕ → Shown
 shown = readInto (lent 3 4)

@@ -7,20 +7,24 @@ use Prim.Native.Nat.{ℕ, _≤_}
 use lib.ListN.{length, getD}
 use Rattle.lerc_words.specs.Res.{ok}
 use Rattle.lerc_bits.specs.declared.CountsAnswer.the-variants as counts
+use Rattle.lerc_bits.proofs.decode_plan.Reads as decode-plan
 use Rattle.lerc_bits.proofs.decode.Reads as decode-counts
 use Rattle.lerc_header.specs.declared.Shape.{Shape}
 use Rattle.lerc_header.specs.Header.{shapeOf}
 use Rattle.lerc_header.specs.Shape.{maskLength, blockCount}
 use Rattle.lerc_mask.specs.Mask.{maskBytes}
 use Rattle.lerc_mask.proofs.decode.Reads as decode-mask
-use Rattle.lerc_planes.specs.Validity.{bytesOf}
-use Rattle.lerc_planes.proofs.prepare_mask.Reads as prepare-mask
+use Rattle.lerc_validity.specs.Validity.{bytesOf}
+use Rattle.lerc_validity.proofs.prepare_mask.Reads as prepare-mask
+use Rattle.lerc_validity.proofs.find_mask.Reads as find-mask
 use Rattle.lerc_block.specs.declared.BlockAnswer.the-variants as block
 use Rattle.lerc_block.proofs.read_block.Reads as read-block
 use Rattle.lerc_image.specs.Geometry.{isValidCell}
 use Rattle.lerc_image.specs.Paint.{inBlock}
 use Rattle.lerc_image.proofs.walk.Reads as walk
 use Rattle.lerc_image.proofs.fill.Reads as fill
+use Rattle.lerc_image.proofs.list_tiles.Reads as list-tiles
+use Rattle.lerc_image.proofs.fill_tiles.Reads as fill-tiles
 use Rattle.lerc_image.proofs.decode_tiles.Reads as decode-tiles
 use Rattle.lerc_fills.proofs.fill_each.Reads as fill-each
 use Rattle.lerc.specs.Meaning.{Meaning}
@@ -44,18 +48,23 @@ inSome s m (n ∷ ns) c = inBlock s m n c || inSome s m ns c
 -- the inputs are a tuple in the order of a function's parameters, the outputs the same at exit
 pub record WritesOnly : Type 0 where
   -- the first n entries; an array has its length by its type
+  pub decode-plan : (k : _) (a : _) (n next : ℕ) (x : _) → decode-plan.Post k a (counts.Counts n next) x → (i : ℕ) → n ≤ i → getD (x .1 .1 .0 .now) i 0 ≡ getD (a .1 .1 .0 .now) i 0
   pub decode-counts : (k : _) (a : _) (n next : ℕ) (x : _) → decode-counts.Post k a (counts.Counts n next) x → (i : ℕ) → n ≤ i → getD (x .1 .1 .0 .now) i 0 ≡ getD (a .1 .1 .0 .now) i 0
   -- as many entries as the tile has valid pixels
   pub read-block : (k : _) (a : _) (next : ℕ) (x : _) → read-block.Post k a (block.Block next) x → (i : ℕ) → a .1 .1 .1 .1 .1 .1 .0 ≤ i
       → getD (x .1 .1 .1 .1 .1 .1 .1 .0 .now) i 0 ≡ getD (a .1 .1 .1 .1 .1 .1 .1 .0 .now) i 0
   pub decode-mask : (k : _) (a : _) (r : _) (x : _) → decode-mask.Post k a r x → AlikeFrom (maskBytes (a .1 .0)) (a .1 .1 .1 .0 .now) (x .1 .1 .1 .0 .now)
   pub prepare-mask : (k : _) (a : _) (r : _) (x : _) → prepare-mask.Post k a r x → AlikeFrom (maskLength (shapeOf (a .1 .0))) (a .1 .1 .1 .1 .0 .now) (x .1 .1 .1 .1 .0 .now)
+  pub find-mask : (k : _) (a : _) (r : _) (x : _) → find-mask.Post k a r x → AlikeFrom (maskLength (shapeOf (a .1 .0))) (a .1 .1 .1 .1 .0 .now) (x .1 .1 .1 .1 .0 .now)
   pub walk : (k : _) (a : _) (r : _) (x : _) → walk.Post k a r x → AlikeFrom (blockCount (shapeOf (a .1 .0))) (a .1 .1 .1 .1 .0 .now) (x .1 .1 .1 .1 .0 .now)
   -- the valid cells of its block
   pub fill : (k : _) (a : _) (r : _) (x : _) → fill.Post k a r x
       → AlikeBut (inBlock (shapeOf (a .1 .0)) (a .1 .1 .1 .0 .now) (a .1 .1 .1 .1 .1 .0)) (a .1 .1 .1 .1 .1 .1 .0 .now) (x .1 .1 .1 .1 .1 .1 .0 .now)
   pub fill-each : (k : _) (a : _) (r : _) (x : _) → fill-each.Post k a r x
       → AlikeBut (inSome (shapeOf (a .1 .0)) (a .1 .1 .1 .0 .now) (a .1 .1 .1 .1 .1 .0 .now)) (a .1 .1 .1 .1 .1 .1 .0 .now) (x .1 .1 .1 .1 .1 .1 .0 .now)
+  pub list-tiles : (k : _) (a : _) (r : _) (x : _) → list-tiles.Post k a r x → AlikeFrom (blockCount (shapeOf (a .1 .0))) (a .1 .1 .1 .1 .0 .now) (x .1 .1 .1 .1 .0 .now)
+  pub fill-tiles : (k : _) (a : _) (r : _) (x : _) → fill-tiles.Post k a r x
+      → AlikeBut (isValidCell (shapeOf (a .1 .0)) (a .1 .1 .0 .now)) (a .1 .1 .1 .1 .1 .0 .now) (x .1 .1 .1 .1 .1 .0 .now)
   pub tiles-list : (k : _) (a : _) (r : _) (x : _) → decode-tiles.Post k a r x → AlikeFrom (blockCount (shapeOf (a .1 .0))) (a .1 .1 .1 .1 .1 .0 .now) (x .1 .1 .1 .1 .1 .0 .now)
   pub tiles-image : (k : _) (a : _) (r : _) (x : _) → decode-tiles.Post k a r x
       → AlikeBut (isValidCell (shapeOf (a .1 .0)) (a .1 .1 .0 .now)) (a .1 .1 .1 .1 .1 .1 .0 .now) (x .1 .1 .1 .1 .1 .1 .0 .now)

@@ -10,7 +10,7 @@ use lib.Seq.{set-at, drop-cons, append-snoc, take-suc, take-all}
 use Rattle.lerc_words.specs.declared.Refusal.{Refusal}
 use Rattle.lerc_words.specs.Res.{Res, ok, fail, _>>=_, each}
 use Rattle.lerc_words.specs.Lists.{over}
-use Rattle.lerc_words.proofs.Laws.{bind-is, ok-is, each-length}
+use Rattle.lerc_words.proofs.Binding.{bind-is, ok-is, each-length}
 
 module _ {A B : Type 0} (f : A → Res B) where
   pub each-append : (xs ys : List A) {us vs : List B} → each f xs ≡ ok us → each f ys ≡ ok vs → each f (xs ++ ys) ≡ ok (us ++ vs)

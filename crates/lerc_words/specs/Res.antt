@@ -63,9 +63,9 @@ abbrev pub wordSaid : WordAnswer → Res ℕ
 wordSaid (Word v) = ok v
 wordSaid (Refused r) = fail r
 
-abbrev pub wordRefused : WordAnswer → Refusal
-wordRefused (Word v) = refuse 0
-wordRefused (Refused r) = r
+abbrev pub refusalOfWord : WordAnswer → Refusal
+refusalOfWord (Word v) = refuse 0
+refusalOfWord (Refused r) = r
 
 -- a word has at most eight bytes
 unfoldable pub wordSays : List ℕ → ℕ → ℕ → Res ℕ

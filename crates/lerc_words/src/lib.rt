@@ -2,7 +2,7 @@
 ghost use mathlib.Core.Path.{_≡_};
 ghost use Prim.Native.Nat.{ℕ, _+_, _*_, _<_, min};
 ghost use lib.ListN.{length};
-ghost use Rattle.lerc_words.specs.Res.{little, wordSaid, wordSays, wordRefused};
+ghost use Rattle.lerc_words.specs.Res.{little, wordSaid, wordSays, refusalOfWord};
 
 pub struct Refusal {
     pub number: u32,
@@ -16,7 +16,7 @@ pub enum WordAnswer {
 impl WordAnswer {
     // why it was refused; number 0 where it was not
     pub fn refusal(self) -> Refusal
-        ensures { λ r. ⌜ r ≡ wordRefused self ⌝ }
+        ensures { λ r. ⌜ r ≡ refusalOfWord self ⌝ }
     {
         match self {
             WordAnswer::Word(_v) => Refusal { number: 0 },

@@ -1,18 +1,21 @@
 use Rattle.lerc.proofs.Masked.{keep-new, keep-old, keep-none}
+use native.Mathlib.Omega.{arith}
 use denote.Ref.{now}
+use lib.ListN.{length-take}
 use mathlib.Core.Path.{_∙_}
 use borrow.Author.Needs.{needs}
 use Rattle.lerc.proofs.keep.Statement.{statement}
 use Rattle.lerc.proofs.keep.Tie as tie
 
-copy-mask-requires : tie.Need-copy-mask-requires
-copy-mask-requires c κs = let s = c .before .before .before .before .before .before in s .pre _ (c .before .before .said .given .1)
+slice-aggregate-copy-bytes : tie.Need-slice-aggregate-copy-bytes
+slice-aggregate-copy-bytes c = let s = c .before .before .before .before .before .before in simp length-take (omega (arith, s .pre _ (c .before .before .said .given .1) .1))
 
 returns : tie.Need-returns
 returns c =
-    let s = c .before .before .before .before .before .before .before .before .before in
-    let e = c .before .before .before .before .before .said .given .1 in
-    c .before .before .copy-mask .ensures ∙ keep-new (now (s .args .kept)) (now (s .args .spare)) _ e (s .pre _ e .1)
+    let t = c .before .before .before .before .before .before in
+    let s = t .before .before .before .before in
+    let e = t .said .given .1 in
+    c .before .before .copy-bytes .ensures ∙ keep-new (now (s .args .kept)) (now (s .args .spare)) _ e (s .pre _ e)
 
 returns-2 : tie.Need-returns-2
 returns-2 c =
@@ -29,7 +32,8 @@ keep-spec =
     tie.close
     (tie.spec
     (λ c. search needs)
-    copy-mask-requires
+    slice-aggregate-copy-bytes
+    (λ c κs. search needs)
     (λ c. search needs)
     (λ c. search needs)
     (λ c. search needs)

@@ -10,7 +10,7 @@ use lib.ListN.{length, drop}
 use lib.Pow.{pow-pos}
 use Rattle.lerc_words.specs.Res.{little}
 use Rattle.lerc_words.specs.Lists.{from, tabulate}
-use Rattle.lerc_words.proofs.Laws.{Bytes, unit}
+use Rattle.lerc_words.proofs.Little.{Bytes, unit}
 use Rattle.lerc_words.proofs.Tables.{table-more, length-table}
 use Rattle.lerc_bits.specs.Bits.{runBytes, digits}
 use Rattle.lerc_bits.proofs.Run.{run-digit, value-fits}

@@ -2,7 +2,7 @@ use borrow.Author.Needs.{needs}
 use Prim.Native.Nat.{_-_}
 use mathlib.Core.Path.{refl}
 use native.Mathlib.Omega.{arith}
-use Rattle.lerc_samples.specs.Samples.{storedSaid, storedRefused}
+use Rattle.lerc_samples.specs.Samples.{storedSaid, refusalOfStored}
 use Rattle.lerc_block.proofs.Answers.{said-ok, said-no}
 use Rattle.lerc_block.proofs.Steps.{converted-all, converted-no}
 use denote.Ref.{now}
@@ -33,7 +33,7 @@ returns : tie.Need-returns Inv-loop μ-loop
 returns c =
     let l = c .before .before .before .before .before .before in
     let a = l .before .before .before .args in
-    converted-no (staged-fails (stepWord (a .kind) (a .error) (a .top) (a .offset)) (now (a .counts)) (l .loop .k) (now (a .out)) (l .loop .out) (l .loop .inv) (c .before .before .before .before .before .loop-test .taken) (said-no storedSaid (c .before .before .before .step .ensures) (c .before .enum-told .given .1) storedRefused (c .refusal .ensures) refl))
+    converted-no (staged-fails (stepWord (a .kind) (a .error) (a .top) (a .offset)) (now (a .counts)) (l .loop .k) (now (a .out)) (l .loop .out) (l .loop .inv) (c .before .before .before .before .before .loop-test .taken) (said-no storedSaid (c .before .before .before .step .ensures) (c .before .enum-told .given .1) refusalOfStored (c .refusal .ensures) refl))
 
 slice-write-out : tie.Need-slice-write-out Inv-loop μ-loop
 slice-write-out c =

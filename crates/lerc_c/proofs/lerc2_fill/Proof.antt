@@ -1,13 +1,13 @@
-use Rattle.lerc_c.proofs.Laws.{long}
+use Rattle.lerc_c.proofs.RecordParts.{long}
 use Rattle.lerc_c.proofs.Entries.{fill-short, fill-wide, fill-mark, fill-no, fill-done}
-use Rattle.lerc_image.specs.Fill.{fillRefused}
+use Rattle.lerc_image.specs.Fill.{refusalOfFill}
 use Rattle.lerc_words.specs.declared.Refusal.{Refusal}
-use Rattle.lerc_header.specs.Header.{headerSaid, headerRefused}
+use Rattle.lerc_header.specs.Header.{headerSaid, refusalOfHeader}
 use borrow.Author.Tests.{not-true, not-false}
 use denote.Ref.{now}
 use mathlib.Core.Path.{refl, _∙_, sym, ap}
-use Rattle.lerc_planes.specs.Ranges.{rangesRefused}
-use Rattle.lerc.proofs.Whole.{ranges-read, ranges-refused}
+use Rattle.lerc_ranges.specs.Ranges.{refusalOfRanges}
+use Rattle.lerc_ranges.proofs.Judged.{ranges-read, ranges-refused}
 use borrow.Author.Needs.{needs}
 use Rattle.lerc_c.proofs.lerc2_fill.Statement.{statement}
 use Rattle.lerc_c.proofs.lerc2_fill.Tie as tie
@@ -23,36 +23,45 @@ header-from-requires c κs =
 
 returns-2 : tie.Need-returns-2
 returns-2 c =
-    let a = c .before .before .before .before .before .before .before .before .before .before .before .before .args in let told = c .before .enum-told .given .1 in
-    fill-wide (now (a .blob)) (now (a .header)) (now (a .ranges)) (now (a .mask)) (now (a .list)) (a .number) (now (a .image)) (now (a .said)) (not-false _ (c .before .before .before .before .if1 .left)) (sym (c .before .before .before .header-from .ensures) ∙ ap headerSaid told) (ap (λ (w : Refusal). w .number) (c .refusal .ensures ∙ ap headerRefused told))
+    let far = c .before .before .before .before .before .before .before .before in
+    let a = far .before .before .before .before .args in let told = c .before .enum-told .given .1 in
+    fill-wide (now (a .blob)) (now (a .header)) (now (a .ranges)) (now (a .mask)) (now (a .list)) (a .number) (now (a .image)) (now (a .said)) (not-false _ (c .before .before .before .before .if1 .left)) (sym (c .before .before .before .header-from .ensures) ∙ ap headerSaid told) (ap (λ (w : Refusal). w .number) (c .refusal .ensures ∙ ap refusalOfHeader told))
 
 ranges-from-requires : tie.Need-ranges-from-requires
 ranges-from-requires c κs =
-    let a = c .before .before .before .before .before .before .before .before .before .before .before .before .args in
+    let far = c .before .before .before .before .before .before .before .before in
+    let a = far .before .before .before .before .args in
     long 1 (now (a .header)) (now (a .ranges)) (now (a .said)) (not-false _ (c .before .before .before .before .if1 .left)) .ranges-fit
 
 returns-3 : tie.Need-returns-3
 returns-3 c =
-    let a = c .before .before .before .before .before .before .before .before .before .before .before .before .before .before .before .before .args in let told = c .before .enum-told3 .given .1 in
+    let far = c .before .before .before .before .before .before .before .before in
+    let a = far .before .before .before .before .before .before .before .before .args in let told = c .before .enum-told3 .given .1 in
     fill-mark (now (a .blob)) (now (a .header)) (now (a .ranges)) (now (a .mask)) (now (a .list)) (a .number) (now (a .image)) (now (a .said)) (not-false _ (c .before .before .before .before .before .before .before .before .if1 .left)) (sym (c .before .before .before .before .before .before .before .header-from .ensures) ∙ ap headerSaid (c .before .before .before .before .before .found .given .1))
-    (ranges-refused _ (c .before .before .before .ranges-from .ensures) told) (ap (λ (w : Refusal). w .number) (c .refusal2 .ensures ∙ ap rangesRefused told))
+    (ranges-refused _ (c .before .before .before .ranges-from .ensures) told) (ap (λ (w : Refusal). w .number) (c .refusal2 .ensures ∙ ap refusalOfRanges told))
 
 returns-4 : tie.Need-returns-4
 returns-4 c =
-    let a = c .before .before .before .before .before .before .before .before .before .before .before .before .before .before .before .before .before .before .before .before .before .before .before .args in let told = c .before .enum-told4 .given .1 in
-    fill-no (now (a .blob)) (now (a .header)) (now (a .ranges)) (now (a .mask)) (now (a .list)) (a .number) (now (a .image)) (now (a .said)) (not-false _ (c .before .before .before .before .before .before .before .before .before .before .before .before .before .before .before .if1 .left)) (sym (c .before .before .before .before .before .before .before .before .before .before .before .before .before .before .header-from .ensures) ∙ ap headerSaid (c .before .before .before .before .before .before .before .before .before .before .before .before .found .given .1))
-    (ranges-read _ (c .before .before .before .before .before .before .before .before .before .before .ranges-from .ensures) (c .before .before .before .before .before .before .before .before .enum-told2 .given .1)) (rw (told) at (c .before .before .before .before .before .fill .ensures)) (ap (λ (w : Refusal). w .number) (c .refusal3 .ensures ∙ ap fillRefused told))
+    let far = c .before .before .before .before .before .before .before .before in
+    let further = far .before .before .before .before .before .before .before .before in
+    let a = further .before .before .before .before .before .before .before .args in let told = c .before .enum-told4 .given .1 in
+    fill-no (now (a .blob)) (now (a .header)) (now (a .ranges)) (now (a .mask)) (now (a .list)) (a .number) (now (a .image)) (now (a .said)) (not-false _ (far .before .before .before .before .before .before .before .if1 .left)) (sym (far .before .before .before .before .before .before .header-from .ensures) ∙ ap headerSaid (far .before .before .before .before .found .given .1))
+    (ranges-read _ (far .before .before .ranges-from .ensures) (c .before .before .before .before .before .before .before .before .enum-told2 .given .1)) (rw (told) at (c .before .before .before .before .before .fill .ensures)) (ap (λ (w : Refusal). w .number) (c .refusal3 .ensures ∙ ap refusalOfFill told))
 
 slice-write-said : tie.Need-slice-write-said
 slice-write-said c =
-    let a = c .before .before .before .before .before .before .before .before .before .before .before .before .before .before .before .before .before .before .before .before .before .before .before .args in
-    long 1 (now (a .header)) (now (a .ranges)) (now (a .said)) (not-false _ (c .before .before .before .before .before .before .before .before .before .before .before .before .before .before .before .if1 .left)) .said-fits
+    let far = c .before .before .before .before .before .before .before .before in
+    let further = far .before .before .before .before .before .before .before .before in
+    let a = further .before .before .before .before .before .before .before .args in
+    long 1 (now (a .header)) (now (a .ranges)) (now (a .said)) (not-false _ (far .before .before .before .before .before .before .before .if1 .left)) .said-fits
 
 returns-5 : tie.Need-returns-5
 returns-5 c =
-    let a = c .before .before .before .before .before .before .before .before .before .before .before .before .before .before .before .before .before .before .before .before .before .before .before .args in
-    fill-done (now (a .blob)) (now (a .header)) (now (a .ranges)) (now (a .mask)) (now (a .list)) (a .number) (now (a .image)) (now (a .said)) (not-false _ (c .before .before .before .before .before .before .before .before .before .before .before .before .before .before .before .if1 .left)) (sym (c .before .before .before .before .before .before .before .before .before .before .before .before .before .before .header-from .ensures) ∙ ap headerSaid (c .before .before .before .before .before .before .before .before .before .before .before .before .found .given .1))
-    (ranges-read _ (c .before .before .before .before .before .before .before .before .before .before .ranges-from .ensures) (c .before .before .before .before .before .before .before .before .enum-told2 .given .1)) (rw (c .before .answer .given .1) at (c .before .before .before .before .before .fill .ensures)) refl
+    let far = c .before .before .before .before .before .before .before .before in
+    let further = far .before .before .before .before .before .before .before .before in
+    let a = further .before .before .before .before .before .before .before .args in
+    fill-done (now (a .blob)) (now (a .header)) (now (a .ranges)) (now (a .mask)) (now (a .list)) (a .number) (now (a .image)) (now (a .said)) (not-false _ (far .before .before .before .before .before .before .before .if1 .left)) (sym (far .before .before .before .before .before .before .header-from .ensures) ∙ ap headerSaid (far .before .before .before .before .found .given .1))
+    (ranges-read _ (far .before .before .ranges-from .ensures) (c .before .before .before .before .before .before .before .before .enum-told2 .given .1)) (rw (c .before .answer .given .1) at (c .before .before .before .before .before .fill .ensures)) refl
 
 pub lerc2-fill-spec : {M : Type 1} → statement M
 lerc2-fill-spec =

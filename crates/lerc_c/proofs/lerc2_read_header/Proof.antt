@@ -1,6 +1,6 @@
 use Rattle.lerc_words.specs.declared.Refusal.{Refusal}
 use Rattle.lerc_c.proofs.Entries.{header-short, header-no, header-read}
-use Rattle.lerc_header.specs.Header.{headerSaid, headerRefused}
+use Rattle.lerc_header.specs.Header.{headerSaid, refusalOfHeader}
 use denote.Ref.{now}
 use mathlib.Core.Path.{_∙_, sym, ap}
 use borrow.Author.Needs.{needs}
@@ -14,11 +14,12 @@ returns-2 : tie.Need-returns-2
 returns-2 c =
     let a = c .before .before .before .before .before .before .before .args in
     let told = c .before .enum-told .given .1 in
-    header-no (now (a .blob)) (now (a .header)) (c .before .before .before .before .if1 .left) (sym (c .before .before .before .read-header .ensures) ∙ ap headerSaid told) (ap (λ (w : Refusal). w .number) (c .refusal .ensures ∙ ap headerRefused told))
+    header-no (now (a .blob)) (now (a .header)) (c .before .before .before .before .if1 .left) (sym (c .before .before .before .read-header .ensures) ∙ ap headerSaid told) (ap (λ (w : Refusal). w .number) (c .refusal .ensures ∙ ap refusalOfHeader told))
 
 returns-3 : tie.Need-returns-3
 returns-3 c =
-    let a = c .before .before .before .before .before .before .before .before .before .before .before .args in
+    let far = c .before .before .before .before .before .before .before .before in
+    let a = far .before .before .before .args in
     header-read (now (a .blob)) (now (a .header)) (c .before .before .before .before .before .before .before .before .if1 .left) (sym (c .before .before .before .before .before .before .before .read-header .ensures) ∙ ap headerSaid (c .before .before .before .before .before .found .given .1)) (c .before .before .put-header .ensures)
 
 pub lerc2-read-header-spec : {M : Type 1} → statement M

@@ -1,6 +1,6 @@
 use Rattle.lerc_c.proofs.Entries.{stored-short, stored-no, stored-done}
 use Rattle.lerc_words.specs.declared.Refusal.{Refusal}
-use Rattle.lerc_samples.specs.Samples.{storedSaid, storedRefused}
+use Rattle.lerc_samples.specs.Samples.{storedSaid, refusalOfStored}
 use denote.Ref.{now}
 use mathlib.Core.Path.{refl, _∙_, sym, ap}
 use borrow.Author.Needs.{needs}
@@ -14,7 +14,7 @@ returns c =
 returns-2 : tie.Need-returns-2
 returns-2 c =
     let a = c .before .before .before .before .before .before .args in let told = c .before .enum-told .given .1 in
-    stored-no (a .kind) (a .v) (now (a .said)) (c .before .before .before .before .if1 .left) (sym (c .before .before .before .stored .ensures) ∙ ap storedSaid told) (ap (λ (w : Refusal). w .number) (c .refusal .ensures ∙ ap storedRefused told))
+    stored-no (a .kind) (a .v) (now (a .said)) (c .before .before .before .before .if1 .left) (sym (c .before .before .before .stored .ensures) ∙ ap storedSaid told) (ap (λ (w : Refusal). w .number) (c .refusal .ensures ∙ ap refusalOfStored told))
 
 returns-3 : tie.Need-returns-3
 returns-3 c =

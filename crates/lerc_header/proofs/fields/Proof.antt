@@ -5,7 +5,22 @@ use Rattle.lerc_header.proofs.fields.Tie as tie
 
 returns : tie.Need-returns
 unfolding headerOf
-returns c = rw (c .before .before .before .before .before .before .before .before .before .before .quad .ensures, c .before .before .before .before .before .before .before .before .before .quad2 .ensures, c .before .before .before .before .before .before .before .before .quad3 .ensures, c .before .before .before .before .before .before .before .quad4 .ensures, c .before .before .before .before .before .before .quad5 .ensures, c .before .before .before .before .before .quad6 .ensures, c .before .before .before .before .quad7 .ensures, c .before .before .before .peek .ensures, c .before .before .peek2 .ensures, c .before .peek3 .ensures, c .quad8 .ensures)
+returns c =
+    let size = c .before .before .before .before .before in
+    let rows = size .before .before .before .before .before in
+    rw (
+      rows .quad .ensures,
+      size .before .before .before .before .quad2 .ensures,
+      size .before .before .before .quad3 .ensures,
+      size .before .before .quad4 .ensures,
+      size .before .quad5 .ensures,
+      size .quad6 .ensures,
+      c .before .before .before .before .quad7 .ensures,
+      c .before .before .before .peek .ensures,
+      c .before .before .peek2 .ensures,
+      c .before .peek3 .ensures,
+      c .quad8 .ensures,
+    )
 
 pub fields-spec : {M : Type 1} → statement M
 fields-spec =

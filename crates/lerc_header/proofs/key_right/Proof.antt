@@ -1,7 +1,7 @@
 use native.Mathlib.Omega.{arith}
 use denote.Ref.{now}
 use Rattle.lerc_header.specs.Header.{keyRight}
-use Rattle.lerc_words.proofs.Laws.{little-word}
+use Rattle.lerc_words.proofs.Little.{little-word}
 use borrow.Author.Needs.{needs}
 use Rattle.lerc_header.proofs.key_right.Statement.{statement}
 use Rattle.lerc_header.proofs.key_right.Tie as tie

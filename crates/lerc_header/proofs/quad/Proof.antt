@@ -1,6 +1,6 @@
 use denote.Ref.{now}
 use native.Mathlib.Omega.{arith}
-use Rattle.lerc_words.proofs.Laws.{little-word}
+use Rattle.lerc_words.proofs.Little.{little-word}
 use borrow.Author.Needs.{needs}
 use Rattle.lerc_header.proofs.quad.Statement.{statement}
 use Rattle.lerc_header.proofs.quad.Tie as tie

@@ -1,51 +1,18 @@
 use mathlib.Core.Path.{_∙_, sym, ap}
-use borrow.Author.Tests.{not-true, not-false, le-leb, lt-leb}
-use Rattle.lerc_words.specs.Res.{fail}
-use Rattle.lerc_header.specs.Header.{headerSays, heldSaid, heldRefused}
+use denote.Ref.{now}
+use Rattle.lerc_header.specs.Header.{openSaid, refusalOfOpen}
+use Rattle.lerc_header.proofs.Kept.{open-no, open-header}
 use borrow.Author.Needs.{needs}
 use Rattle.lerc_header.proofs.read_header.Statement.{statement}
 use Rattle.lerc_header.proofs.read_header.Tie as tie
 
 returns : tie.Need-returns
-unfolding headerSays
-returns c = rw (lt-leb _ _ (c .if1 .taken))
+returns c =
+    let told = c .before .enum-told .given .1 in
+    rw (c .refusal .ensures ∙ ap refusalOfOpen told) (sym (open-no (now (c .before .before .before .before .before .args .blob)) (sym (c .before .before .before .open-blob .ensures) ∙ ap openSaid told)))
 
 returns-2 : tie.Need-returns-2
-unfolding headerSays
-returns-2 c = rw (le-leb _ _ (c .before .before .if1 .left), sym (c .before .key-right .ensures) ∙ not-true _ (c .if2 .taken))
-
-returns-3 : tie.Need-returns-3
-unfolding headerSays
-returns-3 c =
-    let w = c .before .enum-told .given .1 in
-    rw (
-      le-leb _ _ (c .before .before .before .before .before .before .before .if1 .left),
-      sym (c .before .before .before .before .before .before .key-right .ensures) ∙ not-false _ (c .before .before .before .before .before .if2 .left),
-      sym (c .before .before .before .before .fields .ensures),
-      sym (c .before .before .before .held .ensures) ∙ ap heldSaid w ∙ ap fail (sym (c .refusal .ensures ∙ ap heldRefused w)),
-    )
-
-returns-4 : tie.Need-returns-4
-unfolding headerSays
-returns-4 c =
-    rw (
-      le-leb _ _ (c .before .before .before .before .before .before .before .if1 .left),
-      sym (c .before .before .before .before .before .before .key-right .ensures) ∙ not-false _ (c .before .before .before .before .before .if2 .left),
-      sym (c .before .before .before .before .fields .ensures),
-      sym (c .before .before .before .held .ensures) ∙ ap heldSaid (c .before .answer .given .1),
-    )
+returns-2 c = sym (open-header (now (c .before .before .before .before .before .args .blob)) (sym (c .before .before .before .open-blob .ensures) ∙ ap openSaid (c .before .opened .given .1)))
 
 pub read-header-spec : {M : Type 1} → statement M
-read-header-spec =
-    tie.close
-    (tie.spec
-    returns
-    (λ c κs. search needs)
-    returns-2
-    (λ c κs. search needs)
-    (λ c κs. search needs)
-    (λ c. search needs)
-    (λ c. search needs)
-    (λ c κs. search needs)
-    returns-3
-    returns-4)
+read-header-spec = tie.close (tie.spec (λ c κs. search needs) (λ c. search needs) (λ c. search needs) (λ c κs. search needs) returns returns-2)

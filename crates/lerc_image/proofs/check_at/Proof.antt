@@ -3,7 +3,7 @@ use native.Mathlib.Omega.{arith}
 use denote.Ref.{now}
 use Rattle.lerc_image.proofs.Reading.{read-block}
 use Rattle.lerc_image.proofs.Cursors.{valid-small}
-use Rattle.lerc_image.proofs.Passes.{here-within, here-depth, here-in, here-block}
+use Rattle.lerc_image.proofs.Standing.{here-within, here-depth, here-in, here-block}
 use Rattle.lerc_image.proofs.check_at.Statement.{statement}
 use Rattle.lerc_image.proofs.check_at.Tie as tie
 

@@ -1,9 +1,11 @@
-use mathlib.Core.Path.{_∙_, sym, ap}
+mod Turn
+use mathlib.Core.Path.{_∙_, ap}
 use Prim.Native.Nat.{_-_}
 use native.Mathlib.Omega.{arith}
-use Rattle.lerc_block.specs.Block.{blockSaid}
+use Rattle.lerc_block.specs.Block.{refusalOfBlock}
 use Rattle.lerc_image.proofs.Reading.{said-refused}
-use Rattle.lerc_image.proofs.Passes.{standing-here, standing-within, standing-few, Walking, walking-none, walking-all, walking-no, walking-next}
+use Rattle.lerc_image.proofs.Standing.{standing-here, standing-within, standing-few}
+use Rattle.lerc_image.proofs.check_blocks.Proof.Turn.{Walking, walking-none, walking-all, walking-no, walking-next}
 use borrow.Author.Needs.{needs}
 use Rattle.lerc_image.proofs.check_blocks.Statement.{statement}
 use Rattle.lerc_image.proofs.check_blocks.Tie as tie
@@ -22,8 +24,9 @@ check-at-requires c κs = standing-here (c .before .before .loop .inv .stands) (
 
 returns : tie.Need-returns Inv-loop μ-loop
 returns c =
-    let told = c .enum-told .given .1 in
-    ap blockSaid told ∙ sym (walking-no (c .before .before .before .before .before .loop .inv) (c .before .before .before .if1 .taken) (said-refused (c .before .before .check-at .ensures) told))
+    let told = c .before .enum-told .given .1 in
+    rw (c .refusal .ensures ∙ ap refusalOfBlock told)
+    (walking-no (c .before .before .before .before .before .before .loop .inv) (c .before .before .before .before .if1 .taken) (said-refused (c .before .before .before .check-at .ensures) told))
 
 advance-requires : tie.Need-advance-requires Inv-loop μ-loop
 advance-requires c κs =
@@ -37,7 +40,7 @@ loop-again : tie.Need-loop-again Inv-loop μ-loop
 loop-again c = rw (c .advance .ensures) (walking-next (c .before .before .before .before .before .before .before .loop .inv) (c .before .before .before .before .before .if1 .taken) (c .before .before .before .before .check-at .ensures) (c .before .before .got .given .1))
 
 returns-2 : tie.Need-returns-2 Inv-loop μ-loop
-returns-2 c = sym (walking-all (c .before .before .loop .inv) (c .if1 .left))
+returns-2 c = walking-all (c .before .before .loop .inv) (c .if1 .left)
 
 pub check-blocks-spec : {M : Type 1} → statement M
 check-blocks-spec =
@@ -50,6 +53,7 @@ check-blocks-spec =
     check-at-requires
     (λ c. search needs)
     (λ c. search needs)
+    (λ c κs. search needs)
     returns
     advance-requires
     add-n

@@ -1,20 +1,44 @@
 use mathlib.Core.Path.{_∙_, ap}
+use native.Mathlib.Omega.{arith}
 use denote.Ref.{now}
 use borrow.Author.Needs.{needs}
-use Rattle.lerc_block.specs.End.{endSays}
-use Rattle.lerc_block.proofs.Finish.{end-any}
+use Rattle.lerc_block.specs.Plan.{planSays, planEnd}
+use Rattle.lerc_block.proofs.Leads.{plan-few, plan-any}
+use Rattle.lerc_image.specs.Geometry.{tileValid}
+use Rattle.lerc_image.proofs.Cursors.{valid-small}
 use Rattle.lerc_image.proofs.end_at.Statement.{statement}
 use Rattle.lerc_image.proofs.end_at.Tie as tie
 
 returns : tie.Need-returns
 returns c =
-    let a = c .before .before .before .before .before .args in
-    c .block-end .ensures ∙ end-any (now (a .s)) (a .at) (a .kind) 0 _ (rw (c .before .before .bytes .ensures) at (c .before .if1 .taken))
+    let t = c .before in
+    let a = t .before .before .before .before .before .args in
+    let s = now (a .s) in
+    let x = a .t .x in
+    let n = tileValid (a .h) (now (a .mask)) (a .t) in
+    let d = rw (t .before .before .bytes .ensures) at (t .before .if1 .taken) in
+    c .end .ensures ∙ ap planEnd (t .inspect-block .ensures ∙ plan-few s (a .at) (a .kind) x 0 (omega arith) ∙ plan-any s (a .at) (a .kind) x 0 n d)
 
 returns-2 : tie.Need-returns-2
 returns-2 c =
-    let a = c .before .before .before .before .before .before .args in
-    c .block-end2 .ensures ∙ ap (λ n. endSays (now (a .s)) (a .at) (a .kind) n) (c .before .count-valid .ensures)
+    let t = c .before in
+    let i = t .before .before .before .before .before .before in
+    let a = i .args in
+    let s = now (a .s) in
+    let x = a .t .x in
+    let n = tileValid (a .h) (now (a .mask)) (a .t) in
+    c .end2 .ensures
+    ∙ ap planEnd (t .inspect-block2 .ensures ∙ ap (λ k. planSays s (a .at) (a .kind) x k) (t .before .count-valid .ensures) ∙ plan-few s (a .at) (a .kind) x n (valid-small (a .h) (a .t) (i .pre) (now (a .mask))))
 
 pub end-at-spec : {M : Type 1} → statement M
-end-at-spec = tie.close (tie.spec (λ c κs. search needs) (λ c κs. search needs) returns (λ c κs. search needs) (λ c κs. search needs) returns-2)
+end-at-spec =
+    tie.close
+    (tie.spec
+    (λ c κs. search needs)
+    (λ c κs. search needs)
+    (λ c κs. search needs)
+    returns
+    (λ c κs. search needs)
+    (λ c κs. search needs)
+    (λ c κs. search needs)
+    returns-2)

@@ -1,14 +1,15 @@
 -- `fill`: each test's refusal by its law; behind the tests all is known by `passed`.
 -- Assumes nothing.
+mod Tests
 use mathlib.Core.Path.{_≡_, _∙_, sym, ap}
 use native.Mathlib.Omega.{arith}
 use borrow.Author.Tests.{not-true, not-false}
 use denote.Ref.{now}
 use lib.ListN.{length}
 use Rattle.lerc_words.specs.Res.{ok}
-use Rattle.lerc_header.specs.Header.{held, heldSaid, heldRefused}
-use Rattle.lerc_planes.specs.Ranges.{pairsSaid, pairsRefused}
-use Rattle.lerc_image.proofs.Filling.{unheld, no-block, no-room, no-pairs, Passed, passed-asked, filled-block}
+use Rattle.lerc_header.specs.Header.{held, heldSaid, refusalOfHeld}
+use Rattle.lerc_ranges.specs.Ranges.{pairsSaid, refusalOfPairs}
+use Rattle.lerc_image.proofs.fill.Proof.Tests.{unheld, no-block, no-room, no-pairs, Passed, passed-asked, filled-block}
 use borrow.Author.Needs.{needs}
 use Rattle.lerc_image.proofs.fill.Statement.{statement}
 use Rattle.lerc_image.proofs.fill.Tie as tie
@@ -23,13 +24,16 @@ passed : (c : tie.Else2) →
     let a = k .before .before .before .before .before .before .before .args in
     Passed (now (a .blob)) (a .h) (now (a .mask)) (now (a .list)) (a .number) (now (a .image)) (k .held2 .given .0 .0)
 passed c =
-    record { kept = kept (c .before .before .before .before .before .before .before); below = c .before .before .before .before .if1 .left; room = not-false _ (c .if2 .left) }
+    record {
+      ready = record { kept = kept (c .before .before .before .before .before .before .before); room = not-false _ (c .if2 .left) };
+      below = c .before .before .before .before .if1 .left;
+    }
 
 returns : tie.Need-returns
 returns c =
     let told = c .before .enum-told .given .1 in
     let no = sym (c .before .before .before .held .ensures) ∙ ap heldSaid told in
-    rw (c .refusal .ensures ∙ ap heldRefused told) (unheld no)
+    rw (c .refusal .ensures ∙ ap refusalOfHeld told) (unheld no)
 
 returns-2 : tie.Need-returns-2
 returns-2 c = no-block (kept (c .before .before .before)) (omega (arith, c .if1 .taken))
@@ -41,7 +45,7 @@ returns-4 : tie.Need-returns-4
 returns-4 c =
     let told = c .before .enum-told3 .given .1 in
     let no = sym (c .before .before .before .pairs .ensures) ∙ ap pairsSaid told in
-    rw (c .refusal2 .ensures ∙ ap pairsRefused told) (no-pairs (passed (c .before .before .before .before)) _ no)
+    rw (c .refusal2 .ensures ∙ ap refusalOfPairs told) (no-pairs (passed (c .before .before .before .before)) _ no)
 
 fill-number-requires : tie.Need-fill-number-requires
 fill-number-requires c κs = passed-asked (passed (c .before .before .before .before .before .before))

@@ -1,5 +1,5 @@
 use native.Mathlib.Omega.{arith}
-use Rattle.lerc_image.proofs.Passes.{here-within, here-depth, here-asked, here-block}
+use Rattle.lerc_image.proofs.Standing.{here-within, here-depth, here-asked, here-block}
 use borrow.Author.Needs.{needs}
 use Rattle.lerc_image.proofs.fill_at.Statement.{statement}
 use Rattle.lerc_image.proofs.fill_at.Tie as tie
@@ -19,7 +19,9 @@ fill-tile-requires c κs =
     here-asked (b .0) (c .before .before .current .ensures) (b .1)
 
 returns : tie.Need-returns
-returns c = rw (here-block (c .before .before .before .before .before .before .before .before .before .pre .0) (c .before .before .before .before .before .current .ensures) _ _ _ _) at (c .before .before .fill-tile .ensures)
+returns c =
+    let t = c .before .before .before .before .before in
+    rw (here-block (t .before .before .before .before .pre .0) (t .current .ensures) _ _ _ _) at (c .before .before .fill-tile .ensures)
 
 pub fill-at-spec : {M : Type 1} → statement M
 fill-at-spec =

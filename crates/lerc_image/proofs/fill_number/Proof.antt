@@ -1,6 +1,7 @@
+mod Number
 use native.Mathlib.Omega.{arith}
 use lib.ListN.{length-take}
-use Rattle.lerc_image.proofs.Filling.{number-below, number-here, number-room}
+use Rattle.lerc_image.proofs.fill_number.Proof.Number.{number-below, number-here, number-room}
 use borrow.Author.Needs.{needs}
 use Rattle.lerc_image.proofs.fill_number.Statement.{statement}
 use Rattle.lerc_image.proofs.fill_number.Tie as tie
@@ -13,8 +14,9 @@ of-requires c κs = let a = c .before .before .before .before .before .before .b
 
 fill-at-requires : tie.Need-fill-at-requires
 fill-at-requires c κs =
-    let a = c .before .before .before .before .before .before .before .before .before .pre in
-    (number-here a (c .before .of .ensures), number-room a)
+    let p = c .before in
+    let a = p .before .before .before .before .before .before .before .before .pre in
+    (number-here a (p .of .ensures), number-room a)
 
 pub fill-number-spec : {M : Type 1} → statement M
 fill-number-spec =

@@ -1,9 +1,9 @@
 use mathlib.Core.Path.{_∙_, ap}
 use denote.Ref.{now}
-use Rattle.lerc_block.specs.Block.{blockRefused}
+use Rattle.lerc_block.specs.Block.{refusalOfBlock}
 use Rattle.lerc_block.proofs.Accepted.{block-words}
 use Rattle.lerc_image.specs.Geometry.{tileValid}
-use Rattle.lerc_image.proofs.Scattering.{asked-in}
+use Rattle.lerc_image.proofs.Standing.{asked-in}
 use Rattle.lerc_image.proofs.Reading.{fill-refused, fill-accepted}
 use borrow.Author.Needs.{needs}
 use Rattle.lerc_image.proofs.fill_tile.Statement.{statement}
@@ -15,7 +15,7 @@ read-tile-requires c κs = asked-in (c .before .before .before .before .pre)
 returns : tie.Need-returns
 returns c =
     let told = c .before .enum-told .given .1 in
-    rw (c .refusal .ensures ∙ ap blockRefused told) (fill-refused (c .before .before .before .read-tile .ensures) _ _ _ told)
+    rw (c .refusal .ensures ∙ ap refusalOfBlock told) (fill-refused (c .before .before .before .read-tile .ensures) _ _ _ told)
 
 returns-2 : tie.Need-returns-2
 returns-2 c =

@@ -1,12 +1,14 @@
-use mathlib.Core.Path.{_≡_}
+mod Turn
+use mathlib.Core.Path.{_≡_, _∙_, sym, ap}
 use Prim.Native.Nat.{_-_}
 use native.Mathlib.Omega.{arith}
 use denote.Ref.{now}
 use lib.ListN.{length-set}
 use borrow.Author.Needs.{needs}
-use Rattle.lerc_header.specs.Header.{shapeOf}
-use Rattle.lerc_image.specs.Geometry.{tileOf, tileValid}
-use Rattle.lerc_image.proofs.Passes.{here-in, here-valid, Standing, standing-none, standing-here, standing-within, standing-few, standing-next, Listing, listing-none, listing-all, listing-no, listing-next}
+use Rattle.lerc_block.specs.Block.{blockSaid}
+use Rattle.lerc_image.specs.Tiles.{blockEnd}
+use Rattle.lerc_image.proofs.Standing.{here-in, here-end, Standing, standing-none, standing-here, standing-within, standing-few, standing-next}
+use Rattle.lerc_image.proofs.list_starts.Proof.Turn.{Listing, listing-none, listing-all, listing-no, listing-next}
 use Rattle.lerc_image.proofs.list_starts.Statement.{statement}
 use Rattle.lerc_image.proofs.list_starts.Tie as tie
 
@@ -16,11 +18,14 @@ Inv-loop s at h e mask list₀ shape p₀ k₀ start₀ list p k start = Standin
 abbrev μ-loop : tie.MeasureT-loop
 μ-loop s at h e mask list₀ shape p₀ k₀ start₀ list p k start = e .blocks - k
 
--- the valid pixels are block k's own
-counted : (c : tie.After-current Inv-loop μ-loop) →
-    let a = c .before .before .before .before .before .before .before .before .before .args in
-    tileValid (a .e .shape) (now (a .mask)) (c .current .result) ≡ tileValid (shapeOf (a .h)) (now (a .mask)) (tileOf (shapeOf (a .h)) (c .before .before .before .loop .k))
-counted c = here-valid (standing-here (c .before .before .before .loop .inv .0) (c .before .if1 .taken)) (c .current .ensures) _
+-- where block k ends
+ends : (c : tie.After-end-at Inv-loop μ-loop) →
+    let b = c .before .before .before .before in
+    let a = b .before .before .before .before .before .before .args in
+    blockSaid (c .end-at .result) ≡ blockEnd (now (a .s)) (a .h) (now (a .mask)) (b .loop .k) (b .loop .start)
+ends c =
+    let i = c .before .before .before .before .loop .inv in
+    c .end-at .ensures ∙ here-end (standing-here (i .0) (c .before .before .if1 .taken)) (c .before .current .ensures) _ _ _
 
 loop-holds : tie.Need-loop-holds Inv-loop μ-loop
 loop-holds c =
@@ -43,7 +48,9 @@ same-length : tie.Need-same-length Inv-loop μ-loop
 same-length c = simp length-set (c .before .before .before .before .before .before .loop .inv .1 .long)
 
 returns : tie.Need-returns Inv-loop μ-loop
-returns c = listing-no (c .before .before .before .before .before .before .loop .inv .1) (c .before .before .before .before .if1 .taken) (counted (c .before .before .before)) (c .before .before .end-at .ensures) (c .enum-told .given .1)
+returns c =
+    let i = c .before .before .before .before .before .before .loop .inv in
+    listing-no (i .1) (c .before .before .before .before .if1 .taken) (sym (ends (c .before .before)) ∙ ap blockSaid (c .enum-told .given .1))
 
 advance-requires : tie.Need-advance-requires Inv-loop μ-loop
 advance-requires c κs =
@@ -57,13 +64,13 @@ loop-again : tie.Need-loop-again Inv-loop μ-loop
 loop-again c =
     let i = c .before .before .before .before .before .before .before .before .loop .inv in
     let l = c .before .before .before .before .before .before .if1 .taken in
-    (rw (c .advance .ensures) (standing-next (i .0) l), listing-next (i .1) l (counted (c .before .before .before .before .before)) (c .before .before .before .before .end-at .ensures) (c .before .before .got .given .1))
+    (rw (c .advance .ensures) (standing-next (i .0) l), listing-next (i .1) l (sym (ends (c .before .before .before .before)) ∙ ap blockSaid (c .before .before .got .given .1)))
 
 same-length-2 : tie.Need-same-length-2 Inv-loop μ-loop
 same-length-2 c = c .before .before .loop .inv .1 .long
 
 returns-2 : tie.Need-returns-2 Inv-loop μ-loop
-returns-2 c = let i = c .before .before .loop .inv in listing-all (i .1) (c .if1 .left) (i .0 .few)
+returns-2 c = let i = c .before .before .loop .inv in listing-all (i .1) (c .if1 .left)
 
 pub list-starts-spec : {M : Type 1} → statement M
 list-starts-spec =

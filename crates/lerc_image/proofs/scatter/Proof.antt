@@ -1,4 +1,4 @@
-use borrow.Author.Needs.{needs}
+mod Turn
 use mathlib.Core.Path.{_∙_, sym}
 use mathlib.Core.Logic.{⊎-elim}
 use Prim.Native.Nat.{_-_}
@@ -6,7 +6,8 @@ use native.Mathlib.Omega.{arith}
 use borrow.Author.Needs.{needs}
 use Rattle.lerc_header.proofs.Sizes.{pixels-few}
 use Rattle.lerc_image.proofs.Cursors.{size-le, stepped-few, stepped-fits}
-use Rattle.lerc_image.proofs.Scattering.{Scattering, asked-in, scattering-none, scattering-length, scattering-all, scattering-few, scattering-room, scattering-used, scattering-valid, scattering-skip}
+use Rattle.lerc_image.proofs.Standing.{asked-in}
+use Rattle.lerc_image.proofs.scatter.Proof.Turn.{Scattering, scattering-none, scattering-length, scattering-all, scattering-few, scattering-room, scattering-used, scattering-valid, scattering-skip}
 use Rattle.lerc_image.proofs.scatter.Statement.{statement}
 use Rattle.lerc_image.proofs.scatter.Tie as tie
 

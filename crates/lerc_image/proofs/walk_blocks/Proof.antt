@@ -1,19 +1,22 @@
 use mathlib.Core.Path.{_∙_, sym, ap}
-use Rattle.lerc_block.specs.Block.{blockSaid, blockRefused}
-use Rattle.lerc_image.proofs.Walks.{passes-no, passes-ok}
+use Rattle.lerc_image.specs.Walk.{walkSaid}
+use Rattle.lerc_image.proofs.Stages.{listed-no, listed-ok}
 use borrow.Author.Needs.{needs}
 use Rattle.lerc_image.proofs.walk_blocks.Statement.{statement}
 use Rattle.lerc_image.proofs.walk_blocks.Tie as tie
 
 returns : tie.Need-returns
 returns c =
-    let told = c .before .enum-told .given .1 in
-    rw (c .refusal .ensures ∙ ap blockRefused told) (passes-no _ _ _ _ (c .before .before .before .before .before .before .before .pre .0) (sym (c .before .before .before .check-blocks .ensures) ∙ ap blockSaid told))
+    let told = c .enum-told .given .1 in
+    rw (told) (listed-no _ _ (sym (ap walkSaid told) ∙ c .before .before .check-blocks .ensures))
 
 returns-2 : tie.Need-returns-2
 returns-2 c =
-    let k = c .before .before .before .before .before in
-    passes-ok _ _ _ _ (c .before .before .before .before .before .before .before .before .before .before .before .pre .0) (sym (k .before .before .check-blocks .ensures) ∙ ap blockSaid (k .checked .given .1)) (c .before .before .list-starts .ensures)
+    let listed = c .before .before in
+    let k = listed .before .before .before in
+    let told = k .checked .given .1 in
+    let start = k .before .before .before .before .before .before in
+    listed-ok _ (start .pre .0) _ _ _ (sym (ap walkSaid told) ∙ k .before .before .check-blocks .ensures) (listed .list-starts .ensures)
 
 pub walk-blocks-spec : {M : Type 1} → statement M
 walk-blocks-spec =
@@ -22,7 +25,6 @@ walk-blocks-spec =
     (λ c κs. search needs)
     (λ c. search needs)
     (λ c. search needs)
-    (λ c κs. search needs)
     returns
     (λ c κs. search needs)
     (λ c. search needs)

@@ -1,6 +1,7 @@
+mod Sweep
 use mathlib.Core.Path.{_∙_, sym, ap}
-use Rattle.lerc_image.specs.Sweep.{waySaid}
-use Rattle.lerc_image.proofs.Walks.{body-raw, body-no, body-blocks}
+use Rattle.lerc_sweep.specs.Sweep.{waySaid}
+use Rattle.lerc_image.proofs.walk_body.Proof.Sweep.{body-raw, body-no, body-blocks}
 use borrow.Author.Needs.{needs}
 use Rattle.lerc_image.proofs.walk_body.Statement.{statement}
 use Rattle.lerc_image.proofs.walk_body.Tie as tie

@@ -4,7 +4,7 @@ use mathlib.Core.Path.{_≡_, _∙_, sym, ap}
 use native.Mathlib.Omega.{arith}
 use denote.Ref.{now}
 use lib.ListN.{length}
-use Rattle.lerc_words.proofs.Laws.{Bytes}
+use Rattle.lerc_words.proofs.Little.{Bytes}
 use Rattle.lerc_mask.specs.Mask.{validBelow}
 use Rattle.lerc_mask.proofs.Tally.{valid-byte, valid-bytes}
 use Rattle.lerc_mask.proofs.Pixels.{valid-past}

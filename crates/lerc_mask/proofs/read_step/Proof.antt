@@ -2,7 +2,7 @@ use mathlib.Core.Path.{_∙_, sym, ap}
 use native.Mathlib.Omega.{arith}
 use denote.Ref.{now}
 use Rattle.lerc_words.specs.Res.{wordSaid}
-use Rattle.lerc_words.proofs.Laws.{Bytes, Stands, wordAt-is, wordAt-fails, word-at, read-ok, little-lt}
+use Rattle.lerc_words.proofs.Little.{Bytes, Stands, wordAt-is, wordAt-fails, word-at, read-ok, little-lt}
 use Rattle.lerc_mask.proofs.Steps.{step-told, step-short, step-end, step-copy, step-repeat}
 use borrow.Author.Needs.{needs}
 use Rattle.lerc_mask.proofs.read_step.Statement.{statement}

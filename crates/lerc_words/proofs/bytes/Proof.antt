@@ -3,7 +3,7 @@ use mathlib.Core.Path.{_≡_}
 use native.Mathlib.Omega.{arith}
 use denote.Ref.{now}
 use lib.Pow.{pow-pos}
-use Rattle.lerc_words.proofs.Laws.{Bytes, little-word, unit}
+use Rattle.lerc_words.proofs.Little.{Bytes, little-word, unit}
 use borrow.Author.Needs.{needs}
 use Rattle.lerc_words.proofs.bytes.Statement.{statement}
 use Rattle.lerc_words.proofs.bytes.Tie as tie

@@ -2,27 +2,32 @@ use Prim.Native.Nat.{_-_, _+_}
 use mathlib.Core.Path.{sym}
 use native.Mathlib.Omega.{arith}
 use denote.Ref.{now}
-use Rattle.lerc_words.proofs.Laws.{little-quads}
+use Rattle.lerc_words.proofs.Little.{little-quads}
 use borrow.Author.Needs.{needs}
 use Rattle.lerc_words.proofs.peek.Statement.{statement}
 use Rattle.lerc_words.proofs.peek.Tie as tie
 
 mul-result : tie.Need-mul-result
 mul-result c =
-    let a = c .before .before .before .before .before .before .before .before .before .before .before .before .before .args in
-    let b = c .before .before .before .before .before .before .before .before .before .before .before .before .shared-slice-known .given in
-    omega (arith, c .quad2 .ensures, c .before .before .before .before .before .quad .ensures, b (a .at), b (a .at + 1), b (a .at + 2), b (a .at + 3), b (a .at + 4), b (a .at + 5), b (a .at + 6), b (a .at + 7))
+    let first = c .before .before .before .before .before in
+    let known = first .before .before .before .before .before .before .before in
+    let a = known .before .args in
+    let b = known .shared-slice-known .given in
+    omega (arith, c .quad2 .ensures, first .quad .ensures, b (a .at), b (a .at + 1), b (a .at + 2), b (a .at + 3), b (a .at + 4), b (a .at + 5), b (a .at + 6), b (a .at + 7))
 
 add-result : tie.Need-add-result
 add-result c =
-    let a = c .before .before .before .before .before .before .before .before .before .before .before .before .before .args in
-    let b = c .before .before .before .before .before .before .before .before .before .before .before .before .shared-slice-known .given in
-    omega (arith, c .quad2 .ensures, c .before .before .before .before .before .quad .ensures, b (a .at), b (a .at + 1), b (a .at + 2), b (a .at + 3), b (a .at + 4), b (a .at + 5), b (a .at + 6), b (a .at + 7))
+    let first = c .before .before .before .before .before in
+    let known = first .before .before .before .before .before .before .before in
+    let a = known .before .args in
+    let b = known .shared-slice-known .given in
+    omega (arith, c .quad2 .ensures, first .quad .ensures, b (a .at), b (a .at + 1), b (a .at + 2), b (a .at + 3), b (a .at + 4), b (a .at + 5), b (a .at + 6), b (a .at + 7))
 
 returns-3 : tie.Need-returns-3
 returns-3 c =
-    let a = c .before .before .before .before .before .before .before .before .before .before .before .before .before .args in
-    rw (c .quad2 .ensures, c .before .before .before .before .before .quad .ensures) (sym (little-quads (now (a .s)) (a .at)))
+    let first = c .before .before .before .before .before in
+    let a = first .before .before .before .before .before .before .before .before .args in
+    rw (c .quad2 .ensures, first .quad .ensures) (sym (little-quads (now (a .s)) (a .at)))
 
 pub peek-spec : {M : Type 1} → statement M
 peek-spec =

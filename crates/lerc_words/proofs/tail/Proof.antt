@@ -5,7 +5,7 @@ use native.Mathlib.Omega.{arith}
 use denote.Ref.{now}
 use lib.ListN.{length}
 use Rattle.lerc_words.specs.Res.{little}
-use Rattle.lerc_words.proofs.Laws.{Bytes, little-suc, little-room, little-tail}
+use Rattle.lerc_words.proofs.Little.{Bytes, little-suc, little-room, little-tail}
 use Rattle.lerc_words.proofs.tail.Statement.{statement}
 use Rattle.lerc_words.proofs.tail.Tie as tie
 

@@ -2,7 +2,7 @@ use Prim.Native.Nat.{_-_, min}
 use mathlib.Core.Path.{_≡_, sym}
 use native.Mathlib.Omega.{arith}
 use denote.Ref.{now}
-use Rattle.lerc_words.proofs.Laws.{word-wide, word-past, word-ok}
+use Rattle.lerc_words.proofs.Little.{word-wide, word-past, word-ok}
 use borrow.Author.Needs.{needs}
 use Rattle.lerc_words.proofs.word.Statement.{statement}
 use Rattle.lerc_words.proofs.word.Tie as tie

@@ -3,7 +3,7 @@ use Rattle.lerc.proofs.ReadAnswer.refusal.Statement.{statement}
 use Rattle.lerc.proofs.ReadAnswer.refusal.Tie as tie
 
 returns : tie.Need-returns
-returns c = cc
+returns c = rw (c .before .self .given .1)
 
 pub refusal-spec : {M : Type 1} → statement M
 refusal-spec = tie.close (tie.spec (λ c. search needs) (λ c. search needs) returns (λ c. search needs))

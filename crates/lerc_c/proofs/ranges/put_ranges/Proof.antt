@@ -1,4 +1,5 @@
-use Rattle.lerc_c.proofs.Laws.{ranges-put}
+use Rattle.lerc_header.specs.Limits.{depthLimit}
+use Rattle.lerc_c.proofs.RecordParts.{ranges-put}
 use lib.ListN.{length}
 use mathlib.Core.Path.{_≡_, refl}
 use mathlib.Core.Bool.{Bool, true, false, cond}
@@ -14,9 +15,11 @@ as-number false = refl
 
 returns : tie.Need-returns
 returns c =
-    let a = c .before .before .before .before .before .before .before .before .before .before .before .before .before .before .before .before .before .before .before .before .args in
-    let k : length (a .t1 .min) ≡ 64 = search needs in
-    ranges-put (a .t1) (now (a .out)) k (as-number (a .t1 .constant)) (c .before .before .before .before .before .before .before .before .before .before .before .before .before .before .before .before .put .ensures) (c .before .before .before .before .before .before .before .before .before .put2 .ensures) (c .before .before .put3 .ensures)
+    let far = c .before .before .before .before .before .before .before .before in
+    let further = far .before .before .before .before .before .before .before .before in
+    let a = further .before .before .before .before .args in
+    let k : length (a .t1 .min) ≡ depthLimit = search needs in
+    ranges-put (a .t1) (now (a .out)) k (as-number (a .t1 .constant)) (far .before .before .before .before .before .before .before .before .put .ensures) (far .before .put2 .ensures) (c .before .before .put3 .ensures)
 
 pub put-ranges-spec : {M : Type 1} → statement M
 put-ranges-spec =

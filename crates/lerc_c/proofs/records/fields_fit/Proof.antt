@@ -6,10 +6,11 @@ use Rattle.lerc_c.proofs.records.fields_fit.Tie as tie
 returns : tie.Need-returns
 unfolding fieldsFit
 returns c =
+    let far = c .before .before .before .before .before .before .before .before in
     rw (
-      c .before .before .before .before .before .before .before .before .before .before .before .before .before .before .narrow .ensures,
-      c .before .before .before .before .before .before .before .before .before .before .before .before .narrow2 .ensures,
-      c .before .before .before .before .before .before .before .before .before .before .narrow3 .ensures,
+      far .before .before .before .before .before .before .narrow .ensures,
+      far .before .before .before .before .narrow2 .ensures,
+      far .before .before .narrow3 .ensures,
       c .before .before .before .before .before .before .before .before .narrow4 .ensures,
       c .before .before .before .before .before .before .narrow5 .ensures,
       c .before .before .before .before .narrow6 .ensures,

@@ -1,4 +1,4 @@
-use Rattle.lerc_c.proofs.Laws.{fit, header-fits, header-wide}
+use Rattle.lerc_c.proofs.RecordParts.{fit, header-fits, header-wide}
 use Rattle.lerc_c.specs.Records.{fieldsFit}
 use borrow.Author.Tests.{not-true, not-false}
 use mathlib.Core.Bool.{true}
@@ -37,10 +37,16 @@ cast-t25 : tie.Need-cast-t25
 cast-t25 c = record { fits = fit _ (narrow (c .before .before .before .before .before .before .before)) .kind }
 
 cast-t34 : tie.Need-cast-t34
-cast-t34 c = record { fits = fit _ (narrow (c .before .before .before .before .before .before .before .before .before .before .before)) .mask }
+cast-t34 c = record {
+  fits =
+      let far = c .before .before .before .before .before .before .before .before in
+      fit _ (narrow (far .before .before .before)) .mask;
+}
 
 returns-2 : tie.Need-returns-2
-returns-2 c = header-fits (now (c .before .before .before .before .before .before .before .before .before .before .before .before .before .before .args .l)) (narrow (c .before .before .before .before .before .before .before .before .before .before .before))
+returns-2 c =
+    let far = c .before .before .before .before .before .before .before .before in
+    header-fits (now (far .before .before .before .before .before .before .args .l)) (narrow (far .before .before .before))
 
 pub header-from-spec : {M : Type 1} → statement M
 header-from-spec =

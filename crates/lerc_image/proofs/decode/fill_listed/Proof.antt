@@ -1,13 +1,15 @@
+mod Order
+mod Turn
 use Prim.Native.Nat.{_-_}
 use native.Mathlib.Omega.{arith}
 use borrow.Author.Needs.{needs}
-use Rattle.lerc_image.proofs.Passes.{Standing, standing-none, standing-here, standing-within, standing-few, standing-next}
-use Rattle.lerc_image.proofs.Decoding.{Filling, start-filling, filling-room, filling-on, filling-all}
+use Rattle.lerc_image.proofs.Standing.{Standing, standing-none, standing-here, standing-within, standing-few, standing-next}
+use Rattle.lerc_image.proofs.decode.fill_listed.Proof.Turn.{Filling, filling-none, filling-length, filling-room, filling-more, filling-all}
 use Rattle.lerc_image.proofs.decode.fill_listed.Statement.{statement}
 use Rattle.lerc_image.proofs.decode.fill_listed.Tie as tie
 
 abbrev Inv-loop : tie.InvT-loop
-Inv-loop s h e maxima mask list image₀ shape p₀ n₀ image p n = Standing h e p n × Filling s h maxima mask (e .blocks) list image₀ image n
+Inv-loop s h e maxima mask list image₀ shape p₀ n₀ image p n = Standing h e p n × Filling s h maxima mask list image₀ image n
 
 abbrev μ-loop : tie.MeasureT-loop
 μ-loop s h e maxima mask list image₀ shape p₀ n₀ image p n = e .blocks - n
@@ -15,20 +17,22 @@ abbrev μ-loop : tie.MeasureT-loop
 loop-holds : tie.Need-loop-holds Inv-loop μ-loop
 loop-holds c =
     let p = c .before .before .before .before .before .before .pre in
-    (rw (c .start .ensures) (standing-none (p .0)), start-filling (p .0) _ _ _ _ _ (p .2))
+    (rw (c .start .ensures) (standing-none (p .0)), filling-none _ (p .0) _ _ _ _)
 
 mul-fill-at : tie.Need-mul-fill-at Inv-loop μ-loop
 mul-fill-at c = omega (arith, standing-few (c .before .before .loop .inv .0) (c .if1 .taken))
 
 shared-slice-read-fill-at : tie.Need-shared-slice-read-fill-at Inv-loop μ-loop
 shared-slice-read-fill-at c =
-    let p = c .before .before .before .before .before .before .before .before .before .before .pre in
+    let l = c .before .before .before in
+    let p = l .before .before .before .before .before .before .before .pre in
     omega (arith, p .1, c .before .if1 .taken)
 
 fill-at-requires : tie.Need-fill-at-requires Inv-loop μ-loop
 fill-at-requires c κs =
-    let i = c .before .before .before .before .loop .inv in
-    (standing-here (i .0) (c .before .before .if1 .taken), filling-room (i .0 .asked) (i .1))
+    let l = c .before .before .before .before in
+    let i = l .loop .inv in
+    (standing-here (i .0) (c .before .before .if1 .taken), filling-room (i .1) (i .0 .asked) (l .before .before .before .before .before .before .before .pre .2))
 
 advance-requires : tie.Need-advance-requires Inv-loop μ-loop
 advance-requires c κs =
@@ -43,13 +47,13 @@ loop-again : tie.Need-loop-again Inv-loop μ-loop
 loop-again c =
     let i = c .before .before .before .before .before .before .before .before .loop .inv in
     let l = c .before .before .before .before .before .before .if1 .taken in
-    (rw (c .advance .ensures) (standing-next (i .0) l), filling-on (i .0 .asked) (i .1) l (c .before .before .before .fill-at .ensures))
+    (rw (c .advance .ensures) (standing-next (i .0) l), filling-more (i .1) (i .0 .asked) l (c .before .before .before .fill-at .ensures))
 
 same-length : tie.Need-same-length Inv-loop μ-loop
-same-length c = c .before .before .loop .inv .1 .long
+same-length c = filling-length (c .before .before .loop .inv .1)
 
 returns : tie.Need-returns Inv-loop μ-loop
-returns c = let i = c .before .before .loop .inv in filling-all _ _ _ _ _ _ _ _ _ (i .1) (c .if1 .left) (i .0 .few)
+returns c = let i = c .before .before .loop .inv in filling-all (i .1) (i .0 .asked) (c .if1 .left) (i .0 .few)
 
 pub fill-listed-spec : {M : Type 1} → statement M
 fill-listed-spec =

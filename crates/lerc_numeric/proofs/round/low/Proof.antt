@@ -1,5 +1,5 @@
 use lib.Pow.{pow-pos}
-use Rattle.lerc_words.proofs.Laws.{unit}
+use Rattle.lerc_words.proofs.Little.{unit}
 use Rattle.lerc_numeric.proofs.Shift.{mask}
 use borrow.Author.Needs.{needs}
 use Rattle.lerc_numeric.proofs.round.low.Statement.{statement}

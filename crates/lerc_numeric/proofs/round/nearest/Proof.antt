@@ -1,7 +1,7 @@
 use Prim.Native.Nat.{_%_, _^_, _<_}
 use native.Mathlib.Omega.{arith}
 use lib.Pow.{pow-pos}
-use Rattle.lerc_words.proofs.Laws.{unit}
+use Rattle.lerc_words.proofs.Little.{unit}
 use Rattle.lerc_numeric.proofs.Closest.{near-down, near-up, near-tie}
 use Rattle.lerc_numeric.proofs.Shift.{low-lt, quot-lt}
 use borrow.Author.Needs.{needs}

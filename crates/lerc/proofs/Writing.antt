@@ -1,0 +1,147 @@
+-- What writing a checked body leaves in list and image: one law for each kind of body.
+-- Assumes nothing.
+use mathlib.Core.Path.{_≡_, _∙_, sym, refl}
+use mathlib.Core.Bool.{Bool, true, false, cond}
+use mathlib.Core.List.{List}
+use Prim.Native.Nat.{ℕ, _+_, _*_, _%_, _≤_}
+use native.Mathlib.Omega.{arith}
+use native.Mathlib.Nat.{mod-lt}
+use lib.ListN.{length, take}
+use lib.Dec.{leb, eqb}
+use lib.Seq.{getD-take}
+use borrow.Author.Tests.{eqb-true, leb-true, le-leb}
+use Rattle.lerc_words.specs.declared.Refusal.{Refusal}
+use Rattle.lerc_words.specs.Res.{Res, ok, fail, _>>=_, require, refuse, after}
+use Rattle.lerc_words.specs.Lists.{over}
+use Rattle.lerc_words.proofs.Binding.{bind-is, require-is}
+use Rattle.lerc_numeric.specs.Kinds.{typeSize}
+use Rattle.lerc_numeric.proofs.Integers.{size-le}
+use Rattle.lerc_header.specs.declared.Header.{Header}
+use Rattle.lerc_header.specs.Header.{shapeOf}
+use Rattle.lerc_header.specs.Shape.{blockCount, cells, Shaped}
+use Rattle.lerc_header.proofs.Kept.{held-shaped}
+use Rattle.lerc_block.specs.Block.{rawWords}
+use Rattle.lerc_image.specs.Geometry.{isValidCell}
+use Rattle.lerc_image.specs.Paint.{painted}
+use Rattle.lerc_image.specs.Blocks.{Chain, allBlocks}
+use Rattle.lerc_image.specs.Tiles.{checkedTiles, listedTiles, filledTiles}
+use Rattle.lerc_image.proofs.Painting.{painted-words}
+use Rattle.lerc_image.proofs.Stages.{checked-listed, checked-filled, starts-over}
+use Rattle.lerc.specs.declared.body.BodyFound.{BodyFound}
+use Rattle.lerc.specs.declared.body.BodyFound.the-variants as found
+use Rattle.lerc.specs.Meaning.{Body, empty, constant, blocks, rawBody, blockBody, startsOf, cellWord}
+use Rattle.lerc.specs.Linear.{depthWord, rawWord, RawAsked}
+use Rattle.lerc.specs.Parts.{ToWrite, Listed, bodyIn, bodyImage}
+use Rattle.lerc.proofs.Bodies.{image-empty, image-raw}
+use Rattle.lerc.proofs.Whole.{raw-starts}
+use Rattle.lerc.proofs.Checking.{tiles-are}
+
+-- an accepted raw body lies in the bytes
+raw-inside : (s : List ℕ) (h : Header) (at : ℕ) (b : Body) → rawBody s h at ≡ ok b → at + h .valid * h .depth * typeSize (h .kind) ≤ length s
+unfolding rawBody rawWords
+raw-inside s h at b q =
+    let (_, p, _) = bind-is (require (leb (at + h .valid * h .depth * typeSize (h .kind)) (length s)) 1 >>= _) _ q in
+    let (_, t, _) = bind-is (require (leb (at + h .valid * h .depth * typeSize (h .kind)) (length s)) 1) _ p in
+    leb-true _ _ (require-is _ 1 t)
+
+module _ {s : List ℕ} {h : Header} {m words : List ℕ} {f : BodyFound} (w : ToWrite s h m words f) where
+  abbrev listed : List ℕ → List ℕ
+  listed list = after (bodyIn s h m words f) list (λ y. over (startsOf y) list)
+
+  abbrev filled : List ℕ → List ℕ
+  filled image = after (bodyIn s h m words f) image (bodyImage h m image)
+
+  pub shaped : Shaped (shapeOf h)
+  shaped = held-shaped h (length s) (w .ready .header)
+
+  -- ---- nothing was found to write
+
+  pub list-refused : {why : Refusal} (list : List ℕ) → f ≡ found.Refused why → list ≡ listed list
+  list-refused list e = rw (e)
+
+  pub image-refused : {why : Refusal} (image : List ℕ) → f ≡ found.Refused why → image ≡ filled image
+  image-refused image e = rw (e)
+
+  -- ---- empty
+
+  none-valid : f ≡ found.Empty → h .valid ≡ 0
+  none-valid e = go (eqb (h .valid) 0) refl (rw (e) at (w .is))
+    where
+      go : (t : Bool) → eqb (h .valid) 0 ≡ t → cond t (ok empty) (fail (refuse 0)) ≡ ok (w .body) → h .valid ≡ 0
+      go true t q = eqb-true _ _ t
+      go false t q = absurd (let z : _≡_ {A = ℕ} 0 1 = cc in omega arith)
+
+  pub list-empty : (list : List ℕ) → f ≡ found.Empty → list ≡ listed list
+  list-empty list e = rw (e) (go (eqb (h .valid) 0))
+    where
+      go : (t : Bool) → list ≡ after (cond t (ok empty) (fail (refuse 0))) list (λ y. over (startsOf y) list)
+      go true = refl
+      go false = refl
+
+  pub image-none : (image : List ℕ) → f ≡ found.Empty → image ≡ filled image
+  image-none image e = rw (e) (go (eqb (h .valid) 0))
+    where
+      go : (t : Bool) → image ≡ after (cond t (ok empty) (fail (refuse 0))) image (bodyImage h m image)
+      go true = image-empty (shapeOf h) m image (cellWord h m empty) (shaped .depth .0) (w .ready .counts ∙ none-valid e)
+      go false = refl
+
+  -- ---- constant
+
+  pub list-constant : {end : ℕ} (list : List ℕ) → f ≡ found.Constant end → list ≡ listed list
+  list-constant list e = rw (e)
+
+  pub image-constant : {end : ℕ} (image : List ℕ) {new : List ℕ} → f ≡ found.Constant end → new ≡ painted image (isValidCell (shapeOf h) m) (depthWord (shapeOf h) words) → new ≡ filled image
+  unfolding cellWord
+  image-constant {end} image e q =
+      rw (e) (q ∙ painted-words image (depthWord (shapeOf h) words) (cellWord h m (constant (take (h .depth) words) end)) (isValidCell (shapeOf h) m)
+      (λ c _. sym (getD-take (h .depth) words (c % h .depth) 0 (mod-lt c (shaped .depth .0)))))
+
+  -- ---- raw
+
+  raw-fits : {at end : ℕ} → f ≡ found.Raw at end → at + h .valid * h .depth * typeSize (h .kind) ≤ length s
+  raw-fits {at} e = raw-inside s h at (w .body) (rw (e) at (w .is))
+
+  pub raw-asked : {at end : ℕ} {image : List ℕ} → f ≡ found.Raw at end → cells (shapeOf h) ≤ length image → RawAsked (shapeOf h) s at (typeSize (h .kind)) m image
+  raw-asked e r = record { shaped = shaped; small = size-le (h .kind); words = rw (w .ready .counts) (raw-fits e); room = r }
+
+  pub list-raw : {at end : ℕ} (list : List ℕ) → f ≡ found.Raw at end → list ≡ listed list
+  list-raw {at} list e = rw (e) (go (rawBody s h at) refl)
+    where
+      go : (y : Res Body) → rawBody s h at ≡ y → list ≡ after y list (λ b. over (startsOf b) list)
+      go (ok b) q = rw (raw-starts s h at b q)
+      go (fail r) q = refl
+
+  pub image-written : {at end : ℕ} (image : List ℕ) {new : List ℕ} → f ≡ found.Raw at end → new ≡ painted image (isValidCell (shapeOf h) m) (rawWord s at (typeSize (h .kind)) (shapeOf h) m) → new ≡ filled image
+  unfolding rawBody rawWords
+  image-written {at} {end} image e q =
+      rw (e, le-leb _ _ (raw-fits e)) (q ∙ image-raw h s m image at (typeSize (h .kind)) (at + h .valid * h .depth * typeSize (h .kind)) (shaped .depth .0) (w .ready .counts))
+
+  -- ---- blocks
+
+  module _ {at n end : ℕ} (e : f ≡ found.Blocks at n end) where
+    chained : (c : Chain) × (allBlocks s h words m at ≡ ok c)
+    unfolding blockBody
+    chained =
+        let q : (allBlocks s h words m at >>= λ c. ok (blocks c)) ≡ ok (w .body) = rw (e) at (w .is) in
+        let (c, p, _) = bind-is (allBlocks s h words m at) _ q in
+        (c, p)
+
+    checked : checkedTiles s h m words at ≡ ok (chained .0)
+    checked = tiles-are s h words m at (w .ready) ∙ chained .1
+
+    pub list-blocks : (list : List ℕ) {new : List ℕ} → blockCount (shapeOf h) ≤ length list → new ≡ listedTiles s h m at list → new ≡ listed list
+    unfolding blockBody
+    list-blocks list l q = rw (e, chained .1) (q ∙ checked-listed s h m words at checked list l)
+
+    pub image-blocks : (list image : List ℕ) {new : List ℕ} → Listed s h m words f list → blockCount (shapeOf h) ≤ length list → cells (shapeOf h) ≤ length image
+        → new ≡ filledTiles s h m words list image → new ≡ filled image
+    unfolding blockBody cellWord
+    image-blocks list image t l r q =
+        rw (e, chained .1) (q ∙ checked-filled s h m words at checked list image l r (t at n end e (chained .0) (chained .1)))
+
+  -- the list that was written holds the starts
+  pub written-listed : (list : List ℕ) {new : List ℕ} → new ≡ listed list → Listed s h m words f new
+  unfolding blockBody
+  written-listed list {new} q at n end e c p =
+      let is : new ≡ over (c .starts) list = q ∙ rw (e, p) in
+      rw (is) (starts-over s h words m at p list)

@@ -1,0 +1,70 @@
+use denote.Ref.{now}
+use Rattle.lerc.proofs.Writing.{shaped, raw-asked, image-refused, image-none, image-constant, image-written, image-blocks}
+use borrow.Author.Needs.{needs}
+use Rattle.lerc.proofs.body.fill_body.Statement.{statement}
+use Rattle.lerc.proofs.body.fill_body.Tie as tie
+
+write-constant-requires : tie.Need-write-constant-requires
+write-constant-requires c κs =
+    let f = c .before .before .before .before .before .before in
+    let s = f .before .before .before .before .before .before in
+    rw (f .shape .ensures) (shaped (s .pre .0), s .pre .3)
+
+write-raw-requires : tie.Need-write-raw-requires
+write-raw-requires c κs =
+    let z = c .before .before .before .before in
+    let s = z .before .before .before .before .before .before .before in
+    rw (z .before .shape .ensures, z .size .ensures) (raw-asked (s .pre .0) (c .before .before .found2 .given .1) (s .pre .3))
+
+returns : tie.Need-returns
+returns c =
+    let z = c .before .before .before .before .before .before .before .before in
+    let s = z .before .before .before .before .before .before .before in
+    image-constant (s .pre .0) (now (s .args .image)) (c .before .before .before .before .before .before .found .given .1) (rw (z .before .shape .ensures) at (c .before .before .write-constant .ensures))
+
+returns-2 : tie.Need-returns-2
+returns-2 c =
+    let z = c .before .before .before .before .before .before .before in
+    let s = z .before .before .before .before .before .before .before in
+    image-written (s .pre .0) (now (s .args .image)) (c .before .before .before .before .before .found2 .given .1) (rw (z .before .shape .ensures, z .size .ensures) at (c .before .before .write-raw .ensures))
+
+returns-3 : tie.Need-returns-3
+returns-3 c =
+    let z = c .before .before .before .before .before .before .before .before in
+    let s = z .before .before .before .before .before .before .before in
+    image-blocks (s .pre .0) (c .before .before .before .before .before .before .found3 .given .1) (now (s .args .list)) (now (s .args .image)) (s .pre .1) (s .pre .2) (s .pre .3) (c .before .before .fill-tiles .ensures)
+
+returns-4 : tie.Need-returns-4
+returns-4 c =
+    let z = c .before .before in
+    let s = z .before .before .before .before .before .before .before in
+    image-none (s .pre .0) (now (s .args .image)) (c .enum-told .given .1)
+
+returns-5 : tie.Need-returns-5
+returns-5 c =
+    let z = c .before .before .before in
+    let s = z .before .before .before .before .before .before .before in
+    image-refused (s .pre .0) (now (s .args .image)) (c .before .found4 .given .1)
+
+pub fill-body-spec : {M : Type 1} → statement M
+fill-body-spec =
+    tie.close
+    (tie.spec
+    (λ c κs. search needs)
+    (λ c κs. search needs)
+    (λ c. search needs)
+    write-constant-requires
+    (λ c. search needs)
+    write-raw-requires
+    (λ c. search needs)
+    (λ c κs. search needs)
+    (λ c. search needs)
+    (λ c. search needs)
+    (λ c. search needs)
+    returns
+    (λ c. search needs)
+    returns-2
+    (λ c. search needs)
+    returns-3
+    returns-4
+    returns-5)

@@ -1,0 +1,37 @@
+use borrow.Author.Needs.{needs}
+use borrow.Author.Tests.{not-true, not-false}
+use mathlib.Core.Path.{_∙_, sym}
+use native.Mathlib.Omega.{arith}
+use denote.Ref.{now}
+use lib.ListN.{length}
+use Rattle.lerc_bits.specs.Bits.{run, Kept}
+use Rattle.lerc_bits.proofs.Run.{length-digits}
+use Rattle.lerc_bits.proofs.Plans.{keeps-kept, by-broken, by-kept}
+use Rattle.lerc_bits.proofs.Answers.{counted, uncounted, unpacked-plain}
+use Rattle.lerc_bits.proofs.checks.check_plan.Statement.{statement}
+use Rattle.lerc_bits.proofs.checks.check_plan.Tie as tie
+
+returns : tie.Need-returns
+returns c =
+    let a = c .before .before .before .args in
+    uncounted (by-broken (now (a .s)) (a .p) (sym (c .before .keeps-bounds .ensures) ∙ not-true _ (c .if1 .taken)))
+
+kept : (k : tie.Else1) → Kept (length (now (k .before .before .before .args .s))) (k .before .before .before .args .p)
+kept k = keeps-kept _ _ (sym (k .before .keeps-bounds .ensures) ∙ not-false _ (k .if1 .left))
+
+returns-2 : tie.Need-returns-2
+returns-2 c =
+    let k = c .before .before in
+    let a = k .before .before .before .args in
+    let p = a .p in
+    counted (run (now (a .s)) (p .at) (p .n) (p .width)) (p .n) (by-kept _ _ (kept k) ∙ unpacked-plain (now (a .s)) p (c .if2 .taken)) (length-digits _ (p .n) (p .width))
+
+check-table-requires : tie.Need-check-table-requires
+check-table-requires c κs = (kept (c .before .before), omega arith)
+
+returns-3 : tie.Need-returns-3
+returns-3 c = rw (by-kept _ _ (kept (c .before .before .before))) (c .check-table .ensures)
+
+pub check-plan-spec : {M : Type 1} → statement M
+check-plan-spec =
+    tie.close (tie.spec (λ c κs. search needs) returns returns-2 check-table-requires returns-3)

@@ -1,0 +1,91 @@
+-- A block at its position, and where a pass over the blocks stands before block n.
+-- Assumes nothing.
+use mathlib.Core.Path.{_≡_, _∙_, sym, ap}
+use mathlib.Core.List.{List}
+use Prim.Native.Nat.{ℕ, _+_, _≤_, _<_}
+use native.Mathlib.Omega.{arith}
+use lib.ListN.{length, getD}
+use Rattle.lerc_header.specs.declared.Header.{Header}
+use Rattle.lerc_header.specs.declared.Extent.{Extent}
+use Rattle.lerc_header.specs.declared.Shape.{Shape}
+use Rattle.lerc_header.specs.Limits.{cellLimit, depthLimit}
+use Rattle.lerc_header.specs.Shape.{blockCount, cells}
+use Rattle.lerc_header.specs.Header.{shapeOf}
+use Rattle.lerc_header.proofs.Sizes.{blocks-le}
+use Rattle.lerc_block.specs.Block.{blockSays}
+use Rattle.lerc_block.specs.Plan.{planAt, planEnd}
+use Rattle.lerc_image.specs.declared.Tile.{Tile}
+use Rattle.lerc_image.specs.declared.Position.{Position}
+use Rattle.lerc_image.specs.Geometry.{Within, tileOf, tileHere, tileValid, positionOf, nextOf}
+use Rattle.lerc_image.specs.Blocks.{blockAt}
+use Rattle.lerc_image.specs.Tiles.{blockEnd}
+use Rattle.lerc_image.specs.Parts.{TileIn, BodyAsked, BlockHere, Asked}
+use Rattle.lerc_image.proofs.Partition.{tile-depth}
+use Rattle.lerc_image.proofs.Steps.{position-first, position-next, position-within, tile-here}
+use Rattle.lerc_image.proofs.Cursors.{tile-in}
+
+-- ---- a block at its position
+
+pub asked-in : {h : Shape} {t : Tile} {n : ℕ} {start : List ℕ} → Asked h t n start → TileIn h t
+asked-in {h} {n = n} a = rw (a .tile) (tile-in h (a .shaped) n (a .below))
+
+module _ {h : Header} {shape : Shape} {n : ℕ} {p : Position} (b : BlockHere h shape n p) where
+  pub here-within : Within shape p
+  here-within = rw (b .position) (position-within shape (b .shaped) n (b .below))
+
+  module _ {t : Tile} (e : t ≡ tileHere shape p) where
+    here-is : t ≡ tileOf shape n
+    here-is = e ∙ ap (tileHere shape) (b .position) ∙ tile-here shape (b .shaped) n (b .below)
+
+    pub here-in : TileIn shape t
+    here-in = rw (here-is) (tile-in shape (b .shaped) n (b .below))
+
+    pub here-asked : {image : List ℕ} → cells shape ≤ length image → Asked shape t n image
+    here-asked r = record { shaped = b .shaped; below = b .below; tile = here-is; room = r }
+
+    pub here-depth : t .d < depthLimit
+    here-depth = rw (here-is) (omega (arith, tile-depth shape (b .shaped) n (b .below), b .shaped .depth .1))
+
+    pub here-end : (s : List ℕ) (at : ℕ) (m : List ℕ) → planEnd (planAt s at (h .kind) (t .x) (tileValid shape m t)) ≡ blockEnd s h m n at
+    here-end s at m = rw (here-is, b .same)
+
+    pub here-block : (s : List ℕ) (at : ℕ) (maxima m : List ℕ) → blockSays s at (h .kind) (h .error) (getD maxima (t .d) 0) (t .x) (tileValid shape m t) ≡ blockAt s h maxima m n at
+    unfolding blockAt
+    here-block s at maxima m = rw (here-is, b .same)
+
+-- ---- before block n
+
+pub record Standing (h : Header) (e : Extent) (p : Position) (n : ℕ) : Type 0 where
+  pub asked : BodyAsked h e
+  pub few : n ≤ e .blocks
+  pub here : p ≡ positionOf (e .shape) n
+
+-- the extent is the header's own
+module _ {h : Header} {e : Extent} (a : BodyAsked h e) where
+  pub shape-is : e .shape ≡ shapeOf h
+  shape-is = ap (λ (x : Extent). x .shape) (a .sizes)
+
+  pub count-is : e .blocks ≡ blockCount (shapeOf h)
+  count-is = ap (λ (x : Extent). x .blocks) (a .sizes)
+
+  pub cells-are : e .cells ≡ cells (shapeOf h)
+  cells-are = ap (λ (x : Extent). x .cells) (a .sizes)
+
+pub standing-none : {h : Header} {e : Extent} → BodyAsked h e → Standing h e (record { x = 0; y = 0; d = 0 }) 0
+standing-none {e = e} a = record { asked = a; few = omega arith; here = sym (position-first (e .shape) (a .shaped)) }
+
+module _ {h : Header} {e : Extent} {p : Position} {n : ℕ} (w : Standing h e p n) (l : n < e .blocks) where
+  below : n < blockCount (e .shape)
+  below = rw (w .asked .sizes) (rw (w .asked .sizes) at l)
+
+  pub standing-here : BlockHere h (e .shape) n p
+  standing-here = record { shaped = w .asked .shaped; same = shape-is (w .asked); below = below; position = w .here }
+
+  pub standing-within : Within (e .shape) p
+  standing-within = here-within standing-here
+
+  pub standing-few : n < cellLimit
+  standing-few = omega (arith, below, blocks-le (e .shape) (w .asked .shaped), w .asked .shaped .few)
+
+  pub standing-next : Standing h e (nextOf (e .shape) p) (n + 1)
+  standing-next = record { asked = w .asked; few = omega arith; here = rw (w .here) (position-next (e .shape) (w .asked .shaped) n below) }

@@ -1,0 +1,89 @@
+-- What private functions promise; not part of the rules.
+-- Assumes nothing.
+use Prim.Native.Nat.{ℕ, _+_, _-_, _%_, _≤_, _<_}
+use mathlib.Core.Path.{_≡_}
+use mathlib.Core.Bool.{cond}
+use mathlib.Core.List.{List}
+use lib.ListN.{length}
+use lib.Dec.{ltb}
+use Rattle.lerc_words.specs.Res.{Res, ok, _>>=_, after}
+use Rattle.lerc_words.specs.Lists.{over}
+use Rattle.lerc_header.specs.declared.Header.{Header}
+use Rattle.lerc_header.specs.declared.Shape.{Shape}
+use Rattle.lerc_header.specs.declared.Extent.{Extent}
+use Rattle.lerc_header.specs.Header.{shapeOf, extentOf}
+use Rattle.lerc_header.specs.Shape.{Shaped, cells, blockCount}
+use Rattle.lerc_block.specs.Block.{Block, tileLimit}
+use Rattle.lerc_image.specs.declared.Tile.{Tile}
+use Rattle.lerc_image.specs.declared.Position.{Position}
+use Rattle.lerc_image.specs.declared.Cursor.{Cursor}
+use Rattle.lerc_image.specs.declared.FillAnswer.{FillAnswer}
+use Rattle.lerc_image.specs.declared.WalkAnswer.{WalkAnswer}
+use Rattle.lerc_image.specs.Geometry.{tileOf, tileSize, pixelOf, tileValid, positionOf}
+use Rattle.lerc_image.specs.Paint.{scattered}
+use Rattle.lerc_image.specs.Blocks.{Chain}
+use Rattle.lerc_image.specs.Fill.{fillSaid}
+use Rattle.lerc_image.specs.Walk.{walkSaid, walkCount}
+
+-- ---- what they ask: a header that keeps the rules, and what follows from it
+
+-- a tile that lies in the image, and has no more pixels than a block may have
+pub record TileIn (h : Shape) (t : Tile) : Type 0 where
+  pub shaped : Shaped h
+  pub column : t .x + t .w ≤ h .columns
+  pub row : t .y + t .h ≤ h .rows
+  pub small : tileSize t ≤ tileLimit
+
+-- all blocks
+pub record BodyAsked (h : Header) (e : Extent) : Type 0 where
+  pub shaped : Shaped (e .shape)
+  pub sizes : e ≡ extentOf h
+
+-- block n, whose position is p
+pub record BlockHere (h : Header) (shape : Shape) (n : ℕ) (p : Position) : Type 0 where
+  pub shaped : Shaped shape
+  pub same : shape ≡ shapeOf h
+  pub below : n < blockCount shape
+  pub position : p ≡ positionOf shape n
+
+-- block n, whose tile is t
+pub record Asked (h : Shape) (t : Tile) (n : ℕ) (image : List ℕ) : Type 0 where
+  pub shaped : Shaped h
+  pub below : n < blockCount h
+  pub tile : t ≡ tileOf h n
+  pub room : cells h ≤ length image
+
+-- block n at its listed start
+pub record FillAsked (h : Header) (e : Extent) (n : ℕ) (b list image : List ℕ) : Type 0 where
+  pub body : BodyAsked h e
+  pub size : e .size ≤ length b
+  pub below : n < e .blocks
+  pub listed : e .blocks ≤ length list
+  pub room : e .cells ≤ length image
+
+-- ---- what they give
+
+-- the place k of a tile: its pixel, and its column there
+unfoldable pub cursorOf : Shape → Tile → ℕ → Cursor
+cursorOf h t k = record { pixel = pixelOf h t k; column = k % t .w }
+
+-- the next place of a tile w wide, in an image of so many columns
+abbrev pub cursorNext : ℕ → ℕ → Cursor → Cursor
+cursorNext w columns p =
+    cond (ltb (p .column + 1) w) (record { pixel = p .pixel + 1; column = p .column + 1 })
+    (record { pixel = p .pixel + 1 + (columns - w); column = 0 })
+
+-- the words of block n at its valid cells
+pub record BlockScattered (h : Shape) (n : ℕ) (m words start : List ℕ) (r : ℕ) (now : List ℕ) : Type 0 where
+  pub says : r ≡ tileValid h m (tileOf h n)
+  pub image : now ≡ scattered h m n words start
+
+-- what a block does to the image: its words at the valid cells of its tile, or nothing where it is refused
+pub record BlockFilled (h : Shape) (m : List ℕ) (n : ℕ) (b : Res Block) (r : FillAnswer) (old new : List ℕ) : Type 0 where
+  pub says : fillSaid r ≡ (b >>= λ k. ok (tileValid h m (tileOf h n)))
+  pub image : new ≡ after b old (λ k. scattered h m n (k .words) old)
+
+-- what a chain, accepted or not, does to the list
+pub record BodyListed (h : Header) (m : Res Chain) (r : WalkAnswer) (old new : List ℕ) : Type 0 where
+  pub says : walkSaid r ≡ (m >>= walkCount h)
+  pub list : new ≡ after m old (λ c. over (c .starts) old)

@@ -1,4 +1,0 @@
-pub mod RangesTable
-pub mod RangesLaws
-pub mod ValidityAnswers
-pub mod ValidityLaws

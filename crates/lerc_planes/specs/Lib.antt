@@ -1,2 +1,0 @@
-pub mod Validity
-pub mod Ranges

@@ -1,0 +1,2 @@
+pub mod ByDepth
+pub mod Judged

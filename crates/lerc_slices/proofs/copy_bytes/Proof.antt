@@ -1,0 +1,46 @@
+use borrow.Author.Needs.{needs}
+use Prim.Native.Nat.{_-_}
+use mathlib.Core.Path.{refl}
+use native.Mathlib.Omega.{arith}
+use denote.Ref.{now}
+use lib.ListN.{getD}
+use Rattle.lerc_slices.proofs.Filling.{Filling, filling-none, filling-length, filling-more, filling-copied}
+use Rattle.lerc_slices.proofs.copy_bytes.Statement.{statement}
+use Rattle.lerc_slices.proofs.copy_bytes.Tie as tie
+
+abbrev Inv-loop : tie.InvT-loop
+Inv-loop from bytes₀ n k₀ bytes k = Filling (λ j. getD from j 0) n k bytes₀ bytes
+
+abbrev μ-loop : tie.MeasureT-loop
+μ-loop from bytes₀ n k₀ bytes k = n - k
+
+loop-holds : tie.Need-loop-holds Inv-loop μ-loop
+loop-holds c = let a = c .before .before .before .args in filling-none (λ j. getD (now (a .from)) j 0) _ (now (a .bytes)) (omega arith)
+
+slice-write-bytes : tie.Need-slice-write-bytes Inv-loop μ-loop
+slice-write-bytes c = omega (arith, filling-length (c .before .before .loop .inv))
+
+loop-again : tie.Need-loop-again Inv-loop μ-loop
+loop-again c = filling-more (c .before .before .loop .inv) _ (c .before .loop-test .taken) refl
+
+same-length : tie.Need-same-length Inv-loop μ-loop
+same-length c = filling-length (c .before .loop .inv)
+
+returns : tie.Need-returns Inv-loop μ-loop
+returns c = filling-copied _ (c .before .loop .inv) (c .loop-test .left) (omega arith)
+
+pub copy-bytes-spec : {M : Type 1} → statement M
+copy-bytes-spec =
+    tie.close
+    (tie.spec
+    Inv-loop
+    μ-loop
+    (λ c κs. search needs)
+    loop-holds
+    (λ c. search needs)
+    slice-write-bytes
+    (λ c. search needs)
+    (λ c. search needs)
+    loop-again
+    same-length
+    returns)

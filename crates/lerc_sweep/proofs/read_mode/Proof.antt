@@ -1,0 +1,52 @@
+use native.Mathlib.Omega.{arith}
+use borrow.Author.Tests.{lt-ltb, le-ltb, eq-eqb, ne-eqb}
+use denote.Ref.{now}
+use Rattle.lerc_words.proofs.Little.{read-ok, read-no, wordAt-is}
+use Rattle.lerc_sweep.specs.Sweep.{modeAt}
+use borrow.Author.Needs.{needs}
+use Rattle.lerc_sweep.proofs.read_mode.Statement.{statement}
+use Rattle.lerc_sweep.proofs.read_mode.Tie as tie
+
+returns : tie.Need-returns
+unfolding modeAt
+returns c =
+    let a = c .before .before .before .before .before .args in
+    rw (read-no (now (a .s)) (a .at) 1 (omega arith) (c .before .before .before .word .ensures) (c .before .enum-told .given .1) (c .refusal .ensures))
+
+returns-2 : tie.Need-returns-2
+unfolding modeAt
+returns-2 c =
+    let a = c .before .before .before .before .before .before .args in
+    rw (read-ok (now (a .s)) (a .at) 1 (omega arith) (c .before .before .before .before .word .ensures) (c .before .before .a .given .1), le-ltb _ _ (c .if1 .taken))
+
+returns-3 : tie.Need-returns-3
+unfolding modeAt
+returns-3 c =
+    let a = c .before .before .before .before .before .before .before .args in
+    rw (read-ok (now (a .s)) (a .at) 1 (omega arith) (c .before .before .before .before .before .word .ensures) (c .before .before .before .a .given .1), lt-ltb _ _ (c .before .if1 .left), ne-eqb _ _ (c .if2 .taken))
+
+add-t9 : tie.Need-add-t9
+add-t9 c =
+    let a = c .before .before .before .before .before .before .before .args in
+    let w = wordAt-is 1 (now (a .s)) (a .at) _ (read-ok (now (a .s)) (a .at) 1 (omega arith) (c .before .before .before .before .before .word .ensures) (c .before .before .before .a .given .1)) .inside in
+    omega (arith, c .before .before .before .before .before .before .before .good)
+
+returns-4 : tie.Need-returns-4
+unfolding modeAt
+returns-4 c =
+    let a = c .before .before .before .before .before .before .before .args in
+    rw (read-ok (now (a .s)) (a .at) 1 (omega arith) (c .before .before .before .before .before .word .ensures) (c .before .before .before .a .given .1), lt-ltb _ _ (c .before .if1 .left), eq-eqb _ _ (c .if2 .left))
+
+pub read-mode-spec : {M : Type 1} → statement M
+read-mode-spec =
+    tie.close
+    (tie.spec
+    (λ c κs. search needs)
+    (λ c. search needs)
+    (λ c. search needs)
+    (λ c κs. search needs)
+    returns
+    returns-2
+    returns-3
+    add-t9
+    returns-4)

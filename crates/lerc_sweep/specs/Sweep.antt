@@ -1,0 +1,49 @@
+-- The bytes in front of a body that is not constant.
+-- Assumes nothing.
+use Prim.Native.Nat.{ℕ, _+_}
+use mathlib.Core.Bool.{Bool, cond, _&&_}
+use mathlib.Core.List.{List}
+use lib.Dec.{ltb, eqb}
+use Rattle.lerc_words.specs.declared.Refusal.{Refusal}
+use Rattle.lerc_words.specs.Res.{Res, ok, fail, _>>=_, refuse, require, wordAt}
+use Rattle.lerc_sweep.specs.declared.WayAnswer.{WayAnswer}
+use Rattle.lerc_sweep.specs.declared.WayAnswer.the-variants as answer
+
+-- raw words, or blocks, from a place on
+pub data Way : Type 0 where
+  rawFrom blocksFrom : ℕ → Way
+
+-- "Kinds 0 and 1 with error exactly 0.5 have a mode byte"
+abbrev pub hasModeByte : ℕ → ℕ → Bool
+hasModeByte kind error = ltb kind 2 && eqb error 0x3fe0000000000000
+
+-- "0 blocks; 1, 2 refused 10; others 8"
+unfoldable pub modeAt : List ℕ → ℕ → Res Way
+modeAt s at = do
+  mode ← wordAt 1 s at
+  _ ← require (ltb mode 3) 8
+  _ ← require (eqb mode 0) 10
+  ok (blocksFrom (at + 1))
+
+-- where the blocks begin
+unfoldable pub moded : List ℕ → ℕ → ℕ → ℕ → Res Way
+moded s kind error at = cond (hasModeByte kind error) (modeAt s at) (ok (blocksFrom at))
+
+-- "Else a sweep byte: 1 is raw words ..; 0 goes on; others are 8."
+unfoldable pub swept : List ℕ → ℕ → ℕ → ℕ → Res Way
+swept s kind error at = do
+  sweep ← wordAt 1 s at
+  _ ← require (ltb sweep 2) 8
+  cond (eqb sweep 1) (ok (rawFrom (at + 1))) (moded s kind error (at + 1))
+
+-- ---- the answer
+
+abbrev pub waySaid : WayAnswer → Res Way
+waySaid (answer.Raw at) = ok (rawFrom at)
+waySaid (answer.Blocks at) = ok (blocksFrom at)
+waySaid (answer.Refused r) = fail r
+
+abbrev pub refusalOfWay : WayAnswer → Refusal
+refusalOfWay (answer.Raw at) = refuse 0
+refusalOfWay (answer.Blocks at) = refuse 0
+refusalOfWay (answer.Refused r) = r
