@@ -51,8 +51,8 @@ function sort_of(t,    s) {
     if (s ~ /: (the goal|the part ` of the goal) does not follow from what it read/) return "false"
     if (s ~ /the equations do not join/) return "false"
     if (s ~ /` +≟ `:? +does not hold|lands at index ` \(position [0-9]+\) but the expected type/) return "false"
-    # a fact by which to rewrite, such as a test of the code, is not in the goal: the definition has another one there
-    if (s ~ /no occurrence of the path.s left endpoint|no part of (the goal|the hypothesis.s type) ` +is an instance of/) return "false"
+    # a fact by which to rewrite is not in the goal: what the goal has there, this does not say
+    if (s ~ /no occurrence of the path.s left endpoint|no part of (the goal|the hypothesis.s type) ` +is an instance of/) return "open"
     if (s ~ /expected type `,? +but this has type `/)
         return head(quoted(t, "expected type "), quoted(t, "the expected one begins ")) == head(quoted(t, "but this has type "), quoted(t, "the found one begins ")) ? "false" : "open"
     if (s ~ /met a bound|at a bound of its own|broke off|no proof of|found no proof/) return "open"

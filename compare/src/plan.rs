@@ -111,9 +111,10 @@ fn call(random: &mut Random, blob: &Blob, op: Op) -> Option<Case> {
         _ => as_header(&header),
     };
     let (cells, blocks, masks) = (asks.cells(), asks.blocks(), asks.mask_length());
-    if cells > USUAL_CELLS {
+    if cells.max(masks) > USUAL_CELLS {
         // Much room is never asked for here but by headers that are refused,
         // or by a header by value that the blob does not fit; see `large`.
+        // A depth of 0 leaves no cells, and any number of pixels.
         return (op == Op::Header).then_some(case);
     }
     let size = blob.header.size as usize;

@@ -6,20 +6,26 @@ here=$(cd "$(dirname "$0")/../.." && pwd)
 room=$(mktemp -d)
 trap 'rm -rf "$room"' EXIT
 cd "$room"
-mkdir -p .ci crates/small/src crates/small/specs crates/small/proofs/capped crates/small/proofs/rest crates/small/must-fail
-cp "$here/.ci/judge" "$here/.ci/judge.awk" "$here/.ci/verdict" .ci
+mkdir -p .ci crates/small/src crates/small/specs crates/small/proofs/capped crates/small/proofs/raised crates/small/proofs/rest crates/small/must-fail
+cp "$here/.ci/judge" "$here/.ci/judge.awk" "$here/.ci/verdict" "$here/.ci/two-each" .ci
 echo 'small:' >crates.txt
 
-# ---- the crate: two functions with a proof, and one that is proved by search
+# ---- the crate: three functions with a proof, of which one does not say its facts, and one that is proved by search
 cat >crates/small/src/lib.rt <<'TEXT'
 ghost use mathlib.Core.Path.{_≡_};
 ghost use Prim.Native.Nat.{_-_, min};
-ghost use Rattle.small.specs.Small.{cappedAt};
+ghost use Rattle.small.specs.Small.{cappedAt, raisedTo};
 
 pub fn capped(n: u64) -> u64
     ensures { λ r. ⌜ r ≡ cappedAt n ⌝ }
 {
     if n < 10 { n } else { 10 }
+}
+
+pub fn raised(n: u64) -> u64
+    ensures { λ r. ⌜ r ≡ raisedTo n ⌝ }
+{
+    if n < 20 { 20 } else { n }
 }
 
 pub fn rest(a: u64, b: u64) -> u64
@@ -42,8 +48,14 @@ use lib.Dec.{ltb}
 
 unfoldable pub cappedAt : ℕ → ℕ
 cappedAt n = cond (ltb n 10) n 10
+
+unfoldable pub raisedTo : ℕ → ℕ
+raisedTo n = cond (ltb n 20) 20 n
 TEXT
 cat >crates/small/proofs/capped/Proof.antt <<'TEXT'
+use mathlib.Core.Path.{_≡_}
+use mathlib.Core.Bool.{true, false}
+use lib.Dec.{ltb}
 use borrow.Author.Tests.{lt-ltb, le-ltb}
 use Rattle.small.specs.Small.{cappedAt}
 use Rattle.small.proofs.capped.Statement.{statement}
@@ -51,14 +63,31 @@ use Rattle.small.proofs.capped.Tie as tie
 
 returns : tie.Need-returns
 unfolding cappedAt
-returns c = rw (lt-ltb _ _ (c .if1 .taken))
+returns c = let t : ltb (c .before .args .n) 10 ≡ true = lt-ltb _ _ (c .if1 .taken) in rw (t)
 
 returns-2 : tie.Need-returns-2
 unfolding cappedAt
-returns-2 c = rw (le-ltb _ _ (c .if1 .left))
+returns-2 c = let t : ltb (c .before .args .n) 10 ≡ false = le-ltb _ _ (c .if1 .left) in rw (t)
 
 pub capped-spec : {M : Type 1} → statement M
 capped-spec = tie.close (tie.spec returns returns-2)
+TEXT
+cat >crates/small/proofs/raised/Proof.antt <<'TEXT'
+use borrow.Author.Tests.{lt-ltb, le-ltb}
+use Rattle.small.specs.Small.{raisedTo}
+use Rattle.small.proofs.raised.Statement.{statement}
+use Rattle.small.proofs.raised.Tie as tie
+
+returns : tie.Need-returns
+unfolding raisedTo
+returns c = rw (lt-ltb _ _ (c .if1 .taken))
+
+returns-2 : tie.Need-returns-2
+unfolding raisedTo
+returns-2 c = rw (le-ltb _ _ (c .if1 .left))
+
+pub raised-spec : {M : Type 1} → statement M
+raised-spec = tie.close (tie.spec returns returns-2)
 TEXT
 cat >crates/small/proofs/rest/Proof.antt <<'TEXT'
 use Prim.Native.Nat.{_-_}
@@ -119,6 +148,12 @@ file: src/lib.rt
 old:     if n < 10 { n } else { 10 }
 new:     if n != 10 { n } else { 10 }
 TEXT
+edit untold <<'TEXT'
+# wrong body of raised: 20 is raised to 20, by a test of which the proof says nothing
+file: src/lib.rt
+old:     if n < 20 { 20 } else { n }
+new:     if n < 21 { 20 } else { n }
+TEXT
 edit one_proved <<'TEXT'
 # wrong body of capped: not wrong at all
 file: src/lib.rt
@@ -169,6 +204,7 @@ expect survives 'least: the search still proves it'
 expect shape 'rest: the proof does not fit the code'
 expect shape 'capped: the wrong body has other branches'
 expect another_test 'capped: no false fact'
+expect untold 'raised: no false fact'
 expect one_proved 'capped: it is still proved'
 expect names 'caped: there is no crates/small/proofs/caped/Proof.antt'
 expect names 'rest: named, and no change stands below its name'
@@ -179,13 +215,13 @@ expect no_scope 'Small.cappedAt: not a false fact'
 expect late 'there is no log of it'
 grep -q '^rt: must-fail small/survives: NOT REFUSED' said || echo 'rt takes an edit that survives' >>wrong
 if grep -q '^small/good\|^small/one_proved  rest' found; then echo 'a right edit is refused' >>wrong; fi
-grep -qx '3 passed, 7 failed' said || echo "not the tally '3 passed, 7 failed'" >>wrong
+grep -qx '3 passed, 8 failed' said || echo "not the tally '3 passed, 8 failed'" >>wrong
 [ "$status" -eq 1 ] || echo "status $status, and not 1" >>wrong
 # the right edits alone: rt's own last line and status, here from a stand-in for rt that does nothing
 mkdir bin
 printf '#!/bin/sh\necho "rt: ok"\necho "3 passed, 0 failed"\n' >bin/rt
 chmod +x bin/rt
-for label in survives shape another_test one_proved names unnamed no_scope late; do rm "crates/small/must-fail/$label.edit"; done
+for label in survives shape another_test untold one_proved names unnamed no_scope late; do rm "crates/small/must-fail/$label.edit"; done
 if PATH="$room/bin:$PATH" .ci/verdict >right; then
     [ "$(tail -n 1 right)" = '3 passed, 0 failed' ] || echo 'the right edits alone: not the last line of rt' >>wrong
 else
@@ -193,9 +229,19 @@ else
 fi
 printf '#!/bin/sh\necho "rt: stopped"\nexit 2\n' >bin/rt
 if PATH="$room/bin:$PATH" .ci/verdict >stopped; then echo 'a run that stopped is taken' >>wrong; fi
+# two wrong bodies each: capped, rest and least have one, raised has none; then all have two
+if .ci/two-each >few; then echo 'one wrong body is taken for two' >>wrong; fi
+for said in 'capped has 1' 'raised has 0' 'rest has 1' 'least has 1'; do
+    grep -qx "gate: small: $said wrong bodies, and not two" few || echo "not said: $said" >>wrong
+done
+for label in again once_more; do cp crates/small/must-fail/good.edit "crates/small/must-fail/$label.edit"; done
+sed -i 's/# wrong body of capped/# wrong body of raised/' crates/small/must-fail/good.edit
+.ci/two-each >enough && echo 'raised has one, and is taken' >>wrong
+cp crates/small/must-fail/good.edit crates/small/must-fail/last.edit
+.ci/two-each >enough || echo 'two wrong bodies are not enough' >>wrong
 if [ -s wrong ]; then
     cat said wrong
     echo "gate: the judge of the must-fail edits FAILED its tests"
     exit 1
 fi
-echo "gate: the judge of the must-fail edits is right on 10 edits"
+echo "gate: the judge of the must-fail edits is right on 11 edits"

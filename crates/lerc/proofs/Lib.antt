@@ -1,6 +1,6 @@
 pub mod Pixels
 pub mod Bodies
-pub mod Whole
+pub mod Endings
 pub mod Checking
 pub mod Writing
-pub mod Masked
+pub mod MaskKept

@@ -1,15 +1,16 @@
 -- Cells pixel by pixel: what one cell, and what one pixel, adds to a painted image.
 -- Assumes nothing.
-use mathlib.Core.Path.{_≡_, _∙_, refl}
+use mathlib.Core.Path.{_≡_, _∙_, sym, ap, refl}
 use mathlib.Core.Bool.{Bool, true, false, _&&_, _||_, and-false, and-eq-true-iff}
 use mathlib.Core.Logic.{_≢_}
 use mathlib.Core.List.{List}
-use Prim.Native.Nat.{ℕ, _+_, _-_, _*_, _/_, _%_, _≤_, _<_}
+use Prim.Native.Nat.{ℕ, zero, suc, _+_, _-_, _*_, _/_, _%_, _≤_, _<_}
 use native.Mathlib.Decide.{decLt, decLe}
 use native.Mathlib.Omega.{arith}
 use lib.Arith.{digits-div, digits-mod, digits-lt}
 use lib.Dec.{ltb, leb}
-use lib.ListN.{length, set}
+use lib.ListN.{length, getD, set}
+use lib.Seq.{paste, paste-zero, paste-suc}
 use borrow.Author.Tests.{lt-ltb, le-ltb, le-leb, lt-leb, ltb-true, leb-true}
 use Rattle.lerc_header.specs.declared.Shape.{Shape}
 use native.Mathlib.Nat.{mul-le-mul, mul-le-mul-right, suc-mul, add-mul, add-zero, add-assoc}
@@ -64,6 +65,23 @@ cell-more im word base d l =
 
 pub cells-none : (im : List ℕ) (word : ℕ → ℕ) (base : ℕ) → im ≡ painted im (within base 0) word
 cells-none im word base = painted-none im word (within base 0) (λ c l. within-none base c)
+
+-- one cell alone
+pub cell-put : (im : List ℕ) (word : ℕ → ℕ) (base : ℕ) → base < length im → set im base (word base) ≡ painted im (within base 1) word
+cell-put im word base l =
+    ap (λ (x : List ℕ). set x base (word base)) (cells-none im word base)
+    ∙ painted-set im word (within base 0) (within base 1) base l (within-in base 1 base (omega arith) (omega arith)) (λ c f. within-other base 0 c (λ e. f (e ∙ add-zero base)))
+
+-- n words of a list, put in the place of the cells from base on
+pub cells-pasted : (im from : List ℕ) (base n : ℕ) → base + n ≤ length im → n ≤ length from → paste im base from n ≡ painted im (within base n) (λ c. getD from (c - base) 0)
+cells-pasted im from base zero h k = sym (paste-zero im base from) ∙ cells-none im (λ c. getD from (c - base) 0) base
+cells-pasted im from base (suc n) h k =
+    let w : ℕ → ℕ = λ c. getD from (c - base) 0 in
+    let e : base + n - base ≡ n = omega arith in
+    let l : base + n < length im = omega arith in
+    let rest : paste im base from n ≡ painted im (within base n) w = cells-pasted im from base n (omega arith) (omega arith) in
+    let more : set (painted im (within base n) w) (base + n) (getD from n 0) ≡ painted im (within base (n + 1)) w = rw (e) at (cell-more im w base n l) in
+    sym (paste-suc im base from n 0 l (omega arith)) ∙ rw (rest, ← add-one n) more
 
 -- ---- the valid cells below a pixel
 

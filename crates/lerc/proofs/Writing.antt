@@ -33,7 +33,7 @@ use Rattle.lerc.specs.Meaning.{Body, empty, constant, blocks, rawBody, b
 use Rattle.lerc.specs.Linear.{depthWord, rawWord, RawAsked}
 use Rattle.lerc.specs.Parts.{ToWrite, Listed, bodyIn, bodyImage}
 use Rattle.lerc.proofs.Bodies.{image-empty, image-raw}
-use Rattle.lerc.proofs.Whole.{raw-starts}
+use Rattle.lerc.proofs.Endings.{raw-starts}
 use Rattle.lerc.proofs.Checking.{tiles-are}
 
 -- an accepted raw body lies in the bytes

@@ -10,7 +10,7 @@ use Rattle.lerc_header.specs.declared.Header.{Header}
 use Rattle.lerc_header.specs.Header.{shapeOf, headerBytes, headerSays}
 use Rattle.lerc_mask.specs.Mask.{validBelow}
 use Rattle.lerc_ranges.specs.declared.Ranges.{Ranges}
-use Rattle.lerc_validity.specs.Validity.{InForce, bytesOf, maskSays}
+use Rattle.lerc_validity.specs.Validity.{MaskInForce, bytesOf, maskSays}
 use Rattle.lerc_ranges.specs.Ranges.{rangesSays, constantWords}
 use Rattle.lerc_block.specs.Block.{rawWords}
 use Rattle.lerc_sweep.specs.Sweep.{Way, rawFrom, blocksFrom, swept}
@@ -84,11 +84,11 @@ cellWord h m (blocks k) c = wordOf (shapeOf h) m (λ n. getD (k .words) n []) c
 -- "A reader of one Lerc2 version 4 blob: header, validity mask, ranges per depth, then a .. body."
 pub record Meaning : Type 0 where
   pub header : Header
-  pub mask : InForce
+  pub mask : MaskInForce
   pub body : Body
 
 -- the body that follows an accepted header and mask; "Bytes after size .. are never looked at"
-unfoldable pub meaningFrom : List ℕ → Header → InForce → Res Meaning
+unfoldable pub meaningFrom : List ℕ → Header → MaskInForce → Res Meaning
 meaningFrom b h m = do
   y ← bodySays (take (h .size) b) h (bytesOf m)
   ok (record { header = h; mask = m; body = y })

@@ -23,7 +23,7 @@ use Rattle.lerc.specs.declared.ReadAnswer.the-variants as answer
 use Rattle.lerc.specs.declared.body.BodyFound.{BodyFound}
 use Rattle.lerc.specs.declared.body.BodyFound.the-variants as found
 use Rattle.lerc.specs.Meaning.{Body, empty, constant, rawBody, blockBody, endOf, startsOf, cellWord}
-use Rattle.lerc.specs.Read.{Whole, readSaid}
+use Rattle.lerc.specs.Read.{ReadTold, readSaid}
 
 -- the bytes of a blob that was opened, and a mask that its header allows
 pub record Ready (s : List ℕ) (h : Header) (m : List ℕ) : Type 0 where
@@ -32,7 +32,7 @@ pub record Ready (s : List ℕ) (h : Header) (m : List ℕ) : Type 0 where
   pub counts : validBelow (pixels (shapeOf h)) m ≡ h .valid
   pub mask : maskLength (shapeOf h) ≤ length m
 
-abbrev pub bodyCount : Header → Body → Res Whole
+abbrev pub bodyCount : Header → Body → Res ReadTold
 bodyCount h y = ok (record { header = h; blocks = length (startsOf y); end = endOf y })
 
 abbrev pub bodyImage : Header → List ℕ → List ℕ → Body → List ℕ
@@ -88,15 +88,15 @@ pub record BodyRead (y : Res Body) (h : Header) (m : List ℕ) (r : ReadAnswer) 
 -- ---- behind an accepted mask
 
 -- a new mask lies within both slices
-abbrev pub Fits : MaskAnswer → List ℕ → List ℕ → Type 0
-Fits said kept spare = (n : ℕ) → said ≡ mask.Spare n → (n ≤ length kept) × (n ≤ length spare)
+abbrev pub MaskFits : MaskAnswer → List ℕ → List ℕ → Type 0
+MaskFits said kept spare = (n : ℕ) → said ≡ mask.Spare n → (n ≤ length kept) × (n ≤ length spare)
 
 -- header, mask and room; the mask is the part that the answer names
 pub record Behind (s : List ℕ) (h : Header) (said : MaskAnswer) (kept spare list image : List ℕ) : Type 0 where
   pub ready : Ready s h (inForce said kept spare)
   pub room : cells (shapeOf h) ≤ length image
   pub blocks : blockCount (shapeOf h) ≤ length list
-  pub fits : Fits said kept spare
+  pub fits : MaskFits said kept spare
 
 -- the body's answer, list and image; the kept mask changes only on acceptance
 pub record KeptRead (y : Res Body) (h : Header) (m : List ℕ) (r : ReadAnswer) (old-kept new-kept old-list new-list old-image new-image : List ℕ) : Type 0 where

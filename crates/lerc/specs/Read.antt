@@ -12,7 +12,7 @@ use Rattle.lerc_words.specs.Lists.{over}
 use Rattle.lerc_header.specs.declared.Header.{Header}
 use Rattle.lerc_header.specs.Header.{shapeOf, headerSays}
 use Rattle.lerc_header.specs.Shape.{cells, maskLength, blockCount}
-use Rattle.lerc_validity.specs.Validity.{InForce, bytesOf, maskSays, spareWith}
+use Rattle.lerc_validity.specs.Validity.{MaskInForce, bytesOf, maskSays, spareWith}
 use Rattle.lerc_image.specs.Geometry.{isValidCell}
 use Rattle.lerc_image.specs.Paint.{painted}
 use Rattle.lerc.specs.declared.ReadAnswer.{ReadAnswer}
@@ -36,7 +36,7 @@ room h l =
 -- as far as the mask: header, room, mask section
 pub record Masked : Type 0 where
   pub header : Header
-  pub mask : InForce
+  pub mask : MaskInForce
 
 unfoldable pub masked : List ℕ → Bool → Lent → Res Masked
 masked b reuse l = do
@@ -77,12 +77,12 @@ readAfter (fail r) k l = refusedAfter k l
 
 -- ---- the answer
 
-pub record Whole : Type 0 where
+pub record ReadTold : Type 0 where
   pub header : Header
   pub blocks : ℕ
   pub end : ℕ
 
-abbrev pub readSaid : ReadAnswer → Res Whole
+abbrev pub readSaid : ReadAnswer → Res ReadTold
 readSaid (answer.Whole h blocks end) = ok (record { header = h; blocks = blocks; end = end })
 readSaid (answer.Refused r) = fail r
 
@@ -91,7 +91,7 @@ refusalOfRead (answer.Whole h blocks end) = refuse 0
 refusalOfRead (answer.Refused r) = r
 
 -- what is reported of a meaning
-abbrev pub readCount : Meaning → Res Whole
+abbrev pub readCount : Meaning → Res ReadTold
 readCount m = ok (record { header = m .header; blocks = length (startsOf (m .body)); end = endOf (m .body) })
 
 -- "answer, number, and every lent byte afterwards"

@@ -6,7 +6,7 @@ ghost use Rattle.lerc_words.specs.Lists.{over};
 ghost use Rattle.lerc_header.specs.Header.{headerSays};
 ghost use Rattle.lerc_validity.specs.Validity.{inForce};
 ghost use Rattle.lerc.specs.Meaning.{bodySays};
-ghost use Rattle.lerc.specs.Parts.{Fits, Behind, KeptRead};
+ghost use Rattle.lerc.specs.Parts.{MaskFits, Behind, KeptRead};
 ghost use Rattle.lerc.specs.Read.{room, refusalOfRead, WholeRead};
 use lerc_header::Header;
 use lerc_header::OpenAnswer;
@@ -44,7 +44,7 @@ impl ReadAnswer {
 
 // a new mask is kept; a reused one already is
 fn keep(said: MaskAnswer, kept: &mut [u8], spare: &[u8])
-    requires { ⌜ Fits said (now kept) (now spare) ⌝ }
+    requires { ⌜ MaskFits said (now kept) (now spare) ⌝ }
     ensures { λ r. ⌜ now (kept .exit) ≡ over (inForce said (now (kept .entry)) (now (spare .entry))) (now (kept .entry)) ⌝ }
 {
     match said {

@@ -9,24 +9,24 @@ ghost use Rattle.lerc_mask.specs.Mask.{validBelow};
 ghost use Rattle.lerc_image.specs.Geometry.{isValidCell};
 ghost use Rattle.lerc_image.specs.Paint.{painted};
 ghost use Rattle.lerc.specs.Linear.{within, depthWord, rawWord, RawAsked};
-use lerc_header::DEPTHS;
 use lerc_header::Shape;
 
-// one pixel of a constant body: a word for each depth
-fn put_constant(words: &[u64; DEPTHS], depth: usize, base: usize, image: &mut [u64])
-    requires { ⌜ (depth ≤ depthLimit) × (base + depth ≤ length (now image)) ⌝ }
+// one pixel of a constant body: a word for each depth; one word alone is no copy's worth
+fn put_constant(words: &[u64], depth: usize, base: usize, image: &mut [u64])
+    requires { ⌜ (depth ≤ length (now words)) × (base + depth ≤ length (now image)) ⌝ }
     ensures { λ r. ⌜ now (image .exit) ≡ painted (now (image .entry)) (within base depth) (λ c. getD (now (words .entry)) (c - base) 0) ⌝ }
 {
-    let mut d = 0;
-    while d < depth {
-        image[base + d] = words[d];
-        d += 1;
+    if depth == 1 {
+        image[base] = words[0];
+    } else {
+        let end = base + depth;
+        lerc_slices::copy_words(&words[..depth], &mut image[base..end]);
     }
 }
 
 // every valid pixel of a constant body
-pub(crate) fn write_constant(h: Shape, words: &[u64; DEPTHS], mask: &[u8], image: &mut [u64])
-    requires { ⌜ Shaped h × (cells h ≤ length (now image)) ⌝ }
+pub(crate) fn write_constant(h: Shape, words: &[u64], mask: &[u8], image: &mut [u64])
+    requires { ⌜ Shaped h × (cells h ≤ length (now image)) × (depthLimit ≤ length (now words)) ⌝ }
     ensures { λ r. ⌜ now (image .exit) ≡ painted (now (image .entry)) (isValidCell h (now (mask .entry))) (depthWord h (now (words .entry))) ⌝ }
 {
     let pixels = h.rows * h.columns;

@@ -21,12 +21,12 @@ use Rattle.lerc_header.specs.Shape.{cells, maskLength, blockCount, Shaped}
 use Rattle.lerc_header.proofs.Kept.{held-shaped, header-held}
 use Rattle.lerc_header.proofs.Sizes.{pixels-le, blocks-le}
 use Rattle.lerc_mask.specs.Mask.{pixelValid}
-use Rattle.lerc_validity.specs.Validity.{InForce, bytesOf, kept, maskSays}
+use Rattle.lerc_validity.specs.Validity.{MaskInForce, bytesOf, kept, maskSays}
 use Rattle.lerc_image.specs.Geometry.{isValidCell}
 use Rattle.lerc_image.proofs.Painting.{painted-cell}
 use Rattle.lerc.specs.declared.ReadAnswer.the-variants as answer
 use Rattle.lerc.specs.Meaning.{Meaning, meaning, meaningFrom, bodySays, startsOf, endOf, cellWord}
-use Rattle.lerc.specs.Read.{Lent, Masked, Whole, room, masked, readSays, published, readAfter, WholeRead}
+use Rattle.lerc.specs.Read.{Lent, Masked, ReadTold, room, masked, readSays, published, readAfter, WholeRead}
 use Rattle.lerc_text.specs.Ascii.{ascii}
 use Rattle.lerc_text.specs.Text.{line, shapeLine, validIn, wordIn}
 use Rattle.lerc_text.proofs.Putting.{cells-same, cells-long, line-long, shape-long}
@@ -146,7 +146,7 @@ module _ (b : List ℕ) (l : Lent) (y : Ready b l) where
   unfolding readSays masked programSays meaning
   read-says = rw (le-leb (length b) bytesMost (y .short)) (go (headerSays b) refl)
     where
-      after-mask : (h : Header) (x : Res InForce) → ((x >>= λ m. ok (record { header = h; mask = m })) >>= λ (k : Masked). meaningFrom b (k .header) (k .mask)) ≡ (x >>= λ m. meaningFrom b h m)
+      after-mask : (h : Header) (x : Res MaskInForce) → ((x >>= λ m. ok (record { header = h; mask = m })) >>= λ (k : Masked). meaningFrom b (k .header) (k .mask)) ≡ (x >>= λ m. meaningFrom b h m)
       after-mask h (ok m) = refl
       after-mask h (fail r) = refl
 
@@ -175,13 +175,13 @@ module _ (b : List ℕ) (l : Lent) (y : Ready b l) where
     pub whole-few : cells (shapeOf h) ≤ cellsMost
     whole-few =
         let (m, r, c) = bind-counts (readSays b false l) _ (sym (w .says)) in
-        rw (ap (λ (v : Whole). v .header) c) (few-cells b m (sym read-says ∙ r))
+        rw (ap (λ (v : ReadTold). v .header) c) (few-cells b m (sym read-says ∙ r))
 
     pub whole-text : programText b ≡ imageText h blocks end (validIn (h .depth) (new .kept)) (wordIn (new .image))
     whole-text =
         let (m, r, c) = bind-counts (readSays b false l) _ (sym (w .says)) in
         let t = text-by m (sym read-says ∙ r) (w .lent ∙ ap (λ (x : Res Meaning). readAfter x (masked b false l) l) r) in
-        t ∙ ap (λ (v : Whole). imageText (v .header) (v .blocks) (v .end) (validIn (v .header .depth) (new .kept)) (wordIn (new .image))) (sym c)
+        t ∙ ap (λ (v : ReadTold). imageText (v .header) (v .blocks) (v .end) (validIn (v .header .depth) (new .kept)) (wordIn (new .image))) (sym c)
 
 -- ---- how long the text is
 

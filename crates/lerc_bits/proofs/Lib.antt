@@ -1,7 +1,7 @@
 pub mod Run
 pub mod IndexWidth
 pub mod Choose
-pub mod Answers
+pub mod Returns
 pub mod Plans
 pub mod Values
 pub mod Local

@@ -11,7 +11,7 @@ use Rattle.lerc_words.specs.Res.{ok, wordAt}
 use Rattle.lerc_words.proofs.Little.{Stays, wordAt-stays, little-same}
 use Rattle.lerc_bits.specs.declared.Plan.{Plan}
 use Rattle.lerc_bits.specs.Bits.{runBytes, indexWidth, countBytes, plainPlan, tablePlan, plan, digits, run, unpacked, Counts, counts}
-use Rattle.lerc_bits.proofs.Answers.{Headed, counts-by, unpacked-plain, unpacked-table}
+use Rattle.lerc_bits.proofs.Returns.{Headed, counts-by, unpacked-plain, unpacked-table}
 use Rattle.lerc_bits.proofs.Plans.{Laid, laid-plain, laid-table, planned, plan-is, laid-spread, plan-ends}
 use Rattle.lerc_bits.proofs.Values.{Valued, valued-plain, valued-table, counts-is, counts-ends}
 

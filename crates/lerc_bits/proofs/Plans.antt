@@ -12,9 +12,9 @@ use Rattle.lerc_words.specs.Res.{ok, fail, refuse, require, wordAt}
 use Rattle.lerc_words.proofs.Binding.{bind-is, require-is, and-is}
 use Rattle.lerc_words.proofs.Little.{Bytes, byte-lt}
 use Rattle.lerc_bits.specs.declared.Plan.{Plan}
-use Rattle.lerc_bits.specs.Bits.{runBytes, indexWidth, countBytes, plainPlan, tablePlan, fits, tabled, plan, unpacked, keeps, countsBy, counts, Kept}
+use Rattle.lerc_bits.specs.Bits.{runBytes, indexWidth, countBytes, plainPlan, tablePlan, fits, tabled, plan, unpacked, keeps, countsBy, counts, PlanKept}
 use Rattle.lerc_bits.proofs.IndexWidth.{index-least}
-use Rattle.lerc_bits.proofs.Answers.{Headed, fits-ok, tabled-more, plan-plain, plan-tabled, counts-by}
+use Rattle.lerc_bits.proofs.Returns.{Headed, fits-ok, tabled-more, plan-plain, plan-tabled, counts-by}
 
 -- by the first byte h, what follows at `to` is a run, or a table and a run
 pub data Laid (s : List ℕ) (to h n : ℕ) (p : Plan) : Type 0 where
@@ -109,7 +109,7 @@ laid-narrow {s} {to} y (laid-table v t b w m e) =
     let k : indexWidth v ≤ 8 = index-least v 8 (omega arith) (omega arith) in
     rw (e) (omega arith, omega arith)
 
-pub plan-kept : (s : List ℕ) (at : ℕ) {p : Plan} → Bytes s → plan s at ≡ ok p → Kept (length s) p
+pub plan-kept : (s : List ℕ) (at : ℕ) {p : Plan} → Bytes s → plan s at ≡ ok p → PlanKept (length s) p
 plan-kept s at y e =
     let f = plan-few s at e in
     let l = laid-narrow y (plan-is s at e .laid) in
@@ -126,7 +126,7 @@ and-four a b c d e =
     (h .0, h .1, g .1, f .1)
 
 module _ (len : ℕ) (p : Plan) where
-  pub keeps-kept : keeps len p ≡ true → Kept len p
+  pub keeps-kept : keeps len p ≡ true → PlanKept len p
   unfolding keeps
   keeps-kept e =
       let sized = leb (p .n) 256 && leb (p .bits) 31 && leb (p .width) 31 && leb (p .entries) 255 in
@@ -137,7 +137,7 @@ module _ (len : ℕ) (p : Plan) where
       let h = and-is (leb (p .table) (p .at)) (leb (p .at) (p .next)) (g .0) in
       record { few = leb-true _ _ (f .0); narrow = leb-true _ _ (f .1); slim = leb-true _ _ (f .2); short = leb-true _ _ (f .3); tabled = leb-true _ _ (h .0); begun = leb-true _ _ (h .1); inside = leb-true _ _ (g .1) }
 
-  pub kept-keeps : Kept len p → keeps len p ≡ true
+  pub kept-keeps : PlanKept len p → keeps len p ≡ true
   unfolding keeps
   kept-keeps k =
       rw (le-leb _ _ (k .few), le-leb _ _ (k .narrow), le-leb _ _ (k .slim), le-leb _ _ (k .short), le-leb _ _ (k .tabled), le-leb _ _ (k .begun), le-leb _ _ (k .inside))
@@ -147,7 +147,7 @@ module _ (s : List ℕ) (p : Plan) where
   unfolding countsBy
   by-broken e = rw (e)
 
-  pub by-kept : Kept (length s) p → countsBy s p ≡ unpacked s p
+  pub by-kept : PlanKept (length s) p → countsBy s p ≡ unpacked s p
   unfolding countsBy
   by-kept k = rw (kept-keeps (length s) p k)
 

@@ -19,7 +19,7 @@ use Rattle.lerc_words.proofs.Tables.{length-tabulate, getD-tabulate, tabulate-s
 use Rattle.lerc_bits.specs.Bits.{runBytes, indexWidth, countBytes, plainPlan, tablePlan, digits, run, chosen, allBelow, counts}
 use Rattle.lerc_bits.specs.Packing.{packed, bytesOf, runOf, headOf, plainOf, placeOf, indicesOf, tableOf}
 use Rattle.lerc_bits.proofs.IndexWidth.{index-enough}
-use Rattle.lerc_bits.proofs.Answers.{Headed, counts-by, unpacked-plain, unpacked-table}
+use Rattle.lerc_bits.proofs.Returns.{Headed, counts-by, unpacked-plain, unpacked-table}
 use Rattle.lerc_bits.proofs.Plans.{Planned, planned, laid-plain, laid-table}
 
 -- ---- bytes
@@ -164,8 +164,8 @@ counts-trip bits vs more b l h =
 -- ---- values of a table
 
 -- each value stands in the table, or is zero
-abbrev pub Named : List ℕ → List ℕ → Type 0
-Named table vs = (i : ℕ) → i < length vs → (j : ℕ) × (j < suc (length table)) × (getD (0 ∷ table) j 0 ≡ getD vs i 0)
+abbrev pub InTable : List ℕ → List ℕ → Type 0
+InTable table vs = (i : ℕ) → i < length vs → (j : ℕ) × (j < suc (length table)) × (getD (0 ∷ table) j 0 ≡ getD vs i 0)
 
 -- a value that stands in a list is found there
 place-is : (t : List ℕ) (v j : ℕ) → j < length t → getD t j 0 ≡ v → (placeOf t v < length t) × (getD t (placeOf t v) 0 ≡ v)
@@ -184,7 +184,7 @@ unfolding from
 tabulate-all [] = refl
 tabulate-all (v ∷ vs) = rw (from-shift (length vs) 0 (λ k. getD (v ∷ vs) k 0), tabulate-all vs)
 
-module _ (table vs : List ℕ) (named : Named table vs) where
+module _ (table vs : List ℕ) (named : InTable table vs) where
   length-indices : length (indicesOf table vs) ≡ length vs
   unfolding indicesOf
   length-indices = length-tabulate (length vs) _
@@ -212,7 +212,7 @@ module _ (table vs : List ℕ) (named : Named table vs) where
   indices-choose =
       tabulate-same (length vs) (λ k. getD (0 ∷ table) (getD (indicesOf table vs) k 0) 0) (λ k. getD vs k 0) (λ k l. index-is k l .1) ∙ tabulate-all vs
 
-pub table-trip : (bits : ℕ) (table vs more : List ℕ) → 0 < bits → bits ≤ 31 → length vs ≤ 256 → 0 < length table → length table ≤ 254 → Small bits table → Named table vs
+pub table-trip : (bits : ℕ) (table vs more : List ℕ) → 0 < bits → bits ≤ 31 → length vs ≤ 256 → 0 < length table → length table ≤ 254 → Small bits table → InTable table vs
     → counts (tableOf bits table vs ++ more) 0 ≡ ok (record { values = vs; next = length (tableOf bits table vs) })
 unfolding tableOf
 table-trip bits table vs more a b l c d h m =

@@ -19,7 +19,7 @@ use Rattle.lerc_bits.specs.declared.Plan.{Plan}
 use Rattle.lerc_bits.specs.Bits.{plan, digits, run, chosen, allBelow, lookedUp, valuesOf, unpacked, Counts, counts}
 use Rattle.lerc_bits.proofs.Run.{length-digits, digits-small}
 use Rattle.lerc_bits.proofs.Choose.{length-chosen}
-use Rattle.lerc_bits.proofs.Answers.{counts-by, unpacked-plain, unpacked-table, unpacked-bad}
+use Rattle.lerc_bits.proofs.Returns.{counts-by, unpacked-plain, unpacked-table, unpacked-bad}
 use Rattle.lerc_bits.proofs.Plans.{laid-spread, plan-is, plan-ends, plan-few}
 
 -- ---- how accepted counts were read
@@ -41,13 +41,13 @@ values-is s p {vs} e = go (eqb (p .entries) 0) refl e
         let z : p .entries ≡ 0 → ⊥ = eqb-false _ _ t in
         valued-table (omega arith) (require-is _ 8 (b .1)) (cc)
 
-pub record Counted (s : List ℕ) (at : ℕ) (c : Counts) : Type 0 where
+pub record CountsRead (s : List ℕ) (at : ℕ) (c : Counts) : Type 0 where
   pub p : Plan
   pub planned : plan s at ≡ ok p
   pub valued : Valued s p (c .values)
   pub ends : p .next ≡ c .next
 
-pub counts-is : (s : List ℕ) (at : ℕ) {c : Counts} → counts s at ≡ ok c → Counted s at c
+pub counts-is : (s : List ℕ) (at : ℕ) {c : Counts} → counts s at ≡ ok c → CountsRead s at c
 unfolding counts unpacked
 counts-is s at {c} e =
     let b = bind-is (plan s at) _ e in

@@ -156,12 +156,12 @@ refusalOfCounts (answer.Refused r) = r
 
 -- the values stand in front, and the entries behind them keep what they held;
 -- a refusal "leaves every lent slice unchanged"
-pub record Decoded (m : Res Counts) (r : CountsAnswer) (old new : List ℕ) : Type 0 where
+pub record CountsDecoded (m : Res Counts) (r : CountsAnswer) (old new : List ℕ) : Type 0 where
   pub says : countsSaid r ≡ spanned m
   pub left : new ≡ after m old (λ c. over (c .values) old)
 
 -- what every plan keeps to, in a slice of `len` bytes
-pub record Kept (len : ℕ) (p : Plan) : Type 0 where
+pub record PlanKept (len : ℕ) (p : Plan) : Type 0 where
   pub few : p .n ≤ 256
   pub narrow : p .bits ≤ 31
   pub slim : p .width ≤ 31

@@ -2,7 +2,7 @@
 ghost use mathlib.Core.Path.{_≡_};
 ghost use Prim.Native.Nat.{_≤_};
 ghost use lib.ListN.{length};
-ghost use Rattle.lerc_bits.specs.Bits.{unpacked, countsBy, counts, spanned, countsSaid, Kept};
+ghost use Rattle.lerc_bits.specs.Bits.{unpacked, countsBy, counts, spanned, countsSaid, PlanKept};
 use super::CountsAnswer;
 use super::Plan;
 use super::PlanAnswer;
@@ -14,7 +14,7 @@ use lerc_words::Refusal;
 
 // a table's values are not looked at, only the indices: none may be too large
 fn check_table(s: &[u8], p: Plan) -> CountsAnswer
-    requires { ⌜ Kept (length (now s)) p × (1 ≤ p .entries) ⌝ }
+    requires { ⌜ PlanKept (length (now s)) p × (1 ≤ p .entries) ⌝ }
     ensures { λ r. ⌜ countsSaid r ≡ spanned (unpacked (now (s .entry)) p) ⌝ }
 {
     let mut index = [0u32; 256];

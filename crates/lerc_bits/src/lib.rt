@@ -4,7 +4,7 @@ ghost use mathlib.Core.List.{_++_};
 ghost use mathlib.Core.Bool.{true};
 ghost use Prim.Native.Nat.{_≤_};
 ghost use lib.ListN.{length, drop};
-ghost use Rattle.lerc_bits.specs.Bits.{runBytes, indexWidth, plainPlan, tablePlan, fits, tabled, plan, planSaid, refusalOfPlan, run, chosen, allBelow, unpacked, keeps, countsBy, counts, refusalOfCounts, Decoded, Kept};
+ghost use Rattle.lerc_bits.specs.Bits.{runBytes, indexWidth, plainPlan, tablePlan, fits, tabled, plan, planSaid, refusalOfPlan, run, chosen, allBelow, unpacked, keeps, countsBy, counts, refusalOfCounts, CountsDecoded, PlanKept};
 use lerc_words::Refusal;
 use lerc_words::WordAnswer;
 
@@ -213,8 +213,8 @@ fn look_up(table: &[u32], index: &[u32], n: usize, entries: usize, out: &mut [u3
 
 // what the indices name, unless one of them is too large
 fn decode_table(s: &[u8], p: Plan, out: &mut [u32; 256]) -> CountsAnswer
-    requires { ⌜ Kept (length (now s)) p × (1 ≤ p .entries) ⌝ }
-    ensures { λ r. ⌜ Decoded (unpacked (now (s .entry)) p) r (now (out .entry)) (now (out .exit)) ⌝ }
+    requires { ⌜ PlanKept (length (now s)) p × (1 ≤ p .entries) ⌝ }
+    ensures { λ r. ⌜ CountsDecoded (unpacked (now (s .entry)) p) r (now (out .entry)) (now (out .exit)) ⌝ }
 {
     let mut table = [0u32; 256];
     unpack(s, p.table, p.entries - 1, p.bits, &mut table[1..]);
@@ -241,7 +241,7 @@ fn keeps_bounds(len: usize, p: Plan) -> bool
 
 // the counts of a plan: their values to the front of `out`, or a refusal, which leaves `out`
 pub fn decode_plan(s: &[u8], p: Plan, out: &mut [u32; 256]) -> CountsAnswer
-    ensures { λ r. ⌜ Decoded (countsBy (now (s .entry)) p) r (now (out .entry)) (now (out .exit)) ⌝ }
+    ensures { λ r. ⌜ CountsDecoded (countsBy (now (s .entry)) p) r (now (out .entry)) (now (out .exit)) ⌝ }
 {
     if !keeps_bounds(s.len(), p) {
         return CountsAnswer::Refused(Refusal { number: 8 });
@@ -258,7 +258,7 @@ pub fn decode_plan(s: &[u8], p: Plan, out: &mut [u32; 256]) -> CountsAnswer
 
 // packed counts at `start`: their values to the front of `out`, or a refusal, which leaves `out`
 pub fn decode(s: &[u8], start: usize, out: &mut [u32; 256]) -> CountsAnswer
-    ensures { λ r. ⌜ Decoded (counts (now (s .entry)) start) r (now (out .entry)) (now (out .exit)) ⌝ }
+    ensures { λ r. ⌜ CountsDecoded (counts (now (s .entry)) start) r (now (out .entry)) (now (out .exit)) ⌝ }
 {
     let a = inspect(s, start);
     let PlanAnswer::Plan(p) = a else {

@@ -18,7 +18,7 @@ use Rattle.lerc_bits.specs.Bits.{counts}
 use Rattle.lerc_bits.proofs.Values.{counts-ends}
 use Rattle.lerc_block.specs.Block.{Block, rawWords, levelBlock, steppedBlock, finiteOffset, offsetBlock, formed, flagAt, blockSays}
 use Rattle.lerc_block.specs.Steps.{stepWord}
-use Rattle.lerc_block.proofs.Answers.{offset-is, finite-is, flag-is}
+use Rattle.lerc_block.proofs.Returns.{offset-is, finite-is, flag-is}
 
 -- a word for each pixel, out of bytes that lie in s from `at` on
 pub record Lies (s : List ℕ) (at n : ℕ) (b : Block) : Type 0 where

@@ -21,8 +21,8 @@ use Rattle.lerc_block.specs.declared.plan.StoredOffset.{StoredOffset}
 use Rattle.lerc_block.specs.Block.{Block, Offset, levelBlock, stepValue, finiteOffset, nextBlock}
 use Rattle.lerc_block.specs.Plan.{offsetValue, steppedWords, ended}
 use Rattle.lerc_block.specs.Steps.{stepWord}
-use Rattle.lerc_block.specs.Check.{stepsFit, Held}
-use Rattle.lerc_block.proofs.Answers.{level-ok, offset-is, finite-is}
+use Rattle.lerc_block.specs.Check.{stepsFit, OffsetHeld}
+use Rattle.lerc_block.proofs.Returns.{level-ok, offset-is, finite-is}
 use Rattle.lerc_block.proofs.Steps.{steps-by}
 
 -- ---- when every step fits
@@ -75,7 +75,7 @@ offset-held s at kind flag {o} e =
 pub next-no : {m : Res Block} {r : Refusal} → m ≡ fail r → fail r ≡ nextBlock m
 next-no e = rw e
 
-pub level-next : (next kind n : ℕ) (o : StoredOffset) → Held kind o → nextBlock (levelBlock next kind (offsetValue o) n) ≡ ok next
+pub level-next : (next kind n : ℕ) (o : StoredOffset) → OffsetHeld kind o → nextBlock (levelBlock next kind (offsetValue o) n) ≡ ok next
 level-next next kind n o h =
     let (w, e) = accepts-is (stored kind (offsetValue o)) h in
     ap nextBlock (level-ok next kind (offsetValue o) n w e)
@@ -89,7 +89,7 @@ each-fits f p (x ∷ xs) =
     (v .0 ∷ vs .0, rw (v .1, vs .1))
 
 -- where every step fits, the counts decide
-pub steps-next : (s : List ℕ) (kind error top n : ℕ) (steps : Steps) (next : ℕ) → stepsFit kind error top ≡ true → Held kind (steps .offset) → steps .counts .n ≡ n
+pub steps-next : (s : List ℕ) (kind error top n : ℕ) (steps : Steps) (next : ℕ) → stepsFit kind error top ≡ true → OffsetHeld kind (steps .offset) → steps .counts .n ≡ n
     → {c : Counts} → unpacked s (steps .counts) ≡ ok c → ok next ≡ nextBlock (ended next (steppedWords s kind error top n steps))
 steps-next s kind error top n steps next fit h d {c} e =
     let offset = offsetValue (steps .offset) in

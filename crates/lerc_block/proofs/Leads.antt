@@ -17,17 +17,17 @@ use Rattle.lerc_samples.specs.Samples.{sampleAt, offsetKind}
 use Rattle.lerc_samples.proofs.Storable.{offset-storable}
 use Rattle.lerc_bits.specs.declared.Plan.{Plan}
 use Rattle.lerc_bits.specs.Bits.{Counts, plan, unpacked}
-use Rattle.lerc_bits.proofs.Answers.{counts-no, counts-by}
+use Rattle.lerc_bits.proofs.Returns.{counts-no, counts-by}
 use Rattle.lerc_bits.proofs.Plans.{plan-kept}
 use Rattle.lerc_bits.proofs.Values.{unpacked-is, unpacked-eight}
 use Rattle.lerc_block.specs.declared.plan.StoredOffset.{StoredOffset}
 use Rattle.lerc_block.specs.declared.plan.Form.the-variants as coded
 use Rattle.lerc_block.specs.declared.plan.BlockPlan.{BlockPlan}
 use Rattle.lerc_block.specs.Block.{Block, rawWords, levelBlock, steppedBlock, offsetAt, finiteOffset, offsetBlock, formed, flagAt, blockSays, tileLimit, readBlockSays}
-use Rattle.lerc_block.specs.Plan.{rawPlan, finiteWord, steppedPlan, offsetPlan, formPlan, planAt, planSays, offsetValue, steppedWords, formWords, ended, planned, planEnd}
+use Rattle.lerc_block.specs.Plan.{rawPlan, finiteWord, steppedPlan, offsetPlan, formPlan, planAt, planSays, offsetValue, steppedWords, formWords, ended, plannedBlock, planEnd}
 use Rattle.lerc_block.specs.Steps.{stepWord}
-use Rattle.lerc_block.specs.Check.{readFlag, Held, Sound}
-use Rattle.lerc_block.proofs.Answers.{read-flag-is, flag-is}
+use Rattle.lerc_block.specs.Check.{readFlag, OffsetHeld, Sound}
+use Rattle.lerc_block.proofs.Returns.{read-flag-is, flag-is}
 use Rattle.lerc_block.proofs.Planning.{plan-flagged}
 
 -- ---- raw words
@@ -36,8 +36,8 @@ require-leads : (t : Bool) (p : BlockPlan) (k : BlockPlan → Res Block) → (re
 require-leads true p k = refl
 require-leads false p k = refl
 
-raw-leads : (s : List ℕ) (at kind error top n : ℕ) → rawWords s at kind n ≡ (rawPlan (length s) at kind n >>= planned s kind error top n)
-unfolding rawWords rawPlan planned formWords
+raw-leads : (s : List ℕ) (at kind error top n : ℕ) → rawWords s at kind n ≡ (rawPlan (length s) at kind n >>= plannedBlock s kind error top n)
+unfolding rawWords rawPlan plannedBlock formWords
 raw-leads s at kind error top n = require-leads (leb (at + n * typeSize kind) (length s)) _ _
 
 -- ---- counts: the number is compared before the indices are looked at, but both are 8
@@ -57,20 +57,20 @@ numbered (fail r) many next n f p q = go (eqb many n)
     go false = ap fail (q r refl)
 
 module _ (s : List ℕ) (at kind error top n : ℕ) (o : StoredOffset) where
-  stepped-none : {r : Refusal} → plan s at ≡ fail r → steppedBlock s at kind error top (offsetValue o) n ≡ (steppedPlan s at o >>= planned s kind error top n)
+  stepped-none : {r : Refusal} → plan s at ≡ fail r → steppedBlock s at kind error top (offsetValue o) n ≡ (steppedPlan s at o >>= plannedBlock s kind error top n)
   unfolding steppedBlock steppedPlan
   stepped-none e = rw (counts-no s at e, e)
 
-  stepped-some : {p : Plan} → plan s at ≡ ok p → steppedBlock s at kind error top (offsetValue o) n ≡ (steppedPlan s at o >>= planned s kind error top n)
-  unfolding steppedBlock steppedPlan planned formWords steppedWords
+  stepped-some : {p : Plan} → plan s at ≡ ok p → steppedBlock s at kind error top (offsetValue o) n ≡ (steppedPlan s at o >>= plannedBlock s kind error top n)
+  unfolding steppedBlock steppedPlan plannedBlock formWords steppedWords
   stepped-some {p} e =
       rw (counts-by s at e, e)
       (numbered (unpacked s p) (p .n) (p .next) n (stepWord kind error top (offsetValue o)) (λ c d. unpacked-is s p d) (λ r d. unpacked-eight s p d))
 
-  stepped-leads : steppedBlock s at kind error top (offsetValue o) n ≡ (steppedPlan s at o >>= planned s kind error top n)
+  stepped-leads : steppedBlock s at kind error top (offsetValue o) n ≡ (steppedPlan s at o >>= plannedBlock s kind error top n)
   stepped-leads = go (plan s at) refl
     where
-      go : (m : Res Plan) → plan s at ≡ m → steppedBlock s at kind error top (offsetValue o) n ≡ (steppedPlan s at o >>= planned s kind error top n)
+      go : (m : Res Plan) → plan s at ≡ m → steppedBlock s at kind error top (offsetValue o) n ≡ (steppedPlan s at o >>= plannedBlock s kind error top n)
       go (ok p) e = stepped-some e
       go (fail r) e = stepped-none e
 
@@ -82,7 +82,7 @@ cond-leads false u v k p q = q
 
 module _ (s : List ℕ) (at kind error top flag n : ℕ) where
   OffsetLeads : Type 0
-  OffsetLeads = offsetBlock s at kind error top flag n ≡ (offsetPlan s at kind flag >>= planned s kind error top n)
+  OffsetLeads = offsetBlock s at kind error top flag n ≡ (offsetPlan s at kind flag >>= plannedBlock s kind error top n)
 
   no-kind-leads : {r : Refusal} → offsetKind kind (flag / 64) ≡ fail r → OffsetLeads
   unfolding OffsetLeads offsetBlock finiteOffset offsetAt offsetPlan
@@ -99,12 +99,12 @@ module _ (s : List ℕ) (at kind error top flag n : ℕ) where
       endless-leads f = rw (e, d, f)
 
       finite-leads : finite (valueOf k w) ≡ true → OffsetLeads
-      unfolding OffsetLeads offsetBlock finiteOffset offsetAt sampleAt offsetPlan finiteWord levelBlock planned formWords
+      unfolding OffsetLeads offsetBlock finiteOffset offsetAt sampleAt offsetPlan finiteWord levelBlock plannedBlock formWords
       finite-leads f =
           let o : StoredOffset = record { word = w; kind = k } in
           let to = at + typeSize k in
           rw (e, d, f)
-          (cond-leads (eqb (flag % 4) 3) (ok (record { form = coded.Level o; next = to })) (steppedPlan s to o) (planned s kind error top n) refl (stepped-leads s to kind error top n o))
+          (cond-leads (eqb (flag % 4) 3) (ok (record { form = coded.Level o; next = to })) (steppedPlan s to o) (plannedBlock s kind error top n) refl (stepped-leads s to kind error top n o))
 
   offset-leads : OffsetLeads
   offset-leads = kinds (offsetKind kind (flag / 64)) refl
@@ -123,35 +123,35 @@ module _ (s : List ℕ) (at kind error top flag n : ℕ) where
 
 -- ---- the block
 
-formed-leads : (s : List ℕ) (at kind error top flag n : ℕ) → formed s at kind error top flag n ≡ (formPlan s at kind flag n >>= planned s kind error top n)
-unfolding formed formPlan planned formWords OffsetLeads
+formed-leads : (s : List ℕ) (at kind error top flag n : ℕ) → formed s at kind error top flag n ≡ (formPlan s at kind flag n >>= plannedBlock s kind error top n)
+unfolding formed formPlan plannedBlock formWords OffsetLeads
 formed-leads s at kind error top flag n =
     let zeros : Res BlockPlan = ok (record { form = coded.Zero; next = at }) in
     let offset = offsetPlan s at kind flag in
-    cond-leads (eqb (flag % 4) 0) (rawPlan (length s) at kind n) (cond (eqb (flag % 4) 2) zeros offset) (planned s kind error top n) (raw-leads s at kind error top n)
-    (cond-leads (eqb (flag % 4) 2) zeros offset (planned s kind error top n) refl (offset-leads s at kind error top flag n))
+    cond-leads (eqb (flag % 4) 0) (rawPlan (length s) at kind n) (cond (eqb (flag % 4) 2) zeros offset) (plannedBlock s kind error top n) (raw-leads s at kind error top n)
+    (cond-leads (eqb (flag % 4) 2) zeros offset (plannedBlock s kind error top n) refl (offset-leads s at kind error top flag n))
 
 module _ (s : List ℕ) (at kind error top x n : ℕ) where
-  pub block-planned : blockSays s at kind error top x n ≡ (planAt s at kind x n >>= planned s kind error top n)
+  pub block-planned : blockSays s at kind error top x n ≡ (planAt s at kind x n >>= plannedBlock s kind error top n)
   unfolding blockSays planAt
   block-planned = go (flagAt s at x)
     where
-      go : (m : Res ℕ) → (m >>= λ flag. formed s (at + 1) kind error top flag n) ≡ ((m >>= λ flag. formPlan s (at + 1) kind flag n) >>= planned s kind error top n)
+      go : (m : Res ℕ) → (m >>= λ flag. formed s (at + 1) kind error top flag n) ≡ ((m >>= λ flag. formPlan s (at + 1) kind flag n) >>= plannedBlock s kind error top n)
       go (ok flag) = formed-leads s (at + 1) kind error top flag n
       go (fail r) = refl
 
-  pub read-planned : readBlockSays s at kind error top x n ≡ (planSays s at kind x n >>= planned s kind error top n)
+  pub read-planned : readBlockSays s at kind error top x n ≡ (planSays s at kind x n >>= plannedBlock s kind error top n)
   unfolding readBlockSays planSays
   read-planned = go (leb n tileLimit)
     where
-      go : (t : Bool) → (require t 8 >>= λ _. blockSays s at kind error top x n) ≡ ((require t 8 >>= λ _. planAt s at kind x n) >>= planned s kind error top n)
+      go : (t : Bool) → (require t 8 >>= λ _. blockSays s at kind error top x n) ≡ ((require t 8 >>= λ _. planAt s at kind x n) >>= plannedBlock s kind error top n)
       go true = block-planned
       go false = refl
 
 -- ---- where it ends
 
-planned-next : (s : List ℕ) (kind error top n : ℕ) (p : BlockPlan) {b : Block} → planned s kind error top n p ≡ ok b → p .next ≡ b .next
-unfolding planned
+planned-next : (s : List ℕ) (kind error top n : ℕ) (p : BlockPlan) {b : Block} → plannedBlock s kind error top n p ≡ ok b → p .next ≡ b .next
+unfolding plannedBlock
 planned-next s kind error top n p e =
     let (ws, d, e) = bind-is (formWords s kind error top n (p .form)) _ e in
     ap (λ (b : Block). b .next) (ok-is e)
@@ -189,7 +189,7 @@ module _ (s : List ℕ) (y : Bytes s) (kind n : ℕ) {p : BlockPlan} where
       let (t, q, e) = bind-is (require (leb (at + n * typeSize kind) (length s)) 1) _ e in
       given-sound _ (leb-true _ _ (require-is _ 1 q)) e
 
-  steps-sound : (at : ℕ) (o : StoredOffset) → Held kind o → steppedPlan s at o ≡ ok p → Sound s kind n (p .form)
+  steps-sound : (at : ℕ) (o : StoredOffset) → OffsetHeld kind o → steppedPlan s at o ≡ ok p → Sound s kind n (p .form)
   unfolding steppedPlan
   steps-sound at o h e =
       let (c, q, e) = bind-is (plan s at) _ e in

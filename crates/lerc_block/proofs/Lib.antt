@@ -1,4 +1,4 @@
-pub mod Answers
+pub mod Returns
 pub mod Finite
 pub mod Planning
 pub mod Leads

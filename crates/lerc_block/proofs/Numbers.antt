@@ -14,7 +14,7 @@ use Rattle.lerc_numeric.specs.Kinds.{typeSize, whole, bound, cut}
 use Rattle.lerc_samples.specs.Samples.{sampleAt, stored, offsetKinds, offsetKind}
 use Rattle.lerc_bits.specs.declared.Plan.{Plan}
 use Rattle.lerc_bits.specs.Bits.{countBytes, plainPlan, tablePlan, fits, tabled, plan, counts}
-use Rattle.lerc_bits.proofs.Answers.{counts-no}
+use Rattle.lerc_bits.proofs.Returns.{counts-no}
 use Rattle.lerc_bits.proofs.Values.{counts-eight}
 use Rattle.lerc_block.specs.Block.{rawWords, levelBlock, steppedBlock, offsetAt, finiteOffset, offsetBlock, formed, flagAt, blockSays}
 use Rattle.lerc_block.specs.Steps.{stepWord}

@@ -12,24 +12,24 @@ use Rattle.lerc_words.specs.Res.{Res, ok, fail, _>>=_, refuse, each}
 use Rattle.lerc_words.specs.Lists.{over}
 use Rattle.lerc_words.proofs.Binding.{ok-is, each-length}
 use Rattle.lerc_bits.specs.Bits.{Counts, unpacked}
-use Rattle.lerc_bits.proofs.Answers.{Given}
+use Rattle.lerc_bits.proofs.Returns.{CountsGiven}
 use Rattle.lerc_bits.proofs.Values.{unpacked-is}
 use Rattle.lerc_block.specs.declared.BlockAnswer.{BlockAnswer}
 use Rattle.lerc_block.specs.declared.BlockAnswer.the-variants as answer
 use Rattle.lerc_block.specs.declared.plan.Steps.{Steps}
 use Rattle.lerc_block.specs.Block.{blockSaid}
 use Rattle.lerc_block.specs.Plan.{offsetValue, steppedWords}
-use Rattle.lerc_block.specs.Steps.{stepWord, Converted}
+use Rattle.lerc_block.specs.Steps.{stepWord, BlockConverted}
 
 -- ---- words that were converted
 
-pub converted-all : {m : Res (List ℕ)} (front : List ℕ) {next : ℕ} {old new : List ℕ} → m ≡ ok front → new ≡ over front old → Converted m next (answer.Block next) old new
+pub converted-all : {m : Res (List ℕ)} (front : List ℕ) {next : ℕ} {old new : List ℕ} → m ≡ ok front → new ≡ over front old → BlockConverted m next (answer.Block next) old new
 converted-all front e d = record { says = rw e; words = λ ws f. let z : front ≡ ws = ok-is (sym e ∙ f) in rw (← z) d }
 
-pub converted-no : {m : Res (List ℕ)} {r : Refusal} {next : ℕ} {old new : List ℕ} → m ≡ fail r → Converted m next (answer.Refused r) old new
+pub converted-no : {m : Res (List ℕ)} {r : Refusal} {next : ℕ} {old new : List ℕ} → m ≡ fail r → BlockConverted m next (answer.Refused r) old new
 converted-no e = record { says = rw e; words = λ ws f. absurd (let z : _≡_ {A = ℕ} 0 1 = cc in omega arith) }
 
-pub converted-fails : {m : Res (List ℕ)} {next : ℕ} {r : BlockAnswer} {q : Refusal} {old new : List ℕ} → Converted m next r old new → r ≡ answer.Refused q → m ≡ fail q
+pub converted-fails : {m : Res (List ℕ)} {next : ℕ} {r : BlockAnswer} {q : Refusal} {old new : List ℕ} → BlockConverted m next r old new → r ≡ answer.Refused q → m ≡ fail q
 converted-fails {m} {next} {r} {q} c e = go m (sym (c .says) ∙ ap blockSaid e)
   where
     go : (m : Res (List ℕ)) → (m >>= λ words. ok next) ≡ fail q → m ≡ fail q
@@ -42,7 +42,7 @@ pub record Stepped (m : Res (List ℕ)) (old new : List ℕ) : Type 0 where
   pub is : m ≡ ok words
   pub front : new ≡ over words old
 
-pub converted-is : {m : Res (List ℕ)} {next end : ℕ} {r : BlockAnswer} {old new : List ℕ} → Converted m next r old new → r ≡ answer.Block end → Stepped m old new
+pub converted-is : {m : Res (List ℕ)} {next end : ℕ} {r : BlockAnswer} {old new : List ℕ} → BlockConverted m next r old new → r ≡ answer.Block end → Stepped m old new
 converted-is {m} {next} {end} {r} {old} {new} c e = go m (sym (c .says) ∙ ap blockSaid e) (c .words)
   where
     go : (m : Res (List ℕ)) → (m >>= λ words. ok next) ≡ ok end → ((front : List ℕ) → m ≡ ok front → new ≡ over front old) → Stepped m old new
@@ -66,7 +66,7 @@ module _ (s : List ℕ) (kind error top n : ℕ) (steps : Steps) where
     steps-by e = rw (eq-eqb _ _ d, e)
 
     -- n counts in front of an array
-    module _ {many next : ℕ} {old now : List ℕ} (t : Given (unpacked s (steps .counts)) many next old now) where
+    module _ {many next : ℕ} {old now : List ℕ} (t : CountsGiven (unpacked s (steps .counts)) many next old now) where
       counts-many : length (t .values) ≡ n
       counts-many = unpacked-is s (steps .counts) (t .reads) .0 ∙ d
 

@@ -10,7 +10,7 @@ use Rattle.lerc_words.specs.Res.{Res, _>>=_, require, accepts}
 use Rattle.lerc_numeric.specs.Numeric.{negative}
 use Rattle.lerc_numeric.specs.Kinds.{typeSize}
 use Rattle.lerc_samples.specs.Samples.{stored}
-use Rattle.lerc_bits.specs.Bits.{Kept}
+use Rattle.lerc_bits.specs.Bits.{PlanKept}
 use Rattle.lerc_block.specs.declared.plan.StoredOffset.{StoredOffset}
 use Rattle.lerc_block.specs.declared.plan.Form.{Form}
 use Rattle.lerc_block.specs.declared.plan.Form.the-variants as coded
@@ -28,12 +28,12 @@ unfoldable pub stepsFit : ℕ → ℕ → ℕ → Bool
 stepsFit kind error top = leb 6 kind || (not (negative error) && accepts (stored kind top))
 
 -- the offset can be stored
-abbrev pub Held : ℕ → StoredOffset → Type 0
-Held kind o = accepts (stored kind (offsetValue o)) ≡ true
+abbrev pub OffsetHeld : ℕ → StoredOffset → Type 0
+OffsetHeld kind o = accepts (stored kind (offsetValue o)) ≡ true
 
 -- what the form of every plan keeps to (plan-sound), for n words: it lies in s, and an offset can be stored
 abbrev pub Sound : List ℕ → ℕ → ℕ → Form → Type 0
 Sound s kind n (coded.Raw at) = at + n * typeSize kind ≤ length s
 Sound s kind n coded.Zero = Unit {0}
-Sound s kind n (coded.Level o) = Held kind o
-Sound s kind n (coded.Stepped steps) = Held kind (steps .offset) × Kept (length s) (steps .counts)
+Sound s kind n (coded.Level o) = OffsetHeld kind o
+Sound s kind n (coded.Stepped steps) = OffsetHeld kind (steps .offset) × PlanKept (length s) (steps .counts)

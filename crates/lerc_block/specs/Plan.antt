@@ -96,8 +96,8 @@ abbrev pub ended : ℕ → Res (List ℕ) → Res Block
 ended next m = m >>= λ words. ok (record { words = words; next = next })
 
 -- the block of a plan
-unfoldable pub planned : List ℕ → ℕ → ℕ → ℕ → ℕ → BlockPlan → Res Block
-planned s kind error top n p = ended (p .next) (formWords s kind error top n (p .form))
+unfoldable pub plannedBlock : List ℕ → ℕ → ℕ → ℕ → ℕ → BlockPlan → Res Block
+plannedBlock s kind error top n p = ended (p .next) (formWords s kind error top n (p .form))
 
 -- ---- the answers
 

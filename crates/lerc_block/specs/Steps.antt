@@ -14,6 +14,6 @@ abbrev pub stepWord : ℕ → ℕ → ℕ → ℕ → ℕ → Res ℕ
 stepWord kind error top offset q = stored kind (stepValue error top offset q)
 
 -- all words stand in front and `next` is answered, or the first refusal is; nothing is said of a refusal's array
-pub record Converted (m : Res (List ℕ)) (next : ℕ) (r : BlockAnswer) (old new : List ℕ) : Type 0 where
+pub record BlockConverted (m : Res (List ℕ)) (next : ℕ) (r : BlockAnswer) (old new : List ℕ) : Type 0 where
   pub says : blockSaid r ≡ (m >>= λ words. ok next)
   pub words : (front : List ℕ) → m ≡ ok front → new ≡ over front old

@@ -3,7 +3,7 @@ ghost use mathlib.Core.Path.{_≡_};
 ghost use Prim.Native.Nat.{ℕ, _≤_};
 ghost use Rattle.lerc_block.specs.declared.plan.Form.the-variants as Form;
 ghost use Rattle.lerc_block.specs.Block.{blockSaid, nextBlock, readBlockSays};
-ghost use Rattle.lerc_block.specs.Plan.{steppedWords, ended, planned};
+ghost use Rattle.lerc_block.specs.Plan.{steppedWords, ended, plannedBlock};
 ghost use Rattle.lerc_block.specs.Check.{stepsFit, Sound};
 use super::BlockAnswer;
 use super::plan::BlockPlan;
@@ -65,7 +65,7 @@ fn check_steps(
 // what `read_planned` answers, without the words; an offset can always be stored
 fn check_planned(s: &[u8], p: BlockPlan, kind: u32, error: u64, top: u64, n: usize) -> BlockAnswer
     requires { ⌜ (n ≤ 256) × Sound (now s) kind n (p .form) ⌝ }
-    ensures { λ r. ⌜ blockSaid r ≡ nextBlock (planned (now (s .entry)) kind error top n p) ⌝ }
+    ensures { λ r. ⌜ blockSaid r ≡ nextBlock (plannedBlock (now (s .entry)) kind error top n p) ⌝ }
 {
     let form = p.form;
     match form {

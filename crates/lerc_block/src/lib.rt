@@ -6,10 +6,10 @@ ghost use lib.ListN.{length, take, drop, replicate};
 ghost use Rattle.lerc_words.specs.Res.{little, each};
 ghost use Rattle.lerc_words.specs.Lists.{tabulate};
 ghost use Rattle.lerc_samples.specs.Samples.{storedSaid};
-ghost use Rattle.lerc_bits.specs.Bits.{Kept};
+ghost use Rattle.lerc_bits.specs.Bits.{PlanKept};
 ghost use Rattle.lerc_block.specs.Block.{levelBlock, readBlockSays, refusalOfBlock, BlockRead};
-ghost use Rattle.lerc_block.specs.Plan.{offsetValue, steppedWords, ended, planned};
-ghost use Rattle.lerc_block.specs.Steps.{stepWord, Converted};
+ghost use Rattle.lerc_block.specs.Plan.{offsetValue, steppedWords, ended, plannedBlock};
+ghost use Rattle.lerc_block.specs.Steps.{stepWord, BlockConverted};
 ghost use Rattle.lerc_block.specs.Check.{Sound};
 use lerc_bits::CountsAnswer;
 use lerc_samples::StoredAnswer;
@@ -100,7 +100,7 @@ fn convert(
     out: &mut [u64],
 ) -> BlockAnswer
     requires { ⌜ length (now counts) ≤ length (now out) ⌝ }
-    ensures { λ r. ⌜ Converted (each (stepWord kind error top offset) (now (counts .entry))) next r (now (out .entry)) (now (out .exit)) ⌝ }
+    ensures { λ r. ⌜ BlockConverted (each (stepWord kind error top offset) (now (counts .entry))) next r (now (out .entry)) (now (out .exit)) ⌝ }
 {
     let mut k = 0;
     while k < counts.len() {
@@ -126,7 +126,7 @@ fn read_steps(
     n: usize,
     words: &mut [u64],
 ) -> BlockAnswer
-    requires { ⌜ (n ≤ 256) × (n ≤ length (now words)) × Kept (length (now s)) (steps .counts) ⌝ }
+    requires { ⌜ (n ≤ 256) × (n ≤ length (now words)) × PlanKept (length (now s)) (steps .counts) ⌝ }
     ensures { λ r. ⌜ BlockRead (ended next (steppedWords (now (s .entry)) kind error top n steps)) r (now (words .entry)) (now (words .exit)) ⌝ }
 {
     let plan = steps.counts;
@@ -160,7 +160,7 @@ fn read_planned(
     words: &mut [u64],
 ) -> BlockAnswer
     requires { ⌜ (n ≤ 256) × (n ≤ length (now words)) × Sound (now s) kind n (p .form) ⌝ }
-    ensures { λ r. ⌜ BlockRead (planned (now (s .entry)) kind error top n p) r (now (words .entry)) (now (words .exit)) ⌝ }
+    ensures { λ r. ⌜ BlockRead (plannedBlock (now (s .entry)) kind error top n p) r (now (words .entry)) (now (words .exit)) ⌝ }
 {
     let form = p.form;
     match form {

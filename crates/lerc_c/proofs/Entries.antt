@@ -21,15 +21,15 @@ use Rattle.lerc_header.specs.Shape.{blockCount}
 use Rattle.lerc_samples.specs.Samples.{stored}
 use Rattle.lerc_ranges.specs.declared.Ranges.{Ranges}
 use Rattle.lerc_validity.specs.declared.MaskAnswer.the-variants as mask
-use Rattle.lerc_validity.specs.Validity.{InForce, reused, new, spareWith, prepareSays, which, Prepared}
+use Rattle.lerc_validity.specs.Validity.{MaskInForce, reused, new, spareWith, prepareSays, which, Prepared}
 use Rattle.lerc_ranges.specs.Ranges.{readRangesSays}
 use Rattle.lerc_image.specs.declared.WalkAnswer.the-variants as walk
 use Rattle.lerc_image.specs.declared.FillAnswer.the-variants as fill
-use Rattle.lerc_image.specs.Geometry.{tileOf, tileValid}
-use Rattle.lerc_image.specs.Walk.{walkSays, Walk, walkList, Walked}
+use Rattle.lerc_image.specs.Geometry.{tileOf, validInTile}
+use Rattle.lerc_image.specs.Walk.{walkSays, Walk, walkList, BlocksWalked}
 use Rattle.lerc_image.specs.Fill.{fillSays, fillImage, Filled}
 use Rattle.lerc.specs.Meaning.{Meaning, startsOf, endOf}
-use Rattle.lerc.specs.Read.{Lent, room, readSays, refusedAfter, Whole, WholeRead}
+use Rattle.lerc.specs.Read.{Lent, room, readSays, refusedAfter, ReadTold, WholeRead}
 use Rattle.lerc_c.specs.Records.{headerRoom, headerNumbers, headerFrom, rangesRoom, rangesNumbers, rangesFrom}
 use Rattle.lerc_c.specs.Entries.{headerEntry, HeaderDone, readRoom, readEntry, maskedEntry, lentAfter, readNumbers, ReadDone, prepareEntry, PrepareDone, rangesEntry, RangesDone, walkEntry, WalkDone, fillEntry, FillDone, storedEntry, StoredDone}
 use Rattle.lerc_c.proofs.RecordParts.{long, over-behind, first-put}
@@ -77,7 +77,7 @@ module _ (b : List ℕ) (reuse : Bool) (l : Lent) (said : List ℕ) where
   unfolding readEntry
   read-whole long w p q =
       let (m, r, c) = bind-counts (readSays b reuse l) _ (sym (w .says)) in
-      let z = read-said m said (sym (ap (λ (v : Whole). v .header) c)) (ap (λ (v : Whole). v .blocks) c) (ap (λ (v : Whole). v .end) c) p q in
+      let z = read-said m said (sym (ap (λ (v : ReadTold). v .header) c)) (ap (λ (v : ReadTold). v .blocks) c) (ap (λ (v : ReadTold). v .end) c) p q in
       record { number = rw (le-leb readRoom (length said) long, r); lent = read-lent long w; said = rw (le-leb readRoom (length said) long, r) z }
 
 -- ---- prepare a mask
@@ -102,26 +102,26 @@ module _ (b header : List ℕ) (reuse : Bool) (old spare said : List ℕ) where
 
 -- what the reader's answer tells
 module _ {spare spare' : List ℕ} (said : List ℕ) where
-  pub told-no : (m : Res InForce) {why : Refusal} → Prepared m (mask.Refused why) spare spare' → PrepareDone m (why .number) spare spare' said said
+  pub told-no : (m : Res MaskInForce) {why : Refusal} → Prepared m (mask.Refused why) spare spare' → PrepareDone m (why .number) spare spare' said said
   told-no m {why} p = go m (p .says) (p .spare)
     where
-      go : (x : Res InForce) → fail why ≡ (x >>= which) → spare' ≡ after x spare (λ f. spareWith f spare) → PrepareDone x (why .number) spare spare' said said
+      go : (x : Res MaskInForce) → fail why ≡ (x >>= which) → spare' ≡ after x spare (λ f. spareWith f spare) → PrepareDone x (why .number) spare spare' said said
       go (ok (reused l)) e d = absurd (let z : _≡_ {A = ℕ} 0 1 = cc in omega arith)
       go (ok (new l)) e d = absurd (let z : _≡_ {A = ℕ} 0 1 = cc in omega arith)
       go (fail r) e d = record { number = cc; spare = d; said = refl }
 
-  pub told-kept : (m : Res InForce) {k n : ℕ} {said' : List ℕ} → Prepared m (mask.Kept k) spare spare' → (n ≡ 0) × (said' ≡ over (1 ∷ k ∷ []) said) → PrepareDone m n spare spare' said said'
+  pub told-kept : (m : Res MaskInForce) {k n : ℕ} {said' : List ℕ} → Prepared m (mask.Kept k) spare spare' → (n ≡ 0) × (said' ≡ over (1 ∷ k ∷ []) said) → PrepareDone m n spare spare' said said'
   told-kept m {k} {n} {said'} p (z, q) = go m (p .says) (p .spare)
     where
-      go : (x : Res InForce) → ok (mask.Kept k) ≡ (x >>= which) → spare' ≡ after x spare (λ f. spareWith f spare) → PrepareDone x n spare spare' said said'
+      go : (x : Res MaskInForce) → ok (mask.Kept k) ≡ (x >>= which) → spare' ≡ after x spare (λ f. spareWith f spare) → PrepareDone x n spare spare' said said'
       go (ok (reused l)) e d = let c : k ≡ length l = cc in record { number = z; spare = d; said = rw (c) at q }
       go (ok (new l)) e d = absurd (let z : _≡_ {A = ℕ} 0 1 = cc in omega arith)
       go (fail r) e d = absurd (let z : _≡_ {A = ℕ} 0 1 = cc in omega arith)
 
-  pub told-spare : (m : Res InForce) {k n : ℕ} {said' : List ℕ} → Prepared m (mask.Spare k) spare spare' → (n ≡ 0) × (said' ≡ over (2 ∷ k ∷ []) said) → PrepareDone m n spare spare' said said'
+  pub told-spare : (m : Res MaskInForce) {k n : ℕ} {said' : List ℕ} → Prepared m (mask.Spare k) spare spare' → (n ≡ 0) × (said' ≡ over (2 ∷ k ∷ []) said) → PrepareDone m n spare spare' said said'
   told-spare m {k} {n} {said'} p (z, q) = go m (p .says) (p .spare)
     where
-      go : (x : Res InForce) → ok (mask.Spare k) ≡ (x >>= which) → spare' ≡ after x spare (λ f. spareWith f spare) → PrepareDone x n spare spare' said said'
+      go : (x : Res MaskInForce) → ok (mask.Spare k) ≡ (x >>= which) → spare' ≡ after x spare (λ f. spareWith f spare) → PrepareDone x n spare spare' said said'
       go (ok (reused l)) e d = absurd (let z : _≡_ {A = ℕ} 0 1 = cc in omega arith)
       go (ok (new l)) e d = let c : k ≡ length l = cc in record { number = z; spare = d; said = rw (c) at q }
       go (fail r) e d = absurd (let z : _≡_ {A = ℕ} 0 1 = cc in omega arith)
@@ -169,7 +169,7 @@ module _ (b header ranges m list said : List ℕ) where
   unfolding walkEntry
   walk-mark t e f d = rw (t, e, f) (record { number = d; list = refl; said = refl })
 
-  pub walk-no : {h : Header} {r : Ranges} {why : Refusal} {list' : List ℕ} → walkHasRoom ≡ true → headerFrom header ≡ ok h → rangesFrom ranges ≡ ok r → Walked b h r m (walk.Refused why) list list'
+  pub walk-no : {h : Header} {r : Ranges} {why : Refusal} {list' : List ℕ} → walkHasRoom ≡ true → headerFrom header ≡ ok h → rangesFrom ranges ≡ ok r → BlocksWalked b h r m (walk.Refused why) list list'
       → WalkDone (walkEntry b header ranges m list said) (why .number) list list' said said
   unfolding walkEntry walkList
   walk-no {h} {r} {why} {list'} t e f w =
@@ -177,7 +177,7 @@ module _ (b header ranges m list said : List ℕ) where
       rw (t, e, f, g) (record { number = refl; list = rw (g) at (w .list); said = refl })
 
   pub walk-done : {h : Header} {r : Ranges} {blocks end n : ℕ} {list' said' : List ℕ} → walkHasRoom ≡ true → headerFrom header ≡ ok h → rangesFrom ranges ≡ ok r
-      → Walked b h r m (walk.Walked blocks end) list list' → (n ≡ 0) × (said' ≡ over (blocks ∷ end ∷ []) said) → WalkDone (walkEntry b header ranges m list said) n list list' said said'
+      → BlocksWalked b h r m (walk.Walked blocks end) list list' → (n ≡ 0) × (said' ≡ over (blocks ∷ end ∷ []) said) → WalkDone (walkEntry b header ranges m list said) n list list' said said'
   unfolding walkEntry walkList
   walk-done {h} {r} {blocks} {end} {n} {list'} {said'} t e f w (z, q) =
       let (c, g, k) = bind-counts (walkSays b h r m (length list)) _ (sym (w .says)) in
@@ -219,7 +219,7 @@ module _ (b header ranges m list : List ℕ) (i : ℕ) (image said : List ℕ) w
   fill-done {h} {r} {words} {image'} {said'} t e f w q =
       let (k, g, c) = bind-counts (fillSays b h r m list i (length image)) _ (sym (w .says)) in
       let l : 1 ≤ length said = long 1 header ranges said t .said-fits in
-      let s : said' ≡ over (tileValid (shapeOf h) m (tileOf (shapeOf h) i) ∷ []) said = q ∙ first-put said words l ∙ ap (λ (v : ℕ). over (v ∷ []) said) c in
+      let s : said' ≡ over (validInTile (shapeOf h) m (tileOf (shapeOf h) i) ∷ []) said = q ∙ first-put said words l ∙ ap (λ (v : ℕ). over (v ∷ []) said) c in
       rw (t, e, f, g) (record { number = refl; image = rw (g) at (w .image); said = s })
 
 -- ---- a value as a stored word

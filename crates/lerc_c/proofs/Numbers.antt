@@ -25,7 +25,7 @@ use Rattle.lerc_ranges.specs.declared.Ranges.{Ranges}
 use Rattle.lerc_validity.specs.Validity.{bytesOf, uniform, kept, unrolled, maskSays, prepareSays}
 use Rattle.lerc_ranges.specs.Ranges.{rangesEnd, pairsRight, codedRanges, rangesSays, readRangesSays, constantWords}
 use Rattle.lerc_block.specs.Block.{rawWords, levelBlock, stepValue, steppedBlock, offsetAt, finiteOffset, offsetBlock, formed, flagAt, blockSays}
-use Rattle.lerc_image.specs.Geometry.{tileOf, tileValid}
+use Rattle.lerc_image.specs.Geometry.{tileOf, validInTile}
 use Rattle.lerc_sweep.specs.Sweep.{Way, rawFrom, blocksFrom, hasModeByte, modeAt, moded, swept}
 use Rattle.lerc_image.specs.Blocks.{blockAt, chain, allBlocks}
 use Rattle.lerc_image.specs.Walk.{wayWalked, bodyWalked, walkSays}
@@ -167,7 +167,7 @@ blockAt-n : (s : List ℕ) (h : Header) (maxima m : List ℕ) (n at : ℕ) → N
 unfolding blockAt
 blockAt-n s h maxima m n at =
     let t = tileOf (shapeOf h) n in
-    block-n s at (h .kind) (h .error) (getD maxima (t .d) 0) (t .x) (tileValid (shapeOf h) m t)
+    block-n s at (h .kind) (h .error) (getD maxima (t .d) 0) (t .x) (validInTile (shapeOf h) m t)
 
 chain-n : (s : List ℕ) (h : Header) (maxima m : List ℕ) (f n at : ℕ) → Numbered (chain s h maxima m f n at)
 unfolding chain

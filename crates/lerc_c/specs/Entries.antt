@@ -14,10 +14,10 @@ use Rattle.lerc_header.specs.declared.Header.{Header}
 use Rattle.lerc_header.specs.Header.{shapeOf, headerSays}
 use Rattle.lerc_header.specs.Shape.{blockCount}
 use Rattle.lerc_ranges.specs.declared.Ranges.{Ranges}
-use Rattle.lerc_validity.specs.Validity.{InForce, reused, new, prepareSays, spareWith}
+use Rattle.lerc_validity.specs.Validity.{MaskInForce, reused, new, prepareSays, spareWith}
 use Rattle.lerc_ranges.specs.Ranges.{readRangesSays}
 use Rattle.lerc_block.specs.Block.{Block}
-use Rattle.lerc_image.specs.Geometry.{tileOf, tileValid}
+use Rattle.lerc_image.specs.Geometry.{tileOf, validInTile}
 use Rattle.lerc_image.specs.Paint.{scattered}
 use Rattle.lerc_image.specs.Blocks.{Chain}
 use Rattle.lerc_image.specs.Walk.{walkSays}
@@ -40,18 +40,18 @@ pub record HeaderDone (m : Res Header) (r : ℕ) (header₀ header₁ : List ℕ
 
 -- ---- prepare a mask: blob, header, reuse, kept, spare, said
 
-unfoldable pub prepareEntry : List ℕ → List ℕ → Bool → List ℕ → List ℕ → List ℕ → Res InForce
+unfoldable pub prepareEntry : List ℕ → List ℕ → Bool → List ℕ → List ℕ → List ℕ → Res MaskInForce
 prepareEntry b header reuse old spare said = do
   _ ← require (leb headerRoom (length header) && leb 2 (length said)) 5
   h ← headerFrom header
   prepareSays b h reuse old (length spare)
 
 -- 1 for the kept mask, 2 for the spare; how long
-abbrev pub maskNumbers : InForce → List ℕ
+abbrev pub maskNumbers : MaskInForce → List ℕ
 maskNumbers (reused m) = 1 ∷ length m ∷ []
 maskNumbers (new m) = 2 ∷ length m ∷ []
 
-pub record PrepareDone (m : Res InForce) (r : ℕ) (spare₀ spare₁ said₀ said₁ : List ℕ) : Type 0 where
+pub record PrepareDone (m : Res MaskInForce) (r : ℕ) (spare₀ spare₁ said₀ said₁ : List ℕ) : Type 0 where
   pub number : r ≡ numberOf m
   pub spare : spare₁ ≡ after m spare₀ (λ f. spareWith f spare₀)
   pub said : said₁ ≡ after m said₀ (λ f. over (maskNumbers f) said₀)
@@ -109,7 +109,7 @@ fillEntry b header ranges m list n image said = do
 
 -- how many words were written
 abbrev pub fillNumbers : List ℕ → ℕ → Filling → List ℕ
-fillNumbers m n f = tileValid (shapeOf (f .header)) m (tileOf (shapeOf (f .header)) n) ∷ []
+fillNumbers m n f = validInTile (shapeOf (f .header)) m (tileOf (shapeOf (f .header)) n) ∷ []
 
 -- the words of the block at its valid cells
 abbrev pub fillPaints : List ℕ → ℕ → List ℕ → Filling → List ℕ

@@ -23,13 +23,13 @@ use Rattle.lerc_bits.specs.declared.Plan as our
 use Rattle.lerc_bits.specs.declared.PlanAnswer.{PlanAnswer}
 use Rattle.lerc_bits.specs.declared.CountsAnswer.{CountsAnswer}
 use Rattle.lerc_bits.specs.Bits as ours
-use Rattle.lerc_bits.specs.Bits.{planSaid, countsSaid, Span, span, Decoded, Counts, runBytes, run, digits, chosen, allBelow, unpacked, countBytes, plainPlan, tablePlan, fits, tabled}
+use Rattle.lerc_bits.specs.Bits.{planSaid, countsSaid, Span, span, CountsDecoded, Counts, runBytes, run, digits, chosen, allBelow, unpacked, countBytes, plainPlan, tablePlan, fits, tabled}
 use Rattle.lerc_bits.proofs.Run.{digit-at, run-digit, digits-at}
-use Rattle.lerc_bits.proofs.Answers.{Headed, fits-ok, fits-no, tabled-zero, tabled-no, tabled-few, tabled-more, plan-no, plan-form, plan-short, plan-many, plan-plain, plan-tabled, counts-no, counts-by, unpacked-plain, unpacked-table, unpacked-bad}
+use Rattle.lerc_bits.proofs.Returns.{Headed, fits-ok, fits-no, tabled-zero, tabled-no, tabled-few, tabled-more, plan-no, plan-form, plan-short, plan-many, plan-plain, plan-tabled, counts-no, counts-by, unpacked-plain, unpacked-table, unpacked-bad}
 use Rattle.lerc_bits.proofs.Plans.{laid-spread, plan-kept, plan-is as planned-is}
 use Rattle.lerc_bits.proofs.Values.{counts-ends, counts-few}
 use Rattle.lerc_bits.proofs.Choose.{below-each}
-use Rattle.lerc_contracts.proofs.Answers.{said-some}
+use Rattle.lerc_contracts.proofs.WithoutNumber.{said-some}
 use Rattle.lerc_contracts.specs.Outside.{said, is-some, onSome, lengthMax, bitsAt}
 use Rattle.lerc_contracts.specs.Bits.{Plan, ceilBytes, indexWidth, plan, index, item, Items, decodedBy, decoded}
 
@@ -305,7 +305,7 @@ module _ (s : List ℕ) (start : ℕ) (y : Bytes s) (r : PlanAnswer) (promise : 
 
 -- ---- `decode_into`, and `decode`, whose array is 256 zeros at first: from the promise of `lerc_bits::decode`
 
-module _ (s : List ℕ) (start : ℕ) (y : Bytes s) (few : length s ≤ lengthMax) (r : CountsAnswer) (old new : List ℕ) (promise : Decoded (ours.counts s start) r old new) where
+module _ (s : List ℕ) (start : ℕ) (y : Bytes s) (few : length s ≤ lengthMax) (r : CountsAnswer) (old new : List ℕ) (promise : CountsDecoded (ours.counts s start) r old new) where
   -- 2.31, 2.35
   pub decode-ok : accepts (countsSaid r) ≡ is-some (decoded s start)
   decode-ok = rw (promise .says, decoded-is s start y few) (go (ours.counts s start))

@@ -28,11 +28,11 @@ use Rattle.lerc_header.specs.Shape.{Shaped, cells, blockCount}
 use Rattle.lerc_bits.specs.Bits.{Counts, counts}
 use Rattle.lerc_block.specs.Block.{Block, Offset, rawWords, levelBlock, stepValue, steppedBlock, offsetAt, finiteOffset, offsetBlock, formed, flagAt, blockSays}
 use Rattle.lerc_image.specs.declared.Tile.{Tile}
-use Rattle.lerc_image.specs.Geometry.{tileOf, tileValid}
+use Rattle.lerc_image.specs.Geometry.{tileOf, validInTile}
 use Rattle.lerc_image.specs.Paint.{scattered}
 use Rattle.lerc_contracts.specs.Outside.{said, onSome, lengthMax}
 use Rattle.lerc_contracts.specs.Block.{Mode, mode, modeOffset, value, ResultModel, finished, finish, countsOf, block}
-use Rattle.lerc_contracts.proofs.Answers.{each-at, each-not}
+use Rattle.lerc_contracts.proofs.WithoutNumber.{each-at, each-not}
 use Rattle.lerc_contracts.proofs.Bits.{byte-ok, decoded-is}
 use Rattle.lerc_contracts.proofs.Walking.{run-all, run-none}
 
@@ -159,7 +159,7 @@ result h mask n image b = record { at = b .next; image = scattered (shapeOf h) m
 
 module _ (h : Header) (mask : List ℕ) (n : ℕ) (start : List ℕ) (g : Shaped (shapeOf h)) (below : n < blockCount (shapeOf h)) (room : cells (shapeOf h) ≤ length start) where
   abbrev many : ℕ
-  many = tileValid (shapeOf h) mask (tileOf (shapeOf h) n)
+  many = validInTile (shapeOf h) mask (tileOf (shapeOf h) n)
 
   module _ (s : List ℕ) (m : Mode) (maximum : ℕ) where
     abbrev cellsOf : List ℕ → Option ResultModel

@@ -37,7 +37,7 @@ use Rattle.lerc_samples.proofs.Reading.{sample-is}
 use Rattle.lerc_block.proofs.Accepted.{block-ends}
 use Rattle.lerc_image.specs.declared.Tile.{Tile}
 use Rattle.lerc_image.specs.declared.FillAnswer.{FillAnswer}
-use Rattle.lerc_image.specs.Geometry.{tileOf, tileValid}
+use Rattle.lerc_image.specs.Geometry.{tileOf, validInTile}
 use Rattle.lerc_image.specs.Paint.{inBlock, wordOf, scattered}
 use Rattle.lerc_image.specs.Blocks.{blockAt}
 use Rattle.lerc_image.specs.Fill.{fillSays, fillCount, fillSaid, fillImage, Filled}
@@ -49,7 +49,7 @@ use Rattle.lerc_image.proofs.Upto.{inside}
 use Rattle.lerc_contracts.specs.Outside.{said, is-some, onSome, lengthMax, storage, width, height}
 use Rattle.lerc_contracts.specs.Bits.{decoded}
 use Rattle.lerc_contracts.specs.Block.{TileValid, pixel, target, Mode, mode, modeOffset, Step, value, ResultModel, finished, finish, block}
-use Rattle.lerc_contracts.proofs.Answers.{said-is}
+use Rattle.lerc_contracts.proofs.WithoutNumber.{said-is}
 use Rattle.lerc_contracts.proofs.Refusals.{blob-short}
 use Rattle.lerc_contracts.proofs.Bits.{items, decoded-is}
 use Rattle.lerc_contracts.proofs.Block.{mode-past, mode-check, mode-free, mode-kind, mode-number, mode-offset, offset-wild, offset-level, offset-none, offset-steps, result, block-is}
@@ -252,7 +252,7 @@ module _ (h : Header) (mask : List ℕ) (n : ℕ) (image : List ℕ) (g : Shaped
   theirs = block s h (tileOf (shapeOf h) n) mask maximum at image
 
   abbrev ours : Res Block
-  ours = blockSays s at (h .kind) (h .error) maximum (tileOf (shapeOf h) n .x) (tileValid (shapeOf h) mask (tileOf (shapeOf h) n))
+  ours = blockSays s at (h .kind) (h .error) maximum (tileOf (shapeOf h) n .x) (validInTile (shapeOf h) mask (tileOf (shapeOf h) n))
 
   same-block : theirs ≡ said (result h mask n image) ours
   same-block = block-is h mask n image g below room s y few maximum at
@@ -262,11 +262,11 @@ module _ (h : Header) (mask : List ℕ) (n : ℕ) (image : List ℕ) (g : Shaped
   found r e = said-is (result h mask n image) ours (sym same-block ∙ e)
 
   module _ (r : BlockAnswer) (old new : List ℕ)
-      (promise : BlockRead (readBlockSays s at (h .kind) (h .error) maximum (tileOf (shapeOf h) n .x) (tileValid (shapeOf h) mask (tileOf (shapeOf h) n))) r old new) where
+      (promise : BlockRead (readBlockSays s at (h .kind) (h .error) maximum (tileOf (shapeOf h) n .x) (validInTile (shapeOf h) mask (tileOf (shapeOf h) n))) r old new) where
     -- a tile has no more than 256 valid pixels
     says : blockSaid r ≡ (ours >>= λ b. ok (b .next))
     says = promise .says ∙ ap (λ (m : Res Block). m >>= λ b. ok (b .next))
-        (read-block s at (h .kind) (h .error) maximum (tileOf (shapeOf h) n .x) (tileValid (shapeOf h) mask (tileOf (shapeOf h) n)) (valid-small (shapeOf h) (tileOf (shapeOf h) n) (tile-in (shapeOf h) g n below) mask))
+        (read-block s at (h .kind) (h .error) maximum (tileOf (shapeOf h) n .x) (validInTile (shapeOf h) mask (tileOf (shapeOf h) n)) (valid-small (shapeOf h) (tileOf (shapeOf h) n) (tile-in (shapeOf h) g n below) mask))
 
     -- 4.67 and 4.82, with 4.23: a block is accepted where upstream has a mode and finishes its cells
     pub read-block-ok : accepts (blockSaid r) ≡ is-some theirs
@@ -295,7 +295,7 @@ module _ (h : Header) (mask : List ℕ) (n : ℕ) (image : List ℕ) (g : Shaped
         go : (m : Res Block) → ours ≡ m → (at < next) × (next ≤ length s)
         go (ok b) o =
             let w : ok next ≡ ok (b .next) = sym e ∙ says ∙ ap (λ (m : Res Block). m >>= λ b. ok (b .next)) o in
-            rw (ok-is w) (block-ends s at (h .kind) (h .error) maximum (tileOf (shapeOf h) n .x) (tileValid (shapeOf h) mask (tileOf (shapeOf h) n)) o)
+            rw (ok-is w) (block-ends s at (h .kind) (h .error) maximum (tileOf (shapeOf h) n .x) (validInTile (shapeOf h) mask (tileOf (shapeOf h) n)) o)
         go (fail q) o = absurd (let w : _≡_ {A = Res ℕ} (ok next) (fail q) = sym e ∙ says ∙ ap (λ (m : Res Block). m >>= λ b. ok (b .next)) o in let z : _≡_ {A = ℕ} 0 1 = cc in omega arith)
 
 -- ---- `reconstruct`: from the promise of `lerc_image::fill`

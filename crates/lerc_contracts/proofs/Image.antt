@@ -21,7 +21,7 @@ use Rattle.lerc_header.proofs.Sizes.{blocks-le}
 use Rattle.lerc_block.specs.Block.{Block}
 use Rattle.lerc_image.specs.declared.Tile.{Tile}
 use Rattle.lerc_image.specs.declared.Position.{Position}
-use Rattle.lerc_image.specs.Geometry.{tileOf, positionOf, Within, tileHere, nextOf, blockOf, isValidCell}
+use Rattle.lerc_image.specs.Geometry.{tileOf, positionOf, HasTile, tileHere, nextOf, blockOf, isValidCell}
 use Rattle.lerc_image.specs.Blocks.{blockAt, Chain, chain, allBlocks}
 use Rattle.lerc_image.specs.Paint.{painted, inBlock, indexOf, wordOf, scattered}
 use Rattle.lerc_image.specs.Tiles.{tilesImage}
@@ -54,7 +54,7 @@ next-is p h = rw (lesser-is (h .columns - p .x) (h .side), lesser-is (h .rows - 
 
 -- ---- `Position::current`, `Position::advance`: from the promises of the private methods of the same names
 
-module _ (p : Position) (h : Header) (g : Shaped (shapeOf h)) (w : Within (shapeOf h) p) where
+module _ (p : Position) (h : Header) (g : Shaped (shapeOf h)) (w : HasTile (shapeOf h) p) where
   -- 5.12
   pub current-tile : (r : Tile) → r ≡ tileHere (shapeOf h) p → r ≡ tile p h
   current-tile r e = e ∙ sym (tile-is p h)

@@ -30,7 +30,7 @@ use Rattle.lerc_ranges.proofs.Judged.{length-constants}
 use Rattle.lerc_block.specs.Block.{Block, rawWords}
 use Rattle.lerc_block.proofs.Accepted.{block-ends}
 use Rattle.lerc_image.specs.declared.WalkAnswer.{WalkAnswer}
-use Rattle.lerc_image.specs.Geometry.{tileOf, tileValid, isValidCell}
+use Rattle.lerc_image.specs.Geometry.{tileOf, validInTile, isValidCell}
 use Rattle.lerc_image.specs.Paint.{painted, wordOf}
 use Rattle.lerc_image.specs.Blocks.{blockAt, Chain, chain, allBlocks}
 use Rattle.lerc_image.specs.Walk.{Walk, walkSaid, walkCount}
@@ -40,7 +40,7 @@ use Rattle.lerc_image.proofs.Upto.{valid-below}
 use Rattle.lerc_image.proofs.Chain.{chain-none, chain-parts}
 use Rattle.lerc.specs.declared.ReadAnswer.{ReadAnswer}
 use Rattle.lerc.specs.Meaning.{Body, rawBody, constantBody, endOf, startsOf, cellWord}
-use Rattle.lerc.specs.Read.{Lent, room, masked, readSays, Whole, readSaid, WholeRead}
+use Rattle.lerc.specs.Read.{Lent, room, masked, readSays, ReadTold, readSaid, WholeRead}
 use Rattle.lerc.specs.Parts.{Ready, bodyCount, bodyImage, BodyRead}
 use Rattle.lerc_contracts.specs.Outside.{said, is-some}
 use Rattle.lerc_contracts.specs.Block.{ResultModel}
@@ -68,7 +68,7 @@ ends : (s : List ℕ) (h : Header) (maxima m : List ℕ) (n at : ℕ) {b : Block
 unfolding blockAt
 ends s h maxima m n at d =
     let t = tileOf (shapeOf h) n in
-    block-ends s at (h .kind) (h .error) (getD maxima (t .d) 0) (t .x) (tileValid (shapeOf h) m t) d
+    block-ends s at (h .kind) (h .error) (getD maxima (t .d) 0) (t .x) (validInTile (shapeOf h) m t) d
 
 -- 5.31
 pub chain-inside : (s : List ℕ) (h : Header) (maxima m : List ℕ) (f n at : ℕ) (c : Chain) → at ≤ length s → chain s h maxima m f n at ≡ ok c → (at ≤ c .end) × (c .end ≤ length s)
@@ -173,11 +173,11 @@ module _ (m : Res Body) (h : Header) (mask : List ℕ) (a : ReadAnswer) (list li
   linear-rest = kept m refl .1
 
   -- the body that was read
-  read-body : (w : Whole) → readSaid a ≡ ok w → (x : Res Body) → m ≡ x → (c : Body) × (m ≡ ok c) × (w .end ≡ endOf c) × (new ≡ bodyImage h mask old c)
+  read-body : (w : ReadTold) → readSaid a ≡ ok w → (x : Res Body) → m ≡ x → (c : Body) × (m ≡ ok c) × (w .end ≡ endOf c) × (new ≡ bodyImage h mask old c)
   read-body w e (ok c) d =
       let z : ok w ≡ ok (record { header = h; blocks = length (startsOf c); end = endOf c }) = sym e ∙ promise .says ∙ rw (d) in
-      (c, d, ap (λ (x : Whole). x .end) (ok-is z), promise .image ∙ rw (d))
-  read-body w e (fail q) d = absurd (let z : _≡_ {A = Res Whole} (ok w) (fail q) = sym e ∙ promise .says ∙ rw (d) in let o : _≡_ {A = ℕ} 0 1 = cc in omega arith)
+      (c, d, ap (λ (x : ReadTold). x .end) (ok-is z), promise .image ∙ rw (d))
+  read-body w e (fail q) d = absurd (let z : _≡_ {A = Res ReadTold} (ok w) (fail q) = sym e ∙ promise .says ∙ rw (d) in let o : _≡_ {A = ℕ} 0 1 = cc in omega arith)
 
   module _ (t : Option ResultModel) (same : t ≡ said (bodied h mask old) m) where
     linear-ok : accepts (readSaid a) ≡ is-some t
@@ -187,7 +187,7 @@ module _ (m : Res Body) (h : Header) (mask : List ℕ) (a : ReadAnswer) (list li
         go (ok c) = refl
         go (fail q) = refl
 
-    linear-result : (w : Whole) → readSaid a ≡ ok w → t ≡ some (record { at = w .end; image = new })
+    linear-result : (w : ReadTold) → readSaid a ≡ ok w → t ≡ some (record { at = w .end; image = new })
     linear-result w e =
         let (c, d, p, q) = read-body w e m refl in
         same ∙ ap (said (bodied h mask old)) d ∙ sym (result-is p q)
@@ -214,7 +214,7 @@ module _ (s : List ℕ) (h : Header) (at : ℕ) (mask constants : List ℕ) (a :
   pub raw-ok : accepts (readSaid a) ≡ is-some their-raw
   raw-ok = linear-ok (rawBody s h at) h mask a list listed old new promise their-raw same-raw
 
-  module _ (w : Whole) (e : readSaid a ≡ ok w) where
+  module _ (w : ReadTold) (e : readSaid a ≡ ok w) where
     -- 5.47, 5.48
     pub raw-result : their-raw ≡ some (record { at = w .end; image = new })
     raw-result = linear-result (rawBody s h at) h mask a list listed old new promise their-raw same-raw w e
@@ -242,7 +242,7 @@ module _ (s : List ℕ) (h : Header) (ranges : Ranges) (mask words : List ℕ) (
   pub constant-ok : accepts (readSaid a) ≡ is-some their-constant
   constant-ok = linear-ok (constantBody h ranges) h mask a list listed old new promise their-constant same-constant
 
-  module _ (w : Whole) (e : readSaid a ≡ ok w) where
+  module _ (w : ReadTold) (e : readSaid a ≡ ok w) where
     -- 5.47, 5.48
     pub constant-result : their-constant ≡ some (record { at = w .end; image = new })
     constant-result = linear-result (constantBody h ranges) h mask a list listed old new promise their-constant same-constant w e

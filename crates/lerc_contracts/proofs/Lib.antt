@@ -1,4 +1,4 @@
-pub mod Answers
+pub mod WithoutNumber
 pub mod Lists
 pub mod Refusals
 pub mod Bits

@@ -33,7 +33,7 @@ use Rattle.lerc.proofs.Pixels.{upto-none, upto-all}
 use Rattle.lerc.proofs.Bodies.{valid-at, image-constant, image-raw}
 use Rattle.lerc_contracts.specs.Outside.{said}
 use Rattle.lerc_contracts.specs.Block.{ResultModel}
-use Rattle.lerc_contracts.specs.Image.{Word, linearValue, linear}
+use Rattle.lerc_contracts.specs.Image.{PlaceAndWord, linearValue, linear}
 
 -- ---- `linear_value`, and one step of `linear`
 
@@ -84,7 +84,7 @@ module _ (s : List ℕ) (h : Header) (mask constants : List ℕ) (raw : Bool) wh
     linear-stop fuel v e = rw (ne-eqb k (h .columns * h .rows * h .depth) apart, v, e)
 
     -- 5.40
-    pub linear-step : (fuel : ℕ) (w : Word) → pixelValid mask (k / h .depth) ≡ true → linearValue s h at k raw constants ≡ some w
+    pub linear-step : (fuel : ℕ) (w : PlaceAndWord) → pixelValid mask (k / h .depth) ≡ true → linearValue s h at k raw constants ≡ some w
         → linear s h mask constants raw k at out (suc fuel) ≡ linear s h mask constants raw (k + 1) (w .at) (set out k (w .value)) fuel
     unfolding linear
     linear-step fuel w v e = rw (ne-eqb k (h .columns * h .rows * h .depth) apart, v, e)

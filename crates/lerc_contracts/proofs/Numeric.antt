@@ -26,7 +26,7 @@ use Rattle.lerc_numeric.proofs.Compare.{less-pp, less-pn, less-np, less-nn}
 use Rattle.lerc_numeric.proofs.Jam.{jam-zero, jam-none, jam-some}
 use Rattle.lerc_numeric.proofs.Magnitude.{sig-lt}
 use Rattle.lerc_numeric.proofs.Integers.{cut-kind, cut-large, modulus-last, modulus-le, modulus-ge, whole-zero, whole-some}
-use Rattle.lerc_contracts.proofs.Answers.{said-some}
+use Rattle.lerc_contracts.proofs.WithoutNumber.{said-some}
 use Rattle.lerc_contracts.specs.Outside.{said, is-some}
 use Rattle.lerc_contracts.specs.Numeric.{fieldOf, finiteOf, sign, mantissa, exponent, rounded, sticky, lessThan, sizeOf, modulusOf, cutOf, integer}
 

@@ -20,7 +20,7 @@ use Rattle.lerc_words.proofs.Tables.{replicate-from, tabulate-same, all-same, a
 use Rattle.lerc_words.proofs.Binding.{each-length}
 use Rattle.lerc_words.proofs.Little.{wordAt-ok}
 use Rattle.lerc_contracts.proofs.Lists.{over-out, length-over, padded}
-use Rattle.lerc_contracts.proofs.Answers.{each-at, each-not}
+use Rattle.lerc_contracts.proofs.WithoutNumber.{each-at, each-not}
 use Rattle.lerc_numeric.specs.Numeric.{same}
 use Rattle.lerc_numeric.specs.Kinds.{typeSize}
 use Rattle.lerc_numeric.proofs.Compare.{same-bits, same-zeros}
@@ -42,7 +42,7 @@ use Rattle.lerc_ranges.specs.declared.ConstantsAnswer.the-variants as constants
 use Rattle.lerc_ranges.specs.declared.Constants.{Constants}
 use Rattle.lerc_ranges.specs.declared.Ranges.{Ranges}
 use Rattle.lerc_ranges.specs.Ranges.{numberAt, byDepth, maximaAt, rangesEnd, uniformRanges, rangesSays, codedRanges, pairsRight, readRangesSays, rangesSaid, constantWords, constantsSaid}
-use Rattle.lerc_validity.specs.Validity.{InForce, reused, new, bytesOf, uniform, kept, unrolled, maskSays, prepareSays, maskSaid, which, Prepared, inForce}
+use Rattle.lerc_validity.specs.Validity.{MaskInForce, reused, new, bytesOf, uniform, kept, unrolled, maskSays, prepareSays, maskSaid, which, Prepared, inForce}
 use Rattle.lerc_validity.proofs.Preparing.{uniform-ok, uniform-no, says-none, says-all, says-kept, says-runs, prepare-no, prepare-says}
 use Rattle.lerc_validity.proofs.Prepared.{prepare-found, prepared-right, mask-length, in-force}
 use Rattle.lerc_ranges.proofs.Judged.{read-ranges-kept}
@@ -150,7 +150,7 @@ module _ (s : List ℕ) (h : Header) (old : List ℕ) (reuse : Bool) where
       none? false e = all? (eqb-false _ _ e) (eqb (h .valid) (pixels (shapeOf h))) refl
 
   -- what ours accepts, upstream does
-  pub validity-of : (f : InForce) → maskSays s h reuse old ≡ ok f → validity s h old reuse ≡ some (bytesOf f)
+  pub validity-of : (f : MaskInForce) → maskSays s h reuse old ≡ ok f → validity s h old reuse ≡ some (bytesOf f)
   validity-of f a = validity-is (sectioned 0 (λ v. says-none s h reuse old v), λ v. whole v (eqb (h .valid) 0) refl) ∙ ap (said bytesOf) a
     where
       sectioned : (byte : ℕ) → {v : Type 0} → (v → maskSays s h reuse old ≡ uniform h byte) → v → h .mask ≡ 0
@@ -158,7 +158,7 @@ module _ (s : List ℕ) (h : Header) (old : List ℕ) (reuse : Bool) where
         where
           go : (t : Bool) → eqb (h .mask) 0 ≡ t → h .mask ≡ 0
           go true e = eqb-true _ _ e
-          go false e = absurd (let w : _≡_ {A = Res InForce} (fail (refuse 6)) (ok f) = sym (uniform-no h byte (eqb-false _ _ e)) ∙ sym (g v) ∙ a in let z : _≡_ {A = ℕ} 0 1 = cc in omega arith)
+          go false e = absurd (let w : _≡_ {A = Res MaskInForce} (fail (refuse 6)) (ok f) = sym (uniform-no h byte (eqb-false _ _ e)) ∙ sym (g v) ∙ a in let z : _≡_ {A = ℕ} 0 1 = cc in omega arith)
 
       whole : h .valid ≡ pixels (shapeOf h) → (t : Bool) → eqb (h .valid) 0 ≡ t → h .mask ≡ 0
       whole v true e = sectioned 0 (λ w. says-none s h reuse old w) (eqb-true _ _ e)
@@ -289,18 +289,18 @@ constants-is values depth kind k l = go (each (stored kind) (take depth values))
 module _ (b : List ℕ) (h : Header) (reuse : Bool) (old : List ℕ) (r : MaskAnswer) (spare newer : List ℕ) (promise : Prepared (prepareSays b h reuse old (length spare)) r spare newer) where
   -- 3.9, 3.10
   pub prepare-held : (q : Refusal) → held h (length b) ≡ fail q → maskSaid r ≡ fail q
-  prepare-held q e = promise .says ∙ ap (λ (m : Res InForce). m >>= which) (prepare-no b h reuse old (length spare) e)
+  prepare-held q e = promise .says ∙ ap (λ (m : Res MaskInForce). m >>= which) (prepare-no b h reuse old (length spare) e)
 
   -- 3.11
   pub prepare-room : (e : Extent) → held h (length b) ≡ ok e → (leb (e .mask) (length old) && leb (e .mask) (length spare)) ≡ false → maskSaid r ≡ fail (refuse 5)
   unfolding prepareSays
   prepare-room e k l = promise .says ∙ rw (k, l)
 
-  told : (m : Res InForce) → prepareSays b h reuse old (length spare) ≡ m → Prepared m r spare newer
+  told : (m : Res MaskInForce) → prepareSays b h reuse old (length spare) ≡ m → Prepared m r spare newer
   told m e = rw (e) at promise
 
   -- the part that is written
-  written : (m : Res InForce) → prepareSays b h reuse old (length spare) ≡ m → (length newer ≡ length spare) × ((i : ℕ) → maskLength (shapeOf h) ≤ i → getD newer i 0 ≡ getD spare i 0)
+  written : (m : Res MaskInForce) → prepareSays b h reuse old (length spare) ≡ m → (length newer ≡ length spare) × ((i : ℕ) → maskLength (shapeOf h) ≤ i → getD newer i 0 ≡ getD spare i 0)
   written (fail q) e = let p = told (fail q) e .spare in rw (p) (refl, λ i l. refl)
   written (ok (reused m)) e = let p = told (ok (reused m)) e .spare in rw (p) (refl, λ i l. refl)
   written (ok (new m)) e =
@@ -327,7 +327,7 @@ module _ (b : List ℕ) (h : Header) (reuse : Bool) (old : List ℕ) (r : MaskAn
     pub prepare-ok : Sectioned h → accepts (maskSaid r) ≡ is-some (validity (take (h .size) b) h old reuse)
     prepare-ok p = rw (validity-is (take (h .size) b) h old reuse p, promise .says, judged) (go (maskSays (take (h .size) b) h reuse old))
       where
-        go : (m : Res InForce) → accepts (m >>= which) ≡ is-some (said bytesOf m)
+        go : (m : Res MaskInForce) → accepts (m >>= which) ≡ is-some (said bytesOf m)
         go (ok (reused m)) = refl
         go (ok (new m)) = refl
         go (fail q) = refl
@@ -336,7 +336,7 @@ module _ (b : List ℕ) (h : Header) (reuse : Bool) (old : List ℕ) (r : MaskAn
     pub prepare-mask : accepts (maskSaid r) ≡ true → validity (take (h .size) b) h old reuse ≡ some (inForce r old newer)
     prepare-mask a = go (prepareSays b h reuse old (length spare)) refl
       where
-        go : (m : Res InForce) → prepareSays b h reuse old (length spare) ≡ m → validity (take (h .size) b) h old reuse ≡ some (inForce r old newer)
+        go : (m : Res MaskInForce) → prepareSays b h reuse old (length spare) ≡ m → validity (take (h .size) b) h old reuse ≡ some (inForce r old newer)
         go (ok f) e = validity-of (take (h .size) b) h old reuse f (sym judged ∙ e) ∙ ap (λ (x : List ℕ). some x)
             (sym (in-force f (ok f) r old spare newer refl (prepared-right b h reuse old (length spare) f e .part) (told (ok f) e)))
         go (fail q) e = absurd (let w : maskSaid r ≡ fail q = told (fail q) e .says in let t : accepts (maskSaid r) ≡ false = rw (w) in let z : _≡_ {A = ℕ} 0 1 = cc in omega arith)

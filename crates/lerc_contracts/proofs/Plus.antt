@@ -16,7 +16,7 @@ use Rattle.lerc_numeric.specs.Numeric.{negative, sig, exp, mag, code, bits64, s
 use Rattle.lerc_numeric.specs.Inside.{jam}
 use Rattle.lerc_numeric.proofs.Digits.{pow-lt-back}
 use Rattle.lerc_numeric.proofs.Format.{sub-mul}
-use Rattle.lerc_numeric.proofs.Jam.{Jam, jam-round, jam-is, jam-add, jam-sub, jam-none, jam-le, jam-zero}
+use Rattle.lerc_numeric.proofs.Jam.{StandsFor, jam-round, jam-is, jam-add, jam-sub, jam-none, jam-le, jam-zero}
 use Rattle.lerc_numeric.proofs.Magnitude.{sig-lt, mag-lt}
 use Rattle.lerc_numeric.proofs.Sums.{and-false}
 use Rattle.lerc_contracts.proofs.Numeric.{mantissa-is, exponent-is, jam-small}
@@ -123,7 +123,7 @@ module _ (p q k : ℕ) (h : exp q ≤ exp p) (wide : 8 ≤ k) where
     op-near : d ≤ k → over k (exp p) (op x y) ≡ bits64 (op (mag p) (mag q))
     op-near l = over-exact k (exp p) (op x y) (op (mag p) (mag q)) (through x y (2 ^ exp p) ∙ rw (x-is, y-near l) (sym (through (mag p) (mag q) (2 ^ k))))
 
-    op-far : k < d → Jam (op x (jam (sig q) (d - k))) (d - k) (op (x * 2 ^ (d - k)) (sig q)) → 2 ^ 54 ≤ op x y → over k (exp p) (op x y) ≡ bits64 (op (mag p) (mag q))
+    op-far : k < d → StandsFor (op x (jam (sig q) (d - k))) (d - k) (op (x * 2 ^ (d - k)) (sig q)) → 2 ^ 54 ≤ op x y → over k (exp p) (op x y) ≡ bits64 (op (mag p) (mag q))
     unfolding mag
     op-far l j big =
         let m = op x y in
@@ -132,7 +132,7 @@ module _ (p q k : ℕ) (h : exp q ≤ exp p) (wide : 8 ≤ k) where
         let t : k + (d - k) + exp q ≡ exp p = omega arith in
         let w : sig p * 2 ^ k * 2 ^ (d - k) * 2 ^ exp q ≡ sig p * 2 ^ exp p = rw (mul-assoc (sig p) (2 ^ k) (2 ^ (d - k)), ← pow-add 2 k (d - k), mul-assoc (sig p) (2 ^ (k + (d - k))) (2 ^ exp q), ← pow-add 2 (k + (d - k)) (exp q), t) in
         let b : op (x * 2 ^ (d - k)) (sig q) * 2 ^ exp q ≡ op (mag p) (mag q) = through (x * 2 ^ (d - k)) (sig q) (2 ^ exp q) ∙ ap (λ (u : ℕ). op u (sig q * 2 ^ exp q)) w in
-        let jy : Jam m (d - k) (op (x * 2 ^ (d - k)) (sig q)) = rw (y-far l) j in
+        let jy : StandsFor m (d - k) (op (x * 2 ^ (d - k)) (sig q)) = rw (y-far l) j in
         over-exact k (exp p) m (m * 2 ^ (d - k + exp q)) a ∙ sym (jam-round m (d - k) (op (x * 2 ^ (d - k)) (sig q)) (exp q) jy big) ∙ ap (λ (u : ℕ). bits64 u) b
 
   even : x % 2 ≡ 0

@@ -50,12 +50,12 @@ tiles s h mask max p at out (suc fuel) =
     (onSome (block s h (tile p h) mask (getD max (p .d) 0) at out) (λ b. tiles s h mask max (next p h) (b .at) (b .image) fuel))
 
 -- the pair that `linear_value` gives
-pub record Word : Type 0 where
+pub record PlaceAndWord : Type 0 where
   pub at : ℕ
   pub value : ℕ
 
 -- `linear_value`
-unfoldable pub linearValue : List ℕ → Header → ℕ → ℕ → Bool → List ℕ → Option Word
+unfoldable pub linearValue : List ℕ → Header → ℕ → ℕ → Bool → List ℕ → Option PlaceAndWord
 linearValue s h at k raw constant =
     cond (not raw) (some (record { at = at; value = getD constant (k % h .depth) 0 }))
     (let size = typeSize (h .kind) in

@@ -8,7 +8,7 @@ use native.Mathlib.Omega.{arith}
 use native.Mathlib.Nat.{mul-le-mul}
 use lib.ListN.{length}
 use lib.Dec.{leb}
-use borrow.Author.Tests.{ltb-true, leb-true}
+use borrow.Author.Tests.{ltb-true, leb-true, le-leb}
 use Rattle.lerc_words.specs.declared.Refusal.{Refusal}
 use Rattle.lerc_words.specs.Res.{ok, fail, require}
 use Rattle.lerc_words.proofs.Binding.{bind-is, bind-fail, ok-is, require-is}
@@ -44,7 +44,7 @@ pub record Right (h : Header) : Type 0 where
   pub size : rangesAt h ≤ h .size
 
 -- the ceilings
-pub record Within (h : Header) : Type 0 where
+pub record CeilingsKept (h : Header) : Type 0 where
   pub rows : h .rows ≤ sideways
   pub columns : h .columns ≤ sideways
   pub depth : h .depth ≤ depthLimit
@@ -75,7 +75,7 @@ fields-right h e =
       size = leb-true _ _ size;
     }
 
-pub within-ceilings : (h : Header) → withinCeilings h ≡ true → Within h
+pub within-ceilings : (h : Header) → withinCeilings h ≡ true → CeilingsKept h
 unfolding withinCeilings
 within-ceilings h e =
     let (e, size) = both _ _ e in
@@ -92,18 +92,18 @@ within-ceilings h e =
       size = leb-true _ _ size;
     }
 
-pub shaped : (h : Header) → Right h → Within h → Shaped (shapeOf h)
+pub shaped : (h : Header) → Right h → CeilingsKept h → Shaped (shapeOf h)
 shaped h r w =
     record { rows = (r .rows, w .rows); columns = (r .columns, w .columns); depth = (r .depth, w .depth); side = (r .side, w .side); few = w .cells }
 
 -- a header that a slice of n bytes is read by
-pub record Kept (h : Header) (n : ℕ) (e : Extent) : Type 0 where
+pub record HeaderKept (h : Header) (n : ℕ) (e : Extent) : Type 0 where
   pub right : Right h
-  pub within : Within h
+  pub within : CeilingsKept h
   pub fits : h .size ≤ n
   pub extent : e ≡ extentOf h
 
-pub held-kept : (h : Header) (n : ℕ) {e : Extent} → held h n ≡ ok e → Kept h n e
+pub held-kept : (h : Header) (n : ℕ) {e : Extent} → held h n ≡ ok e → HeaderKept h n e
 unfolding held
 held-kept h n p =
     let (_, t3, p) = bind-is _ _ p in
@@ -134,6 +134,15 @@ module _ (h : Header) (n : ℕ) {e : Extent} (p : held h n ≡ ok e) where
 
   pub held-pair : pairRight (h .min) (h .max) ≡ true
   held-pair = held-kept h n p .right .pair
+
+-- a header that one slice holds, each slice holds that is as long as its blob
+pub held-own : (h : Header) (n k : ℕ) {e : Extent} → held h n ≡ ok e → h .size ≤ k → held h k ≡ ok e
+unfolding held
+held-own h n k p l =
+    let (_, t3, p) = bind-is (require (fieldsRight h) 3) _ p in
+    let (_, t4, p) = bind-is (require (withinCeilings h) 4) _ p in
+    let (_, t1, p) = bind-is (require (leb (h .size) n) 1) _ p in
+    rw (require-is (fieldsRight h) 3 t3, require-is (withinCeilings h) 4 t4, le-leb (h .size) k l) p
 
 -- a header that was read is the blob's own, and held
 pub header-held : (b : List ℕ) (h : Header) → headerSays b ≡ ok h → (h ≡ headerOf b) × (held h (length b) ≡ ok (extentOf h))

@@ -18,7 +18,7 @@ use Rattle.lerc_mask.specs.Mask.{pixelValid}
 use Rattle.lerc_block.specs.Block.{tileLimit}
 use Rattle.lerc_image.specs.declared.Tile.{Tile}
 use Rattle.lerc_image.specs.declared.Cursor.{Cursor}
-use Rattle.lerc_image.specs.Geometry.{tileOf, tileSize, pixelOf, rank, tileValid}
+use Rattle.lerc_image.specs.Geometry.{tileOf, tileSize, pixelOf, rank, validInTile}
 use Rattle.lerc_image.specs.Parts.{TileIn, cursorOf, cursorNext}
 use Rattle.lerc_image.proofs.Steps.{corner-x, corner-y}
 
@@ -64,7 +64,7 @@ module _ (h : Shape) (t : Tile) (i : TileIn h t) where
       mul-le-mul a b
 
   -- so reading a block does not refuse their number
-  pub valid-small : (m : List ℕ) → tileValid h m t ≤ tileLimit
+  pub valid-small : (m : List ℕ) → validInTile h m t ≤ tileLimit
   valid-small m = omega (arith, rank-le h m t (tileSize t), i .small)
 
   pub corner-fits : t .y * h .columns + t .x ≤ 4198400

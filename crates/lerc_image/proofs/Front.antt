@@ -9,7 +9,7 @@ use lib.ListN.{length, List·getD-append}
 use Rattle.lerc_header.specs.declared.Shape.{Shape}
 use Rattle.lerc_header.specs.Shape.{Shaped, blockCount}
 use Rattle.lerc_mask.specs.Mask.{pixelValid}
-use Rattle.lerc_image.specs.Geometry.{tileOf, tileSize, pixelOf, cellOf, placeIn, tileValid}
+use Rattle.lerc_image.specs.Geometry.{tileOf, tileSize, pixelOf, cellOf, placeIn, validInTile}
 use Rattle.lerc_image.specs.Paint.{inBlock, indexOf, wordOf, scattered}
 use Rattle.lerc_image.proofs.Partition.{place-lt, cell-back, cell-pixel}
 use Rattle.lerc_image.proofs.Painting.{painted-words}
@@ -18,7 +18,7 @@ use Rattle.lerc_image.proofs.Cursors.{rank-mono, rank-more}
 
 module _ (h : Shape) (s : Shaped h) (m : List ℕ) (n : ℕ) (l : n < blockCount h) where
   -- a cell's index is below the count
-  pub index-lt : (c : ℕ) → inBlock h m n c ≡ true → indexOf h m c < tileValid h m (tileOf h n)
+  pub index-lt : (c : ℕ) → inBlock h m n c ≡ true → indexOf h m c < validInTile h m (tileOf h n)
   unfolding indexOf
   index-lt c e =
       let i = inside h m n c e in
@@ -29,7 +29,7 @@ module _ (h : Shape) (s : Shaped h) (m : List ℕ) (n : ℕ) (l : n < blockCount
       let v : pixelValid m (pixelOf h (tileOf h n) k) ≡ true = ap (pixelValid m) p ∙ i .valid in
       rw (i .block) (omega (arith, rank-more h m (tileOf h n) k true v, rank-mono h m (tileOf h n) (k + 1) (tileSize (tileOf h n)) (let q : k + 1 ≤ tileSize (tileOf h n) = omega arith in q)))
 
-  pub scattered-front : (words rest image : List ℕ) → length words ≡ tileValid h m (tileOf h n) → scattered h m n (words ++ rest) image ≡ scattered h m n words image
+  pub scattered-front : (words rest image : List ℕ) → length words ≡ validInTile h m (tileOf h n) → scattered h m n (words ++ rest) image ≡ scattered h m n words image
   scattered-front words rest image e =
       painted-words image (wordOf h m (λ i. words ++ rest)) (wordOf h m (λ i. words)) (inBlock h m n)
       (λ c q. List·getD-append words rest 0 (indexOf h m c) (let k : indexOf h m c < length words = rw (e) (index-lt c q) in k))

@@ -15,7 +15,7 @@ use Rattle.lerc_block.specs.declared.BlockAnswer.{BlockAnswer}
 use Rattle.lerc_block.specs.declared.BlockAnswer.the-variants as block
 use Rattle.lerc_block.specs.Block.{Block, tileLimit, blockSays, readBlockSays, blockSaid, nextBlock, BlockRead}
 use Rattle.lerc_image.specs.declared.FillAnswer.the-variants as answer
-use Rattle.lerc_image.specs.Geometry.{tileOf, tileValid}
+use Rattle.lerc_image.specs.Geometry.{tileOf, validInTile}
 use Rattle.lerc_image.specs.Paint.{scattered}
 use Rattle.lerc_image.specs.Parts.{BlockScattered, BlockFilled}
 use Rattle.lerc_image.proofs.Front.{scattered-front}
@@ -45,7 +45,7 @@ module _ {b : Res Block} {got : BlockAnswer} {old new : List ℕ} (e : BlockRead
   fill-refused h m n {why} q = let r : b ≡ fail why = said-refused (e .says) q in rw (r) (record { says = refl; image = refl })
 
   pub fill-accepted : (h : Shape) → Shaped h → (m : List ℕ) (n : ℕ) → n < blockCount h → {next r : ℕ} {image result : List ℕ}
-      → got ≡ block.Block next → ((k : Block) → b ≡ ok k → length (k .words) ≡ tileValid h m (tileOf h n)) → BlockScattered h n m new image r result
+      → got ≡ block.Block next → ((k : Block) → b ≡ ok k → length (k .words) ≡ validInTile h m (tileOf h n)) → BlockScattered h n m new image r result
       → BlockFilled h m n b (answer.Filled r) image result
   fill-accepted h s m n l {image = image} q f w =
       let (k, p, is) = read-accepted q in

@@ -16,7 +16,7 @@ use Rattle.lerc_block.specs.Block.{blockSays}
 use Rattle.lerc_block.specs.Plan.{planAt, planEnd}
 use Rattle.lerc_image.specs.declared.Tile.{Tile}
 use Rattle.lerc_image.specs.declared.Position.{Position}
-use Rattle.lerc_image.specs.Geometry.{Within, tileOf, tileHere, tileValid, positionOf, nextOf}
+use Rattle.lerc_image.specs.Geometry.{HasTile, tileOf, tileHere, validInTile, positionOf, nextOf}
 use Rattle.lerc_image.specs.Blocks.{blockAt}
 use Rattle.lerc_image.specs.Tiles.{blockEnd}
 use Rattle.lerc_image.specs.Parts.{TileIn, BodyAsked, BlockHere, Asked}
@@ -30,7 +30,7 @@ pub asked-in : {h : Shape} {t : Tile} {n : ℕ} {start : List ℕ} → Asked h t
 asked-in {h} {n = n} a = rw (a .tile) (tile-in h (a .shaped) n (a .below))
 
 module _ {h : Header} {shape : Shape} {n : ℕ} {p : Position} (b : BlockHere h shape n p) where
-  pub here-within : Within shape p
+  pub here-within : HasTile shape p
   here-within = rw (b .position) (position-within shape (b .shaped) n (b .below))
 
   module _ {t : Tile} (e : t ≡ tileHere shape p) where
@@ -46,10 +46,10 @@ module _ {h : Header} {shape : Shape} {n : ℕ} {p : Position} (b : BlockHere h 
     pub here-depth : t .d < depthLimit
     here-depth = rw (here-is) (omega (arith, tile-depth shape (b .shaped) n (b .below), b .shaped .depth .1))
 
-    pub here-end : (s : List ℕ) (at : ℕ) (m : List ℕ) → planEnd (planAt s at (h .kind) (t .x) (tileValid shape m t)) ≡ blockEnd s h m n at
+    pub here-end : (s : List ℕ) (at : ℕ) (m : List ℕ) → planEnd (planAt s at (h .kind) (t .x) (validInTile shape m t)) ≡ blockEnd s h m n at
     here-end s at m = rw (here-is, b .same)
 
-    pub here-block : (s : List ℕ) (at : ℕ) (maxima m : List ℕ) → blockSays s at (h .kind) (h .error) (getD maxima (t .d) 0) (t .x) (tileValid shape m t) ≡ blockAt s h maxima m n at
+    pub here-block : (s : List ℕ) (at : ℕ) (maxima m : List ℕ) → blockSays s at (h .kind) (h .error) (getD maxima (t .d) 0) (t .x) (validInTile shape m t) ≡ blockAt s h maxima m n at
     unfolding blockAt
     here-block s at maxima m = rw (here-is, b .same)
 
@@ -81,7 +81,7 @@ module _ {h : Header} {e : Extent} {p : Position} {n : ℕ} (w : Standing h e p 
   pub standing-here : BlockHere h (e .shape) n p
   standing-here = record { shaped = w .asked .shaped; same = shape-is (w .asked); below = below; position = w .here }
 
-  pub standing-within : Within (e .shape) p
+  pub standing-within : HasTile (e .shape) p
   standing-within = here-within standing-here
 
   pub standing-few : n < cellLimit

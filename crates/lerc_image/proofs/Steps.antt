@@ -9,7 +9,7 @@ use borrow.Author.Tests.{lt-ltb, le-ltb}
 use Rattle.lerc_header.specs.declared.Shape.{Shape}
 use Rattle.lerc_image.specs.declared.Position.{Position}
 use Rattle.lerc_header.specs.Shape.{strips, tilesAcross, tilesDown, blockCount, Shaped}
-use Rattle.lerc_image.specs.Geometry.{Within, tileOf, tileHere, positionOf, nextOf}
+use Rattle.lerc_image.specs.Geometry.{HasTile, tileOf, tileHere, positionOf, nextOf}
 use Rattle.lerc_image.proofs.Strips.{strip-start, strip-lt, low-digit, mid-digit, top-digit, digits-of, top-lt}
 use Rattle.lerc_image.proofs.Partition.{across-pos}
 
@@ -65,7 +65,7 @@ module _ (h : Shape) (s : Shaped h) where
     unfolding positionOf tileOf
     tile-here = rw (corner-is)
 
-    pub position-within : Within h (positionOf h n)
+    pub position-within : HasTile h (positionOf h n)
     unfolding positionOf
     position-within = record { x = corner-x; y = omega (arith, corner-y); d = mod-lt n (s .depth .0) }
 

@@ -14,7 +14,7 @@ use Rattle.lerc_header.specs.declared.Shape.{Shape}
 use Rattle.lerc_words.specs.Lists.{count, total}
 use Rattle.lerc_header.specs.Shape.{pixels, cells, blockCount, Shaped}
 use Rattle.lerc_mask.specs.Mask.{pixelValid}
-use Rattle.lerc_image.specs.Geometry.{tileOf, tileSize, pixelOf, cellOf, blockOf, isValidCell, rank, tileValid}
+use Rattle.lerc_image.specs.Geometry.{tileOf, tileSize, pixelOf, cellOf, blockOf, isValidCell, rank, validInTile}
 use Rattle.lerc_image.specs.Paint.{inBlock}
 use Rattle.lerc_image.proofs.Partition.{block-lt, cell-lt}
 use Rattle.lerc_image.proofs.Upto.{upto, upto-zero, upto-all, upto-other, upto-adds, upto-new, upto-skips}
@@ -35,7 +35,7 @@ module _ (h : Shape) (s : Shaped h) (m : List ℕ) where
         rw (sym (add-one k))
         (rank-more h m (tileOf h n) k _ refl ∙ rw (rank-count k (omega arith)) (sym (more k (omega arith) _ refl)))
 
-    pub tile-count : tileValid h m (tileOf h n) ≡ count (cells h) (inBlock h m n)
+    pub tile-count : validInTile h m (tileOf h n) ≡ count (cells h) (inBlock h m n)
     tile-count = rank-count (tileSize (tileOf h n)) (omega arith) ∙ count-same (cells h) _ _ (λ c q. upto-all h s m n l c)
 
   -- the blocks below n
@@ -51,14 +51,14 @@ module _ (h : Shape) (s : Shaped h) (m : List ℕ) where
       go (no p) (yes q) = rw (le-ltb b n (omega arith), ne-eqb b n (λ e. let z : b ≡ n = e in absurd (omega arith)), le-ltb b (suc n) (omega arith))
       go (no p) (no q) = rw (le-ltb b n (omega arith), eq-eqb b n (omega arith), lt-ltb b (suc n) (omega arith))
 
-  blocks-below : (n : ℕ) → n ≤ blockCount h → total n (λ i. tileValid h m (tileOf h i)) ≡ count (cells h) (below n)
+  blocks-below : (n : ℕ) → n ≤ blockCount h → total n (λ i. validInTile h m (tileOf h i)) ≡ count (cells h) (below n)
   unfolding total below inBlock
   blocks-below zero l = sym (count-none (cells h) _ (λ c q. rw (le-ltb (blockOf h c) 0 (omega arith)) (and-false (isValidCell h m c))))
   blocks-below (suc n) l =
       rw (blocks-below n (omega arith), tile-count n (omega arith))
       (count-sum (cells h) _ _ _ (λ c. one-more (isValidCell h m c) (blockOf h c) n))
 
-  pub words-sum : total (blockCount h) (λ n. tileValid h m (tileOf h n)) ≡ count (pixels h) (pixelValid m) * h .depth
+  pub words-sum : total (blockCount h) (λ n. validInTile h m (tileOf h n)) ≡ count (pixels h) (pixelValid m) * h .depth
   unfolding below isValidCell
   words-sum =
       blocks-below (blockCount h) (omega arith)
@@ -68,9 +68,9 @@ module _ (h : Shape) (s : Shaped h) (m : List ℕ) where
 
 -- what the blocks up to one add fits the image
 pub sum-fits : (h : Shape) → Shaped h → (m : List ℕ) (n : ℕ) → n < blockCount h
-    → total n (λ i. tileValid h m (tileOf h i)) + tileValid h m (tileOf h n) ≤ cells h
+    → total n (λ i. validInTile h m (tileOf h i)) + validInTile h m (tileOf h n) ≤ cells h
 sum-fits h s m n l =
-    let f : ℕ → ℕ = λ i. tileValid h m (tileOf h i) in
+    let f : ℕ → ℕ = λ i. validInTile h m (tileOf h i) in
     let e : blockCount h - (n + 1) + (n + 1) ≡ blockCount h = omega arith in
     let a : total (n + 1) f ≤ total (blockCount h) f = rw (e) at (total-le f (n + 1) (blockCount h - (n + 1))) in
     let b : count (pixels h) (pixelValid m) * h .depth ≤ cells h = mul-le-mul-right (h .depth) (count-le (pixels h) (pixelValid m)) in

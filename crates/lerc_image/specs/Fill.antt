@@ -15,7 +15,7 @@ use Rattle.lerc_ranges.specs.Ranges.{pairsRight}
 use Rattle.lerc_block.specs.Block.{Block}
 use Rattle.lerc_image.specs.declared.FillAnswer.{FillAnswer}
 use Rattle.lerc_image.specs.declared.FillAnswer.the-variants as answer
-use Rattle.lerc_image.specs.Geometry.{tileOf, tileValid}
+use Rattle.lerc_image.specs.Geometry.{tileOf, validInTile}
 use Rattle.lerc_image.specs.Blocks.{blockAt}
 use Rattle.lerc_image.specs.Paint.{scattered}
 
@@ -30,7 +30,7 @@ fillSays b h r m list n room = do
 
 -- "Fill reports words written, which is its tile's valid pixels"
 abbrev pub fillCount : Header → List ℕ → ℕ → Block → Res ℕ
-fillCount h m n b = ok (tileValid (shapeOf h) m (tileOf (shapeOf h) n))
+fillCount h m n b = ok (validInTile (shapeOf h) m (tileOf (shapeOf h) n))
 
 abbrev pub fillSaid : FillAnswer → Res ℕ
 fillSaid (answer.Filled n) = ok n

@@ -51,8 +51,8 @@ placeIn h c =
 unfoldable pub rank : Shape → List ℕ → Tile → ℕ → ℕ
 rank h m t k = count k (λ i. pixelValid m (pixelOf h t i))
 
-abbrev pub tileValid : Shape → List ℕ → Tile → ℕ
-tileValid h m t = rank h m t (tileSize t)
+abbrev pub validInTile : Shape → List ℕ → Tile → ℕ
+validInTile h m t = rank h m t (tileSize t)
 
 -- a cell of the image whose pixel is valid
 unfoldable pub isValidCell : Shape → List ℕ → ℕ → Bool
@@ -69,7 +69,7 @@ positionOf h n = record {
 }
 
 -- a position that has a tile
-pub record Within (h : Shape) (p : Position) : Type 0 where
+pub record HasTile (h : Shape) (p : Position) : Type 0 where
   pub x : p .x < h .columns
   pub y : p .y < h .rows
   pub d : p .d < h .depth

@@ -19,7 +19,7 @@ use Rattle.lerc_image.specs.declared.Position.{Position}
 use Rattle.lerc_image.specs.declared.Cursor.{Cursor}
 use Rattle.lerc_image.specs.declared.FillAnswer.{FillAnswer}
 use Rattle.lerc_image.specs.declared.WalkAnswer.{WalkAnswer}
-use Rattle.lerc_image.specs.Geometry.{tileOf, tileSize, pixelOf, tileValid, positionOf}
+use Rattle.lerc_image.specs.Geometry.{tileOf, tileSize, pixelOf, validInTile, positionOf}
 use Rattle.lerc_image.specs.Paint.{scattered}
 use Rattle.lerc_image.specs.Blocks.{Chain}
 use Rattle.lerc_image.specs.Fill.{fillSaid}
@@ -75,12 +75,12 @@ cursorNext w columns p =
 
 -- the words of block n at its valid cells
 pub record BlockScattered (h : Shape) (n : ℕ) (m words start : List ℕ) (r : ℕ) (now : List ℕ) : Type 0 where
-  pub says : r ≡ tileValid h m (tileOf h n)
+  pub says : r ≡ validInTile h m (tileOf h n)
   pub image : now ≡ scattered h m n words start
 
 -- what a block does to the image: its words at the valid cells of its tile, or nothing where it is refused
 pub record BlockFilled (h : Shape) (m : List ℕ) (n : ℕ) (b : Res Block) (r : FillAnswer) (old new : List ℕ) : Type 0 where
-  pub says : fillSaid r ≡ (b >>= λ k. ok (tileValid h m (tileOf h n)))
+  pub says : fillSaid r ≡ (b >>= λ k. ok (validInTile h m (tileOf h n)))
   pub image : new ≡ after b old (λ k. scattered h m n (k .words) old)
 
 -- what a chain, accepted or not, does to the list

@@ -14,7 +14,7 @@ use Rattle.lerc_header.specs.Shape.{blockCount}
 use Rattle.lerc_block.specs.Block.{Block}
 use Rattle.lerc_block.specs.Plan.{planAt, planEnd}
 use Rattle.lerc_image.specs.declared.WalkAnswer.{WalkAnswer}
-use Rattle.lerc_image.specs.Geometry.{tileOf, tileValid, blockOf, isValidCell}
+use Rattle.lerc_image.specs.Geometry.{tileOf, validInTile, blockOf, isValidCell}
 use Rattle.lerc_image.specs.Paint.{painted, wordOf}
 use Rattle.lerc_image.specs.Blocks.{blockAt, Chain, allBlocks}
 use Rattle.lerc_image.specs.Walk.{walkSaid, walkCount}
@@ -34,7 +34,7 @@ checkedTiles b h m maxima at = do
 abbrev pub blockEnd : List ℕ → Header → List ℕ → ℕ → ℕ → Res ℕ
 blockEnd s h m n at =
     let t = tileOf (shapeOf h) n in
-    planEnd (planAt s at (h .kind) (t .x) (tileValid (shapeOf h) m t))
+    planEnd (planAt s at (h .kind) (t .x) (validInTile (shapeOf h) m t))
 
 -- the starts of f blocks from number n on, the first at `at`; none behind a head that cannot be read
 unfoldable pub headStarts : List ℕ → Header → List ℕ → ℕ → ℕ → ℕ → List ℕ

@@ -63,6 +63,6 @@ walkOf h c = c >>= walkCount h
 unfoldable pub walkList : List ℕ → Header → Ranges → List ℕ → List ℕ → List ℕ
 walkList b h r m list = after (walkSays b h r m (length list)) list (λ c. over (c .starts) list)
 
-pub record Walked (b : List ℕ) (h : Header) (ranges : Ranges) (m : List ℕ) (r : WalkAnswer) (old new : List ℕ) : Type 0 where
+pub record BlocksWalked (b : List ℕ) (h : Header) (ranges : Ranges) (m : List ℕ) (r : WalkAnswer) (old new : List ℕ) : Type 0 where
   pub says : walkSaid r ≡ (walkSays b h ranges m (length old) >>= walkCount h)
   pub list : new ≡ walkList b h ranges m old

@@ -4,10 +4,10 @@ ghost use Prim.Native.Nat.{ℕ, _+_, _*_, _^_, _≤_, _<_, min};
 ghost use lib.ListN.{length, getD, take};
 ghost use Rattle.lerc_words.specs.Lists.{over};
 ghost use Rattle.lerc_header.specs.Shape.{Shaped, blockCount, cells};
-ghost use Rattle.lerc_image.specs.Geometry.{Within, tileHere, nextOf, positionOf, tileValid};
+ghost use Rattle.lerc_image.specs.Geometry.{HasTile, tileHere, nextOf, positionOf, validInTile};
 ghost use Rattle.lerc_image.specs.Fill.{Filled, refusalOfFill};
 ghost use Rattle.lerc_image.specs.Blocks.{blockAt, allBlocks};
-ghost use Rattle.lerc_image.specs.Walk.{Walked, bodyWalked, walkSaid, walkOf, refusalOfWalk};
+ghost use Rattle.lerc_image.specs.Walk.{BlocksWalked, bodyWalked, walkSaid, walkOf, refusalOfWalk};
 ghost use Rattle.lerc_image.specs.Tiles.{headStarts};
 ghost use Rattle.lerc_image.specs.Parts.{TileIn, BodyAsked, BlockHere, Asked, FillAsked, cursorOf, cursorNext, BlockScattered, BlockFilled, BodyListed};
 ghost use Rattle.lerc_block.specs.Block.{BlockRead, blockSaid, blockSays, nextBlock};
@@ -126,7 +126,7 @@ impl Position {
     // the tile here, cut at the right and lower edge
     fn current(self, h: Shape) -> Tile
         requires { ⌜ Shaped h ⌝ }
-        requires { ⌜ Within h self ⌝ }
+        requires { ⌜ HasTile h self ⌝ }
         ensures { λ r. ⌜ r ≡ tileHere h self ⌝ }
     {
         Tile {
@@ -141,7 +141,7 @@ impl Position {
     // depth first, then x, then y
     fn advance(self, h: Shape) -> Position
         requires { ⌜ Shaped h ⌝ }
-        requires { ⌜ Within h self ⌝ }
+        requires { ⌜ HasTile h self ⌝ }
         ensures { λ r. ⌜ r ≡ nextOf h self ⌝ }
     {
         if self.d + 1 < h.depth {
@@ -200,7 +200,7 @@ impl Cursor {
 // How many pixels of a tile are valid.
 fn count_valid(h: Shape, t: Tile, mask: &[u8]) -> usize
     requires { ⌜ TileIn h t ⌝ }
-    ensures { λ r. ⌜ r ≡ tileValid h (now (mask .entry)) t ⌝ }
+    ensures { λ r. ⌜ r ≡ validInTile h (now (mask .entry)) t ⌝ }
 {
     let pixels = t.h * t.w;
     let mut here = Cursor::first(h, t);
@@ -254,7 +254,7 @@ fn read_tile(
     words: &mut [u64; 256],
 ) -> BlockAnswer
     requires { ⌜ TileIn h t ⌝ }
-    ensures { λ r. ⌜ BlockRead (blockSays (now (s .entry)) at (c .kind) (c .error) (c .maximum) (t .x) (tileValid h (now (mask .entry)) t)) r (now (words .entry)) (now (words .exit)) ⌝ }
+    ensures { λ r. ⌜ BlockRead (blockSays (now (s .entry)) at (c .kind) (c .error) (c .maximum) (t .x) (validInTile h (now (mask .entry)) t)) r (now (words .entry)) (now (words .exit)) ⌝ }
 {
     let n = count_valid(h, t, mask);
     lerc_block::read_block(s, at, c.kind, c.error, c.maximum, t.x, n, words)
@@ -272,7 +272,7 @@ fn fill_tile(
     image: &mut [u64],
 ) -> FillAnswer
     requires { ⌜ Asked h t number (now image) ⌝ }
-    ensures { λ r. ⌜ BlockFilled h (now (mask .entry)) number (blockSays (now (s .entry)) at (c .kind) (c .error) (c .maximum) (t .x) (tileValid h (now (mask .entry)) t)) r (now (image .entry)) (now (image .exit)) ⌝ }
+    ensures { λ r. ⌜ BlockFilled h (now (mask .entry)) number (blockSays (now (s .entry)) at (c .kind) (c .error) (c .maximum) (t .x) (validInTile h (now (mask .entry)) t)) r (now (image .entry)) (now (image .exit)) ⌝ }
 {
     let mut words = [0u64; 256];
     let got = read_tile(s, at, c, h, t, mask, &mut words);
@@ -414,7 +414,7 @@ fn check_blocks(
 // Where the block of tile `t` at a place ends. Only a raw block is as long as its tile has valid pixels, so only for one are they counted.
 fn end_at(s: &[u8], at: usize, kind: u32, h: Shape, t: Tile, mask: &[u8]) -> BlockAnswer
     requires { ⌜ TileIn h t ⌝ }
-    ensures { λ r. ⌜ blockSaid r ≡ planEnd (planAt (now (s .entry)) at kind (t .x) (tileValid h (now (mask .entry)) t)) ⌝ }
+    ensures { λ r. ⌜ blockSaid r ≡ planEnd (planAt (now (s .entry)) at kind (t .x) (validInTile h (now (mask .entry)) t)) ⌝ }
 {
     if lerc_words::bytes(s, at, 1) % 4 != 0 {
         return lerc_block::inspect_block(s, at, kind, t.x, 0).end();
@@ -493,7 +493,7 @@ fn walk_body(
 
 // Every block of a blob checked, then the list of their starts.
 pub fn walk(blob: &[u8], h: Header, ranges: Ranges, mask: &[u8], list: &mut [usize]) -> WalkAnswer
-    ensures { λ r. ⌜ Walked (now (blob .entry)) h ranges (now (mask .entry)) r (now (list .entry)) (now (list .exit)) ⌝ }
+    ensures { λ r. ⌜ BlocksWalked (now (blob .entry)) h ranges (now (mask .entry)) r (now (list .entry)) (now (list .exit)) ⌝ }
 {
     let held = h.held(blob.len());
     let HeldAnswer::Held(e) = held else {

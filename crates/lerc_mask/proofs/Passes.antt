@@ -22,11 +22,11 @@ use Rattle.lerc_mask.specs.declared.Went.{Went}
 use Rattle.lerc_mask.specs.declared.Went.the-variants as went
 use Rattle.lerc_mask.specs.declared.Put.{Put}
 use Rattle.lerc_mask.specs.declared.Put.the-variants as put
-use Rattle.lerc_mask.specs.Mask.{validBelow, maskBytes, stepAt, onStep, runs, maskRuns, coded, Unrolled, runsSaid}
+use Rattle.lerc_mask.specs.Mask.{validBelow, maskBytes, stepAt, onStep, runs, maskRuns, coded, RunsUnrolled, runsSaid}
 use Rattle.lerc_mask.specs.Passes.{onesAll, Countable, walked, goOn, putOn, putOut}
 use Rattle.lerc_mask.proofs.Tally.{all-append, all-last, all-le}
 use Rattle.lerc_mask.proofs.Steps.{bytes-append}
-use Rattle.lerc_mask.proofs.Runs.{Gives, Means, step-means}
+use Rattle.lerc_mask.proofs.Runs.{RunsGive, Means, step-means}
 
 -- one turn takes one of the steps that are left
 fewer : (f l at next : ℕ) → l ≤ at + suc f → at < next → l ≤ next + f
@@ -71,7 +71,7 @@ Told s want at made went.Ended = (maskRuns want s ≡ ok made) × (length made �
 Told s want at made went.Wrong = maskRuns want s ≡ fail (refuse 6)
 
 module _ (s : List ℕ) (want : ℕ) (w : Walk) (i : Going s want w) where
-  going-on : (next : ℕ) (out : List ℕ) → Gives s want (w .at) (i .made) next out → Going s want (walked w next out) × (w .at < next)
+  going-on : (next : ℕ) (out : List ℕ) → RunsGive s want (w .at) (i .made) next out → Going s want (walked w next out) × (w .at < next)
   going-on next out g = (go (i .steps) refl, g .forth)
     where
       go : (f : ℕ) → i .steps ≡ f → Going s want (walked w next out)
@@ -150,7 +150,7 @@ Wrote s want old at newer (put.On next more) = Putting s want old next more newe
 Wrote s want old at newer put.Done = (m : List ℕ) → maskRuns want s ≡ ok m → newer ≡ over m old
 
 module _ (s : List ℕ) (want : ℕ) (old : List ℕ) (at n : ℕ) (new : List ℕ) (i : Putting s want old at n new) where
-  putting-on : (next : ℕ) (out : List ℕ) → Gives s want at (i .made) next out → Putting s want old next (n + length out) (paste new n out (length out)) × (at < next)
+  putting-on : (next : ℕ) (out : List ℕ) → RunsGive s want at (i .made) next out → Putting s want old next (n + length out) (paste new n out (length out)) × (at < next)
   putting-on next out g = (go (i .steps) refl, g .forth)
     where
       go : (f : ℕ) → i .steps ≡ f → Putting s want old next (n + length out) (paste new n out (length out))
@@ -201,10 +201,10 @@ accepts-wrong s pixels valid e = rw (e)
 
 -- ---- the whole
 
-pub unrolled-no : {m : Res (List ℕ)} {r : Refusal} {old : List ℕ} → m ≡ fail r → Unrolled m (answer.Refused r) old old
+pub unrolled-no : {m : Res (List ℕ)} {r : Refusal} {old : List ℕ} → m ≡ fail r → RunsUnrolled m (answer.Refused r) old old
 unrolled-no e = rw e (record { says = refl; left = refl })
 
-pub unrolled : {m : Res (List ℕ)} (bytes : List ℕ) (n : ℕ) {old new : List ℕ} → m ≡ ok bytes → length bytes ≡ n → new ≡ over bytes old → Unrolled m (answer.Mask n) old new
+pub unrolled : {m : Res (List ℕ)} (bytes : List ℕ) (n : ℕ) {old new : List ℕ} → m ≡ ok bytes → length bytes ≡ n → new ≡ over bytes old → RunsUnrolled m (answer.Mask n) old new
 unrolled bytes n e l d = rw (e, d) (record { says = rw (l); left = refl })
 
 -- ---- the promise leaves no room
@@ -215,5 +215,5 @@ said-same (answer.Mask n) (answer.Refused r) e = absurd (let z : _≡_ {A = ℕ}
 said-same (answer.Refused r) (answer.Mask m) e = absurd (let z : _≡_ {A = ℕ} 0 1 = cc in omega arith)
 said-same (answer.Refused r) (answer.Refused q) e = let z : r ≡ q = cc in rw (z)
 
-pub unrolled-same : {m : Res (List ℕ)} {a b : RunsAnswer} {old x y : List ℕ} → Unrolled m a old x → Unrolled m b old y → (a ≡ b) × (x ≡ y)
+pub unrolled-same : {m : Res (List ℕ)} {a b : RunsAnswer} {old x y : List ℕ} → RunsUnrolled m a old x → RunsUnrolled m b old y → (a ≡ b) × (x ≡ y)
 unrolled-same {m} {a} {b} p q = (said-same a b (p .says ∙ sym (q .says)), p .left ∙ sym (q .left))

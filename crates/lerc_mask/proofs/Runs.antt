@@ -15,12 +15,12 @@ use Rattle.lerc_words.proofs.Little.{Bytes}
 use Rattle.lerc_mask.specs.declared.Step.{Step}
 use Rattle.lerc_mask.specs.declared.Step.the-variants.{Copy, Repeat, End, Wrong}
 use Rattle.lerc_mask.specs.Mask.{validBelow, maskBytes, stepAt, onStep, runs, maskRuns, coded, decoded}
-use Rattle.lerc_mask.specs.Passes.{Fits}
+use Rattle.lerc_mask.specs.Passes.{StepFits}
 use Rattle.lerc_mask.proofs.Steps.{Holds, step-holds, step-fits, length-copied, bytes-part, bytes-repeat, bytes-append}
 
 -- ---- one run: the bytes it gives, and the place behind it
 
-pub record Gives (s : List ℕ) (want at : ℕ) (made : List ℕ) (next : ℕ) (out : List ℕ) : Type 0 where
+pub record RunsGive (s : List ℕ) (want at : ℕ) (made : List ℕ) (next : ℕ) (out : List ℕ) : Type 0 where
   pub some : 1 ≤ length out
   pub few : length out ≤ want - length made
   pub forth : at < next
@@ -30,13 +30,13 @@ pub record Gives (s : List ℕ) (want at : ℕ) (made : List ℕ) (next : ℕ) (
 
 -- what a run means for all that follows
 abbrev pub Means : List ℕ → ℕ → ℕ → List ℕ → Step → Type 0
-Means s want at made (Copy n) = Gives s want at made (at + 2 + n) (take n (drop (at + 2) s))
-Means s want at made (Repeat n) = Gives s want at made (at + 3) (replicate n (getD s (at + 2) 0))
+Means s want at made (Copy n) = RunsGive s want at made (at + 2 + n) (take n (drop (at + 2) s))
+Means s want at made (Repeat n) = RunsGive s want at made (at + 3) (replicate n (getD s (at + 2) 0))
 Means s want at made End = ((f : ℕ) → length s ≤ at + f → runs want s f at made ≡ ok made) × (want ≤ length made)
 Means s want at made Wrong = (f : ℕ) → runs want s f at made ≡ fail (refuse 6)
 
 module _ (s : List ℕ) (b : Bytes s) (want at : ℕ) (made : List ℕ) where
-  means : (t : Step) → stepAt s at (want - length made) ≡ t → Fits (length s) at (want - length made) t → Means s want at made t
+  means : (t : Step) → stepAt s at (want - length made) ≡ t → StepFits (length s) at (want - length made) t → Means s want at made t
   unfolding runs
   means (Copy n) e f =
       let l : length (take n (drop (at + 2) s)) ≡ n = length-copied s (at + 2) n (f .1) in
@@ -104,11 +104,11 @@ runs-six want s (suc f) at made r e = six-step want s f at made r (λ next out. 
 
 -- ---- a section that is accepted or refused
 
-pub record Coded (s : List ℕ) (pixels valid : ℕ) (m : List ℕ) : Type 0 where
+pub record RunsCoded (s : List ℕ) (pixels valid : ℕ) (m : List ℕ) : Type 0 where
   pub runs : maskRuns (maskBytes pixels) s ≡ ok m
   pub counts : validBelow pixels m ≡ valid
 
-pub coded-is : (s : List ℕ) (pixels valid : ℕ) (m : List ℕ) → coded s pixels valid ≡ ok m → Coded s pixels valid m
+pub coded-is : (s : List ℕ) (pixels valid : ℕ) (m : List ℕ) → coded s pixels valid ≡ ok m → RunsCoded s pixels valid m
 unfolding coded
 coded-is s pixels valid m e =
     let p = bind-is (maskRuns (maskBytes pixels) s) (λ l. require (eqb (validBelow pixels l) valid) 6 >>= λ _. ok l) e in

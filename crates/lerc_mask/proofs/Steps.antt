@@ -18,7 +18,7 @@ use Rattle.lerc_words.proofs.Little.{Bytes, Stands, little-lt}
 use Rattle.lerc_mask.specs.declared.Step.{Step}
 use Rattle.lerc_mask.specs.declared.Step.the-variants.{Copy, Repeat, End, Wrong}
 use Rattle.lerc_mask.specs.Mask.{copyAt, repeatAt, endAt, signedAt, stepAt}
-use Rattle.lerc_mask.specs.Passes.{onesAll, Fits}
+use Rattle.lerc_mask.specs.Passes.{onesAll, StepFits}
 use Rattle.lerc_mask.proofs.Tally.{all-repeat}
 
 -- ---- what a run says
@@ -44,7 +44,7 @@ module _ (s : List ℕ) (at left n : ℕ) (h : Stands 2 s at n) where
 
 -- ---- what follows of the section and of what is left
 
--- as Fits; that a repeated byte comes at least once is due to bytes being bytes
+-- as StepFits; that a repeated byte comes at least once is due to bytes being bytes
 abbrev pub Holds : Type 0 → ℕ → ℕ → ℕ → Step → Type 0
 Holds B len at left (Copy n) = (1 ≤ n) × (at + 2 + n ≤ len) × (n ≤ left)
 Holds B len at left (Repeat n) = (B → 1 ≤ n) × (at + 3 ≤ len) × (n ≤ left)
@@ -72,7 +72,7 @@ module _ (B : Type 0) (len at left : ℕ) where
       let (e, f) = and-is (eqb (at + 2) len) (eqb left 0) e in
       (eqb-true _ _ e, eqb-true _ _ f)) (λ _. tt)
 
-  holds-fits : (t : Step) → B → Holds B len at left t → Fits len at left t
+  holds-fits : (t : Step) → B → Holds B len at left t → StepFits len at left t
   holds-fits (Copy n) b h = h
   holds-fits (Repeat n) b h = (h .0 b, h .1, h .2)
   holds-fits End b h = h
@@ -88,10 +88,10 @@ step-holds s at left =
     cond-elim P (leb (at + 2) len) (λ _. cond-elim P (eqb n 32768) (λ _. holds-end (Bytes s) len at left)
     (λ _. cond-elim P (ltb n 32768) (λ _. holds-copy (Bytes s) len at left n) (λ _. holds-repeat (Bytes s) len at left (65536 - n) some))) (λ _. tt)
 
-pub step-fits : (s : List ℕ) (at left : ℕ) → Bytes s → Fits (length s) at left (stepAt s at left)
+pub step-fits : (s : List ℕ) (at left : ℕ) → Bytes s → StepFits (length s) at left (stepAt s at left)
 step-fits s at left b = holds-fits (Bytes s) (length s) at left (stepAt s at left) b (step-holds s at left)
 
-pub step-told : (s : List ℕ) (at left : ℕ) {r : Step} → Bytes s → r ≡ stepAt s at left → (r ≡ stepAt s at left) × Fits (length s) at left r
+pub step-told : (s : List ℕ) (at left : ℕ) {r : Step} → Bytes s → r ≡ stepAt s at left → (r ≡ stepAt s at left) × StepFits (length s) at left r
 step-told s at left b e = (e, rw (e) (step-fits s at left b))
 
 -- ---- the bytes of a run

@@ -96,6 +96,6 @@ refusalOfRuns (answer.Mask n) = refuse 0
 refusalOfRuns (answer.Refused r) = r
 
 -- how long the mask is, and "the spare's first (pixels+7)/8 bytes hold the new mask"
-pub record Unrolled (m : Res (List ℕ)) (r : RunsAnswer) (old new : List ℕ) : Type 0 where
+pub record RunsUnrolled (m : Res (List ℕ)) (r : RunsAnswer) (old new : List ℕ) : Type 0 where
   pub says : runsSaid r ≡ (m >>= λ bytes. ok (length bytes))
   pub left : new ≡ after m old (λ bytes. over bytes old)

@@ -23,11 +23,11 @@ onesAll [] = 0
 onesAll (b ∷ bs) = ones b + onesAll bs
 
 -- what a run that is not wrong keeps to: it gives something, lies within the section and within the mask
-abbrev pub Fits : ℕ → ℕ → ℕ → Step → Type 0
-Fits len at left (Copy n) = (1 ≤ n) × (at + 2 + n ≤ len) × (n ≤ left)
-Fits len at left (Repeat n) = (1 ≤ n) × (at + 3 ≤ len) × (n ≤ left)
-Fits len at left End = (at + 2 ≡ len) × (left ≡ 0)
-Fits len at left Wrong = Unit
+abbrev pub StepFits : ℕ → ℕ → ℕ → Step → Type 0
+StepFits len at left (Copy n) = (1 ≤ n) × (at + 2 + n ≤ len) × (n ≤ left)
+StepFits len at left (Repeat n) = (1 ≤ n) × (at + 3 ≤ len) × (n ≤ left)
+StepFits len at left End = (at + 2 ≡ len) × (left ≡ 0)
+StepFits len at left Wrong = Unit
 
 -- the set bits of the bytes still to come can be added to those that came
 abbrev pub Countable : Walk → Type 0

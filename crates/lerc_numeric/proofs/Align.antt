@@ -9,7 +9,7 @@ use lib.Pow.{pow-add, pow-pos, pow-mono, shl-lt, shl-exact}
 use Rattle.lerc_numeric.specs.Numeric.{bits64, sig, exp, mag}
 use Rattle.lerc_numeric.specs.Inside.{jam}
 use Rattle.lerc_numeric.proofs.Format.{sub-mul}
-use Rattle.lerc_numeric.proofs.Jam.{Jam, jam-round, jam-is, jam-le, jam-zero, jam-add, jam-sub}
+use Rattle.lerc_numeric.proofs.Jam.{StandsFor, jam-round, jam-is, jam-le, jam-zero, jam-add, jam-sub}
 use Rattle.lerc_numeric.proofs.Magnitude.{sig-lt, mag-le}
 
 -- ---- m * 2 ^ (x + d) moved up by as much as 10 digits
@@ -27,7 +27,7 @@ large m d h k = let e : min d 10 ≡ 10 = omega arith in rw (e) (omega arith)
 
 -- ---- a sum or a difference of m * 2 ^ (x + d) and s * 2 ^ x
 module _ (op : ℕ → ℕ → ℕ) (over : (a b z : ℕ) → op a b * z ≡ op (a * z) (b * z)) (m s d x : ℕ)
-    (jams : 10 < d → Jam (op (m * 2 ^ min d 10) (jam s (d - 10))) (d - 10) (op (m * 2 ^ min d 10 * 2 ^ (d - 10)) s))
+    (jams : 10 < d → StandsFor (op (m * 2 ^ min d 10) (jam s (d - 10))) (d - 10) (op (m * 2 ^ min d 10 * 2 ^ (d - 10)) s))
     (wide : 10 < d → 2 ^ 54 ≤ op (m * 2 ^ min d 10) (jam s (d - 10))) where
   aligned : bits64 (op (m * 2 ^ min d 10) (jam s (d - 10)) * 2 ^ (x + (d - 10))) ≡ bits64 (op (m * 2 ^ (x + d)) (s * 2 ^ x))
   aligned = rw (place m d x, ← over (m * 2 ^ min d 10 * 2 ^ (d - 10)) s (2 ^ x)) (go (decLe d 10))

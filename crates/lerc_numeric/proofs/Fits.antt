@@ -22,7 +22,7 @@ use Rattle.lerc_numeric.proofs.Right.{negative-signed, rest-signed, mag
 use Rattle.lerc_numeric.proofs.Monotone.{at-least, less-asym, sum-grows, scaled-sign}
 
 -- ---- a value is held exactly where it is finite and its whole part lies in the range
-pub record Held (kind w : ℕ) : Type 0 where
+pub record KindHolds (kind w : ℕ) : Type 0 where
   pub integers : kind < 6
   pub is-finite : field w < 2047
   pub inside : whole w < bound kind (negative w)
@@ -31,7 +31,7 @@ pub record Held (kind w : ℕ) : Type 0 where
 abbrev pub wordOf : ℕ → ℕ → ℕ
 wordOf kind w = cond (negative w) ((modulus kind - whole w) % modulus kind) (whole w)
 
-pub held-cut : (kind w : ℕ) → Held kind w → cut kind w ≡ ok (wordOf kind w)
+pub held-cut : (kind w : ℕ) → KindHolds kind w → cut kind w ≡ ok (wordOf kind w)
 held-cut kind w h = cut-in kind w (whole w) (bound kind (negative w)) refl refl (h .integers) (h .is-finite) (h .inside)
 
 all-three : (a b c : Bool) → (a && b && c) ≡ true → (a ≡ true) × (b ≡ true) × (c ≡ true)
@@ -40,7 +40,7 @@ all-three true true false e = absurd (let z : _≡_ {A = ℕ} 0 1 = cc in omega 
 all-three true false c e = absurd (let z : _≡_ {A = ℕ} 0 1 = cc in omega arith)
 all-three false b c e = absurd (let z : _≡_ {A = ℕ} 0 1 = cc in omega arith)
 
-pub cut-held : (kind w v : ℕ) → cut kind w ≡ ok v → Held kind w
+pub cut-held : (kind w v : ℕ) → cut kind w ≡ ok v → KindHolds kind w
 unfolding cut
 cut-held kind w v e =
     let test = ltb kind 6 && finite w && ltb (whole w) (bound kind (negative w)) in
@@ -103,13 +103,13 @@ cut-integer kind v k l = go (signedKind kind) (leb (modulus kind / 2) v) refl re
     go false u et eu = held false v (omega (arith, l, m-le)) (rw (et) l) refl
 
 -- so the value of any word is held, by its own kind and by each with a wider range
-pub value-held : (kind w : ℕ) → kind < 6 → Held kind (valueOf kind w)
+pub value-held : (kind w : ℕ) → kind < 6 → KindHolds kind (valueOf kind w)
 value-held kind w h =
     let v = w % modulus kind in
     let l : v < modulus kind = mod-lt w (pow-pos (8 * typeSize kind)) in
     rw (← value-int kind w (modulus kind) (integer kind v) refl h refl) (cut-held kind (integer kind v) v (cut-integer kind v h l))
 
-pub held-wider : (k kind x : ℕ) → kind < 6 → bound k true ≤ bound kind true → bound k false ≤ bound kind false → Held k x → Held kind x
+pub held-wider : (k kind x : ℕ) → kind < 6 → bound k true ≤ bound kind true → bound k false ≤ bound kind false → KindHolds k x → KindHolds kind x
 held-wider k kind x h t f held = record { integers = h; is-finite = held .is-finite; inside = lt-of-lt-of-le (held .inside) (go (negative x)) }
   where
     go : (s : Bool) → bound k s ≤ bound kind s
@@ -127,7 +127,7 @@ bound-pos kind s = go (signedKind kind) s
     go false false = omega (arith, modulus-ge kind)
 
 -- a value no farther from 0 than one that is held, and of its sign or 0
-nearer : (kind x y : ℕ) → Held kind y → mag x ≤ mag y → (negative x ≡ negative y) ⊎ (mag x ≡ 0) → Held kind x
+nearer : (kind x y : ℕ) → KindHolds kind y → mag x ≤ mag y → (negative x ≡ negative y) ⊎ (mag x ≡ 0) → KindHolds kind x
 unfolding whole
 nearer kind x y h l c = record { integers = h .integers; is-finite = fine (decLt (y % 2 ^ 63) (x % 2 ^ 63)); inside = range c }
   where
@@ -139,10 +139,10 @@ nearer kind x y h l c = record { integers = h .integers; is-finite = fine (decLt
     range (inl e) = lt-of-le-of-lt (div-mono (mag x) (2 ^ 1074) (mag y) (2 ^ 1074) (pow-pos 1074) (pow-pos 1074) (mul-le-mul-right (2 ^ 1074) l)) (rw (e) (h .inside))
     range (inr z) = rw (z) (bound-pos kind (negative x))
 
-pub held-between : (kind low x high : ℕ) → Held kind low → Held kind high → less x low ≡ false → less high x ≡ false → Held kind x
+pub held-between : (kind low x high : ℕ) → KindHolds kind low → KindHolds kind high → less x low ≡ false → less high x ≡ false → KindHolds kind x
 held-between kind low x high hl hh l h = go (negative x) (negative low) (negative high) refl refl refl
   where
-    go : (s t u : Bool) → negative x ≡ s → negative low ≡ t → negative high ≡ u → Held kind x
+    go : (s t u : Bool) → negative x ≡ s → negative low ≡ t → negative high ≡ u → KindHolds kind x
     go false t false es et eu =
         let b : mag x + 0 ≤ mag high + 0 = rw (es, eu) at (at-least high x h) in
         nearer kind x high hh (omega arith) (inl (es ∙ sym eu))
@@ -157,13 +157,13 @@ held-between kind low x high hl hh l h = go (negative x) (negative low) (negativ
         nearer kind x low hl (omega arith) (inr (omega arith))
 
 -- ---- so is an offset with any number of steps that are not negative, clamped to a maximum, where the kind holds both
-pub held-clamped : (kind offset error q maximum : ℕ) → Held kind offset → Held kind maximum → negative error ≡ false → Held kind (lesser (sum offset (scaled error q)) maximum)
+pub held-clamped : (kind offset error q maximum : ℕ) → KindHolds kind offset → KindHolds kind maximum → negative error ≡ false → KindHolds kind (lesser (sum offset (scaled error q)) maximum)
 unfolding lesser
 held-clamped kind offset error q maximum ho hm e = go (less (sum offset (scaled error q)) maximum) refl
   where
     x : ℕ
     x = sum offset (scaled error q)
 
-    go : (t : Bool) → less x maximum ≡ t → Held kind (cond t x maximum)
+    go : (t : Bool) → less x maximum ≡ t → KindHolds kind (cond t x maximum)
     go true l = held-between kind offset x maximum ho hm (sum-grows offset (scaled error q) (ho .is-finite) (scaled-sign error q ∙ e)) (less-asym x maximum l)
     go false l = hm

@@ -23,8 +23,8 @@ use Rattle.lerc_numeric.proofs.Bits.{bits-cut, kept}
 use Rattle.lerc_numeric.proofs.Format.{sub-mul}
 
 -- j stands for n / 2 ^ i
-abbrev pub Jam : ℕ → ℕ → ℕ → Type 0
-Jam j i n = (n ≡ j * 2 ^ i) ⊎ ((j % 2 ≡ 1) × (j * 2 ^ i < n + 2 ^ i) × (n < j * 2 ^ i + 2 ^ i))
+abbrev pub StandsFor : ℕ → ℕ → ℕ → Type 0
+StandsFor j i n = (n ≡ j * 2 ^ i) ⊎ ((j % 2 ≡ 1) × (j * 2 ^ i < n + 2 ^ i) × (n < j * 2 ^ i + 2 ^ i))
 
 -- ---- z * x + t with a t strictly between 0 and x, to a multiple of 2 * v * x: it is never a tie, and t does not matter
 side : ℕ → ℕ → ℕ
@@ -91,12 +91,12 @@ round-odd j i n e o lo hi big =
     let k : kept n ≡ kept j = rw (dn, kept-inside n z i ln hn d (omega arith)) (sym (rw (add-zero) at (kept-inside j z 0 lj hj d (omega arith)))) in
     omega (arith, bits-cut n e (omega arith), bits-cut j (i + e) (omega arith))
 
-pub jam-round : (j i n e : ℕ) → Jam j i n → 2 ^ 54 ≤ j → bits64 (n * 2 ^ e) ≡ bits64 (j * 2 ^ (i + e))
+pub jam-round : (j i n e : ℕ) → StandsFor j i n → 2 ^ 54 ≤ j → bits64 (n * 2 ^ e) ≡ bits64 (j * 2 ^ (i + e))
 jam-round j i n e (inl h) b = rw (h, mul-assoc j (2 ^ i) (2 ^ e), ← pow-add 2 i e)
 jam-round j i n e (inr h) b = round-odd j i n e (h .0) (h .1) (h .2) b
 
 -- ---- what `jam` gives
-pub jam-is : (v n : ℕ) → Jam (jam v n) n v
+pub jam-is : (v n : ℕ) → StandsFor (jam v n) n v
 unfolding jam
 jam-is v n = go (v % 2 ^ n) refl
   where
@@ -112,7 +112,7 @@ jam-is v n = go (v % 2 ^ n) refl
     one : b * 2 ^ n ≤ 1 * 2 ^ n
     one = mul-le-mul-right (2 ^ n) (omega arith)
 
-    go : (r : ℕ) → v % 2 ^ n ≡ r → Jam (q + b) n v
+    go : (r : ℕ) → v % 2 ^ n ≡ r → StandsFor (q + b) n v
     go zero e =
         let z : q + b ≡ q = omega arith in
         inl (rw (z) (omega (arith, whole)))
@@ -142,11 +142,11 @@ unfolding jam
 jam-some v n h = omega arith
 
 -- an even number more, and less
-pub jam-add : (b j i n : ℕ) → b % 2 ≡ 0 → Jam j i n → Jam (b + j) i (b * 2 ^ i + n)
+pub jam-add : (b j i n : ℕ) → b % 2 ≡ 0 → StandsFor j i n → StandsFor (b + j) i (b * 2 ^ i + n)
 jam-add b j i n h (inl e) = inl (ap (λ (y : ℕ). b * 2 ^ i + y) e ∙ sym (add-mul b j (2 ^ i)))
 jam-add b j i n h (inr k) = inr (omega (arith, k .0), omega (arith, k .1, add-mul b j (2 ^ i)), omega (arith, k .2, add-mul b j (2 ^ i)))
 
-pub jam-sub : (b j i n : ℕ) → b % 2 ≡ 0 → j ≤ b → Jam j i n → Jam (b - j) i (b * 2 ^ i - n)
+pub jam-sub : (b j i n : ℕ) → b % 2 ≡ 0 → j ≤ b → StandsFor j i n → StandsFor (b - j) i (b * 2 ^ i - n)
 jam-sub b j i n h l (inl e) = inl (ap (λ (y : ℕ). b * 2 ^ i - y) e ∙ sym (sub-mul b j (2 ^ i)))
 jam-sub b j i n h l (inr k) =
     let o = k .0 in

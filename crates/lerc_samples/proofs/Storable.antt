@@ -18,7 +18,7 @@ use Rattle.lerc_words.proofs.Tables.{all-each}
 use Rattle.lerc_numeric.specs.Numeric.{negative, sum, scaled, less, lesser}
 use Rattle.lerc_numeric.specs.Kinds.{modulus, integer, widened, valueOf, narrowed, bound, cut}
 use Rattle.lerc_numeric.proofs.Integers.{modulus-last, value-int, value-six, value-last}
-use Rattle.lerc_numeric.proofs.Fits.{Held, wordOf, held-cut, cut-held, cut-lt, cut-integer, value-held, held-wider, held-between, held-clamped}
+use Rattle.lerc_numeric.proofs.Fits.{KindHolds, wordOf, held-cut, cut-held, cut-lt, cut-integer, value-held, held-wider, held-between, held-clamped}
 use Rattle.lerc_numeric.proofs.Binary32.{narrowed-lt}
 use Rattle.lerc_numeric.proofs.RoundTrip.{narrow-wide}
 use Rattle.lerc_samples.specs.Samples.{stored, offsetKinds, offsetKind}
@@ -69,10 +69,10 @@ stored-lt kind w v l e = go (decLt kind 6) (decLt 6 kind)
 abbrev pub Storable : ℕ → ℕ → Type 0
 Storable kind w = (v : ℕ) × (stored kind w ≡ ok v)
 
-pub held-storable : (kind w : ℕ) → Held kind w → Storable kind w
+pub held-storable : (kind w : ℕ) → KindHolds kind w → Storable kind w
 held-storable kind w h = (wordOf kind w, stored-int kind w (h .integers) ∙ held-cut kind w h)
 
-pub storable-held : (kind w : ℕ) → kind < 6 → Storable kind w → Held kind w
+pub storable-held : (kind w : ℕ) → kind < 6 → Storable kind w → KindHolds kind w
 storable-held kind w h s = cut-held kind w (s .0) (sym (stored-int kind w h) ∙ s .1)
 
 pub storable-float : (kind w : ℕ) → 6 ≤ kind → Storable kind w

@@ -23,14 +23,14 @@ use Rattle.lerc_bits.specs.Bits.{countBytes, plainPlan, tablePlan, fits, tabled
 use Rattle.lerc_ranges.specs.Ranges.{constantWords}
 use Rattle.lerc_block.specs.Block.{Block, tileLimit, stepValue, rawWords, levelBlock, steppedBlock, offsetAt, finiteOffset, offsetBlock, formed, flagAt, blockSays, readBlockSays}
 use Rattle.lerc_block.specs.Plan.{rawPlan, finiteWord, steppedPlan, offsetPlan, formPlan, planAt, planSays}
-use Rattle.lerc_block.proofs.Answers.{offset-is, finite-is, flag-is}
+use Rattle.lerc_block.proofs.Returns.{offset-is, finite-is, flag-is}
 use Rattle.lerc_theorems.specs.BlockTable.{WordRefused, word-wide, word-cut, SampleRefused, sample-cut, StoredRefused, not-finite, out-of-range, IntegerRefused, no-integer, not-stored, KindRefused, no-kind, ConstantsRefused, not-constant, TabledRefused, no-bits, entries-cut, entries-few, table-cut, PackedRefused, plain-cut, not-tabled, PlanRefused, counts-cut, width-wrong, count-cut, count-large, packed-refused, CountsRefused, not-planned, index-large, LevelsRefused, level-refused, counts-refused, miscounted-block, value-refused, OffsetRefused, kind-refused, offset-cut, offset-not-finite, levels-refused, BlockRefused, flag-cut, check-wrong, raw-cut, offset-refused, ReadBlockRefused, tile-large, not-read, PlannedRefused, plan-loose, planned-index, OffsetPlanRefused, plan-kind, plan-offset-cut, plan-not-finite, plan-counts, BlockPlanRefused, plan-tile-large, plan-flag-cut, plan-check-wrong, plan-raw-cut, plan-offset}
-use Rattle.lerc_theorems.proofs.Demands.{demand, reading, reading-one, choosing, not-refused, One, one-ok, one-require, one-bind, one-cond}
+use Rattle.lerc_theorems.proofs.Demands.{demand, reading, reading-one, choosing, not-refused, OnlyNumber, one-ok, one-require, one-bind, one-cond}
 
 -- ---- words and values
 
 -- a word that cannot be read is 1
-pub word-one : (n : ℕ) (s : List ℕ) (at : ℕ) → One 1 (wordAt n s at)
+pub word-one : (n : ℕ) (s : List ℕ) (at : ℕ) → OnlyNumber 1 (wordAt n s at)
 word-one n s at r e = let w = wordAt-no n s at (wordAt-fails n s at e) in cc
 
 module _ (s : List ℕ) (at size : ℕ) where
@@ -96,7 +96,7 @@ module _ (kind v : ℕ) where
   pub stored-exactly : (n : Refusal) → (stored kind v ≡ fail n) ↔ StoredRefused kind v n
   stored-exactly n = (stored-refused, refused-stored)
 
-  stored-nine : One 9 (stored kind v)
+  stored-nine : OnlyNumber 9 (stored kind v)
   unfolding stored cut
   stored-nine =
       let t = ltb kind 6 && finite v && ltb (whole v) (bound kind (negative v)) in
@@ -128,7 +128,7 @@ module _ (f : ℕ → Res ℕ) where
       go (fail q) d h e = let z : q ≡ n = cc in (0, omega arith, d ∙ ap fail z)
       go (ok w) d h e = let (i, l, p) = h (bind-fail (each f vs) _ e) in (suc i, omega arith, p)
 
-  refused-each : (vs : List ℕ) (n i : ℕ) → ((v : ℕ) → One n (f v)) → i < length vs → f (getD vs i 0) ≡ fail (refuse n) → each f vs ≡ fail (refuse n)
+  refused-each : (vs : List ℕ) (n i : ℕ) → ((v : ℕ) → OnlyNumber n (f v)) → i < length vs → f (getD vs i 0) ≡ fail (refuse n) → each f vs ≡ fail (refuse n)
   unfolding each
   refused-each [] n i u l e = absurd (omega arith)
   refused-each (v ∷ vs) n zero u l e = rw (e)

@@ -174,7 +174,7 @@ module _ (s : List ℕ) (h : Header) (m : List ℕ) (y : Body) where
 
 -- ---- a body in blocks
 
-pub record Coded (s : List ℕ) (h : Header) (m : List ℕ) (c : Chain) : Type 0 where
+pub record BlocksCoded (s : List ℕ) (h : Header) (m : List ℕ) (c : Chain) : Type 0 where
   pub some : h .valid ≡ 0 → ⊥
   pub ranges : Ranges
   pub read : rangesSays s h ≡ ok ranges
@@ -201,23 +201,23 @@ module _ (s : List ℕ) (h : Header) (m : List ℕ) (c : Chain) where
       let z : d ≡ c = cc in
       (at, refl, p ∙ ap ok z)
 
-  pub coded-is : bodySays s h m ≡ ok (blocks c) → Coded s h m c
+  pub coded-is : bodySays s h m ≡ ok (blocks c) → BlocksCoded s h m c
   unfolding bodySays sweptBody
   coded-is = valid (eqb (h .valid) 0) refl
     where
-      from : (r : Ranges) → rangesSays s h ≡ ok r → (t : Bool) → r .constant ≡ t → (h .valid ≡ 0 → ⊥) → cond t (constantBody h r) (sweptBody s h r m) ≡ ok (blocks c) → Coded s h m c
+      from : (r : Ranges) → rangesSays s h ≡ ok r → (t : Bool) → r .constant ≡ t → (h .valid ≡ 0 → ⊥) → cond t (constantBody h r) (sweptBody s h r m) ≡ ok (blocks c) → BlocksCoded s h m c
       from r p true q v e = absurd (not-constant r e)
       from r p false q v e =
           let (w, sw, e) = bind-is (swept s (h .kind) (h .error) (r .at)) _ e in
           let (at, u, a) = way-is r w e in
           record { some = v; ranges = r; read = p; coded = q; from = at; sweep = rw (u) at sw; is = a }
 
-      valid : (t : Bool) → eqb (h .valid) 0 ≡ t → cond t (ok empty) (rangesSays s h >>= λ r. cond (r .constant) (constantBody h r) (sweptBody s h r m)) ≡ ok (blocks c) → Coded s h m c
+      valid : (t : Bool) → eqb (h .valid) 0 ≡ t → cond t (ok empty) (rangesSays s h >>= λ r. cond (r .constant) (constantBody h r) (sweptBody s h r m)) ≡ ok (blocks c) → BlocksCoded s h m c
       valid true q e = absurd (let z : _≡_ {A = ℕ} 0 1 = cc in omega arith)
       valid false q e =
           let (r, p, e) = bind-is (rangesSays s h) _ e in
           from r p (r .constant) refl (eqb-false (h .valid) 0 q) e
 
-  pub coded-says : Coded s h m c → bodySays s h m ≡ ok (blocks c)
+  pub coded-says : BlocksCoded s h m c → bodySays s h m ≡ ok (blocks c)
   unfolding bodySays sweptBody blockBody
   coded-says k = rw (ne-eqb (h .valid) 0 (k .some), k .read, k .coded, k .sweep, k .is)

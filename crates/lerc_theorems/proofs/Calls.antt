@@ -18,13 +18,13 @@ use Rattle.lerc_validity.specs.Validity.{prepareSays, Prepared, inForce}
 use Rattle.lerc_ranges.specs.Ranges.{readRangesSays, rangesSaid}
 use Rattle.lerc_image.specs.declared.WalkAnswer.{WalkAnswer}
 use Rattle.lerc_image.specs.declared.FillAnswer.{FillAnswer}
-use Rattle.lerc_image.specs.Walk.{Walked}
+use Rattle.lerc_image.specs.Walk.{BlocksWalked}
 use Rattle.lerc_image.specs.Fill.{Filled}
 use Rattle.lerc_image.specs.Tiles.{tilesSays, Tiled}
 use Rattle.lerc_fills.specs.Each.{fillEach, EachFilled}
 use Rattle.lerc.specs.declared.ReadAnswer.{ReadAnswer}
 use Rattle.lerc.specs.Read.{Lent, WholeRead}
-use Rattle.lerc_theorems.specs.Calls.{Call, HeaderCall, PrepareCall, HandedCall, RangesCall, RangesFrom, WalkCall, FillCall, FillCalls, none, more, EachCall, TilesCall, ReadCall}
+use Rattle.lerc_theorems.specs.Calls.{Call, HeaderCall, PrepareCall, HandedCall, RangesCall, ReadRanges, WalkCall, FillCall, FillCalls, none, more, EachCall, TilesCall, ReadCall}
 
 -- what a promise says of what the inputs hold, of the answer as told and of what the outputs hold
 promise : {K A R O S B T : Type 0} {Post : K → A → R → O → Type 0} {gave : A → S} {told : R → B} {left : O → T} {given : S} {said : B} {after : T} (P : S → B → T → Type 0)
@@ -47,8 +47,8 @@ handed-call = promise (λ g r x. r ≡ inForce (g .2) (g .0) (g .1)) (λ k a r x
 pub ranges-call : {b : List ℕ} {h : Header} {r : RangesRead} → RangesCall b h r → r ≡ rangesSaid (readRangesSays b h)
 ranges-call = promise (λ g r x. r ≡ rangesSaid (readRangesSays (g .0) (g .1))) (λ k a r x p. p)
 
-pub walk-call : {b : List ℕ} {h : Header} {g : Ranges} {m : List ℕ} {r : WalkAnswer} {old new : List ℕ} → WalkCall b h g m r old new → Walked b h g m r old new
-walk-call = promise (λ g r x. Walked (g .0) (g .1) (g .2) (g .3) r (g .4) x) (λ k a r x p. p)
+pub walk-call : {b : List ℕ} {h : Header} {g : Ranges} {m : List ℕ} {r : WalkAnswer} {old new : List ℕ} → WalkCall b h g m r old new → BlocksWalked b h g m r old new
+walk-call = promise (λ g r x. BlocksWalked (g .0) (g .1) (g .2) (g .3) r (g .4) x) (λ k a r x p. p)
 
 pub fill-call : {b : List ℕ} {h : Header} {g : Ranges} {m list : List ℕ} {n : ℕ} {r : FillAnswer} {old new : List ℕ} → FillCall b h g m list n r old new → Filled b h g m list n r old new
 fill-call = promise (λ g r x. Filled (g .0) (g .1) (g .2) (g .3) (g .4) (g .5) r (g .6) x) (λ k a r x p. p)
@@ -64,7 +64,7 @@ pub read-call : {b : List ℕ} {reuse : Bool} {r : ReadAnswer} {old new : Lent} 
 read-call = promise (λ g r x. WholeRead (g .0) (g .1) r (g .2) x) (λ k a r x p. p)
 
 -- ranges that were read are those that the blob has
-pub ranges-from : {b : List ℕ} {h : Header} {r : Ranges} → RangesFrom b h r → readRangesSays b h ≡ ok r
+pub ranges-from : {b : List ℕ} {h : Header} {r : Ranges} → ReadRanges b h r → readRangesSays b h ≡ ok r
 ranges-from {b} {h} {r} c = go (readRangesSays b h) (ranges-call c)
   where
     go : (m : Res Ranges) → record { answer = ranges-answer.Read; ranges = r } ≡ rangesSaid m → m ≡ ok r

@@ -22,7 +22,7 @@ use Rattle.lerc_image.specs.declared.FillAnswer.{FillAnswer}
 use Rattle.lerc_image.specs.declared.FillAnswer.the-variants as fill-answer
 use Rattle.lerc_image.specs.declared.WalkAnswer.{WalkAnswer}
 use Rattle.lerc_image.specs.declared.WalkAnswer.the-variants as walk-answer
-use Rattle.lerc_image.specs.Geometry.{blockOf, tileOf, tileValid, isValidCell}
+use Rattle.lerc_image.specs.Geometry.{blockOf, tileOf, validInTile, isValidCell}
 use Rattle.lerc_image.specs.Paint.{among, painted, wordOf, fills}
 use Rattle.lerc_image.specs.Blocks.{Chain}
 use Rattle.lerc_image.specs.Fill.{fillSays, fillCount, fillSaid, fillImage}
@@ -41,9 +41,9 @@ use Rattle.lerc.specs.declared.ReadAnswer.{ReadAnswer}
 use Rattle.lerc.specs.Meaning.{Meaning, blocks, cellWord}
 use Rattle.lerc.specs.Read.{Lent, room, masked, readSays, published, readAfter}
 use Rattle.lerc_theorems.specs.Calls.{EachCall, TilesCall, ReadCall, WalkCall}
-use Rattle.lerc_theorems.specs.DemandThree.{Case, Opened, Fill, Fills, DemandThree, shape, inMask, blocksOf, reported, below}
+use Rattle.lerc_theorems.specs.DemandThree.{Case, Opened, CaseFill, CaseFills, DemandThree, shape, inMask, blocksOf, reported, below}
 use Rattle.lerc_theorems.specs.DemandTwo.{Roomy}
-use Rattle.lerc_theorems.proofs.Answers.{fill-same, walk-same}
+use Rattle.lerc_theorems.proofs.SameAnswers.{fill-same, walk-same}
 use Rattle.lerc_theorems.proofs.Calls.{prepare-call, handed-call, ranges-from, walk-call, fill-call, fill-calls, each-call, tiles-call, read-call}
 use Rattle.lerc_theorems.proofs.Longer.{MaskAlike, alike-take, tile-same, valid-same, index-same, chain-same as longer-chain, fill-same as longer-fill, image-same as longer-image, each-same as longer-each, filled-same as longer-count}
 use Rattle.lerc_theorems.proofs.Meanings.{Means, meaning-is, mask-kept, read-is}
@@ -71,13 +71,13 @@ module _ (x : Case) (o : Opened x) where
 
   -- ---- one fill
 
-  module _ (n : ℕ) (said : FillAnswer) (new : List ℕ) (f : Fill x n said (x .image) new) where
+  module _ (n : ℕ) (said : FillAnswer) (new : List ℕ) (f : CaseFill x n said (x .image) new) where
     says : fillSaid said ≡ (fillSays (x .blob) (x .header) (x .ranges) (inMask x) (x .list) n (length (x .image)) >>= fillCount (x .header) (x .mask) n)
     says = fill-call f .says ∙ rw (longer-fill (x .blob) (x .header) (walk .kept) (x .mask) (inMask x) alike (x .ranges) (x .list) n (length (x .image)))
 
-    accepts : n < blocksOf x → said ≡ fill-answer.Filled (tileValid (shape x) (inMask x) (tileOf (shape x) n))
+    accepts : n < blocksOf x → said ≡ fill-answer.Filled (validInTile (shape x) (inMask x) (tileOf (shape x) n))
     accepts l =
-        fill-same said (fill-answer.Filled (tileValid (shape x) (inMask x) (tileOf (shape x) n)))
+        fill-same said (fill-answer.Filled (validInTile (shape x) (inMask x) (tileOf (shape x) n)))
         (says ∙ rw (fill-ok _ _ _ _ _ _ walk (x .list) (o .long) (o .starts) n (length (x .image)) l (o .room), tile-same (shape x) shaped (x .mask) (inMask x) alike n l))
 
     refuses : blocksOf x ≤ n → (said ≡ fill-answer.Refused (refuse 11)) × (new ≡ x .image)
@@ -88,10 +88,10 @@ module _ (x : Case) (o : Opened x) where
           fill-call f .image ∙ longer-image (x .blob) (x .header) (walk .kept) (x .mask) (inMask x) alike (x .ranges) (x .list) n (x .image) ∙ rw (e),
         )
 
-  words-add : (said : ℕ → FillAnswer) (new : ℕ → List ℕ) → ((n : ℕ) → n < blocksOf x → Fill x n (said n) (x .image) (new n))
+  words-add : (said : ℕ → FillAnswer) (new : ℕ → List ℕ) → ((n : ℕ) → n < blocksOf x → CaseFill x n (said n) (x .image) (new n))
       → total (blocksOf x) (λ n. reported (said n)) ≡ x .header .valid * x .header .depth
   words-add said new f =
-      total-same (blocksOf x) _ (λ n. tileValid (shape x) (inMask x) (tileOf (shape x) n)) (λ n l. ap reported (accepts n (said n) (new n) (f n l) l))
+      total-same (blocksOf x) _ (λ n. validInTile (shape x) (inMask x) (tileOf (shape x) n)) (λ n l. ap reported (accepts n (said n) (new n) (f n l) l))
       ∙ sums.words-sum (shape x) shaped (inMask x)
       ∙ ap (λ (v : ℕ). v * x .header .depth) (right .counts)
 
@@ -109,7 +109,7 @@ module _ (x : Case) (o : Opened x) where
       longer-each (x .blob) (x .header) (walk .kept) (x .mask) (inMask x) alike (x .ranges) (x .list) ns (x .image)
       ∙ each-is _ _ _ _ _ _ walk (x .list) (o .long) (o .starts) ns (x .image) (o .room)
 
-  module _ (ns new : List ℕ) (f : Fills x ns new) where
+  module _ (ns new : List ℕ) (f : CaseFills x ns new) where
     is : new ≡ filledBy ns
     is = fill-calls ns (x .image) new f ∙ each ns
 
@@ -185,7 +185,7 @@ module _ (x : Case) (o : Opened x) where
         λ c l. rw (i) (painted-cell (x .image) (wordOf (shape x) (x .mask) words) (isValidCell (shape x) (x .mask)) c l ∙ word-same c),
       )
 
-  order : (ns ms new other : List ℕ) → Fills x ns new → Fills x ms other → ((n : ℕ) → n < blocksOf x → among ns n ≡ among ms n) → new ≡ other
+  order : (ns ms new other : List ℕ) → CaseFills x ns new → CaseFills x ms other → ((n : ℕ) → n < blocksOf x → among ns n ≡ among ms n) → new ≡ other
   order ns ms new other f g e = is ns new f ∙ fills-laws.fills-order (shape x) shaped (inMask x) words ns ms (x .image) e ∙ sym (is ms other g)
 
 listed : (b : List ℕ) (h : Header) (r : Ranges) (m old new : List ℕ) (n end : ℕ) (c : Chain) → WalkCall b h r m (walk-answer.Walked n end) old new → walkSays b h r m (length old) ≡ ok c

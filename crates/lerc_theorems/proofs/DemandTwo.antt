@@ -26,7 +26,7 @@ use Rattle.lerc_ranges.specs.declared.Ranges.{Ranges}
 use Rattle.lerc_ranges.specs.declared.RangesRead.{RangesRead}
 use Rattle.lerc_validity.specs.declared.MaskAnswer.{MaskAnswer}
 use Rattle.lerc_validity.specs.declared.MaskAnswer.the-variants as mask-answer
-use Rattle.lerc_validity.specs.Validity.{InForce, bytesOf, spareWith, which as answered, prepareSays, inForce}
+use Rattle.lerc_validity.specs.Validity.{MaskInForce, bytesOf, spareWith, which as answered, prepareSays, inForce}
 use Rattle.lerc_ranges.specs.Ranges.{readRangesSays, rangesSaid}
 use Rattle.lerc_validity.proofs.Prepared.{prepare-found, mask-length}
 use Rattle.lerc_image.specs.declared.WalkAnswer.{WalkAnswer}
@@ -46,13 +46,13 @@ use Rattle.lerc.specs.Meaning.{blocks, Meaning, startsOf, cellWord, meaning}
 use Rattle.lerc.specs.Read.{Lent, room, masked, published, readAfter, readSaid, readCount, WholeRead}
 use Rattle.lerc_ranges.proofs.Judged.{ranges-held}
 use Rattle.lerc_theorems.specs.Promises.{lent}
-use Rattle.lerc_theorems.specs.Calls.{HeaderCall, PrepareCall, HandedCall, RangesFrom, WalkCall, FillCalls, ReadCall}
+use Rattle.lerc_theorems.specs.Calls.{HeaderCall, PrepareCall, HandedCall, ReadRanges, WalkCall, FillCalls, ReadCall}
 use Rattle.lerc_theorems.specs.DemandTwo.{Roomy, Exact, WalkAndFills, WalkMeans, DemandTwo}
 use Rattle.lerc_theorems.specs.DemandThree.{Case, Opened}
-use Rattle.lerc_theorems.proofs.Answers.{header-same, mask-same, walk-same, read-same}
+use Rattle.lerc_theorems.proofs.SameAnswers.{header-same, mask-same, walk-same, read-same}
 use Rattle.lerc_theorems.proofs.Calls.{header-call, prepare-call, handed-call, ranges-call, ranges-from, walk-call, read-call}
 use Rattle.lerc_theorems.proofs.Longer.{alike-take, walk-same as longer-walk}
-use Rattle.lerc_theorems.proofs.Bodies.{Coded, coded-is, starts-up, starts-end}
+use Rattle.lerc_theorems.proofs.Bodies.{BlocksCoded, coded-is, starts-up, starts-end}
 use Rattle.lerc_theorems.proofs.Meanings.{Means, meaning-is, means-is, keeps, mask-kept, ends, Rooms, rooms, read-is, meaning-same, means-front}
 use Rattle.lerc_theorems.proofs.Nine.{nine-flat, flat-nine}
 use Rattle.lerc_theorems.proofs.Fills.{walk-is, walked-body, means-walking, walking-says, left-is, left-long, left-starts}
@@ -145,11 +145,11 @@ module _ (b : List ℕ) (reuse : Bool) (r : ReadAnswer) (old new : Lent) (w : Wh
 
 -- ---- a body in blocks
 
-module _ (b : List ℕ) (reuse : Bool) (kept : List ℕ) (h : Header) (f : InForce) (c : Chain) (e : meaning b reuse kept ≡ ok (record { header = h; mask = f; body = blocks c })) where
+module _ (b : List ℕ) (reuse : Bool) (kept : List ℕ) (h : Header) (f : MaskInForce) (c : Chain) (e : meaning b reuse kept ≡ ok (record { header = h; mask = f; body = blocks c })) where
   parts : Means b reuse kept (record { header = h; mask = f; body = blocks c })
   parts = meaning-is b reuse kept _ e
 
-  coded : Coded (take (h .size) b) h (bytesOf f) c
+  coded : BlocksCoded (take (h .size) b) h (bytesOf f) c
   coded = coded-is (take (h .size) b) h (bytesOf f) c (parts .body)
 
   rise : (length (c .starts) ≡ blockCount (shapeOf h)) × ((i j : ℕ) → i < j → j < length (c .starts) → getD (c .starts) i 0 < getD (c .starts) j 0)
@@ -172,7 +172,7 @@ named (suc k) i n l q = go (decLt i n) (λ p. named k (suc i) n p (omega arith))
     go (yes p) r = rw (r p) (or-true (eqb n i))
     go (no p) r = let z : n ≡ i = omega arith in rw (eq-eqb n i z)
 
-module _ (b : List ℕ) (reuse : Bool) (r : ReadAnswer) (old new : Lent) (h : Header) (f : InForce) (c : Chain) (z : ReadCall b reuse r old new) (y : Roomy b old)
+module _ (b : List ℕ) (reuse : Bool) (r : ReadAnswer) (old new : Lent) (h : Header) (f : MaskInForce) (c : Chain) (z : ReadCall b reuse r old new) (y : Roomy b old)
     (e : meaning b reuse (old .kept) ≡ ok (record { header = h; mask = f; body = blocks c })) where
   abbrev whole : Meaning
   whole = record { header = h; mask = f; body = blocks c }
@@ -197,7 +197,7 @@ module _ (b : List ℕ) (reuse : Bool) (r : ReadAnswer) (old new : Lent) (h : He
   read = ranges-held b h hold ∙ coded b reuse (old .kept) h f c e .read
 
   -- with the ranges that were read
-  module _ (g : Ranges) (q : RangesFrom b h g) where
+  module _ (g : Ranges) (q : ReadRanges b h g) where
     walks : walkSays b h g (bytesOf f) (length (old .list)) ≡ ok c
     walks = walking-says b h g (bytesOf f) (length (old .list)) c (means-walking b reuse (old .kept) h f c e (o .kept) g (ranges-from q) (length (old .list)) (o .list))
 
@@ -242,7 +242,7 @@ module _ (b : List ℕ) (reuse : Bool) (r : ReadAnswer) (old new : Lent) (h : He
   by-mask : (said : MaskAnswer) (spare m : List ℕ) → PrepareCall b h reuse (old .kept) said (old .spare) spare → HandedCall (old .kept) spare said m → (m ≡ bytesOf f) × (spare ≡ new .spare)
   by-mask said spare m k q = (
     demand-three .mask-handed b h reuse (old .kept) (old .spare) spare m f said k q prepared,
-    prepare-call k .spare ∙ ap (λ (x : Res InForce). after x (old .spare) (λ i. spareWith i (old .spare))) prepared ∙ sym (left-so .spare),
+    prepare-call k .spare ∙ ap (λ (x : Res MaskInForce). after x (old .spare) (λ i. spareWith i (old .spare))) prepared ∙ sym (left-so .spare),
   )
 
   by-parts : WalkAndFills b reuse old new h f c
@@ -268,14 +268,14 @@ some-byte : (h : Shape) → Shaped h → 0 < maskLength h
 some-byte h s = let z = mul-le-mul (s .rows .0) (s .columns .0) in omega (arith, z)
 
 module _ (b : List ℕ) (reuse : Bool) (kept : List ℕ) (h : Header) (said : MaskAnswer) (spare prepared m q : List ℕ) (r : Ranges) (n end : ℕ) (old new : List ℕ) (at-header : HeaderCall b (header-answer.Read h))
-    (at-mask : PrepareCall b h reuse kept said spare prepared) (at-part : HandedCall kept prepared said m) (at-ranges : RangesFrom b h r) (longer : take (maskLength (shapeOf h)) q ≡ m)
+    (at-mask : PrepareCall b h reuse kept said spare prepared) (at-part : HandedCall kept prepared said m) (at-ranges : ReadRanges b h r) (longer : take (maskLength (shapeOf h)) q ≡ m)
     (at-walk : WalkCall b h r q (walk-answer.Walked n end) old new) where
   -- a refused mask hands nothing back, and a walk asks for a mask
-  accepted-mask : (x : Res InForce) → prepareSays b h reuse kept (length spare) ≡ x → maskLength (shapeOf h) ≤ length q → 0 < maskLength (shapeOf h) → (f : InForce) × (prepareSays b h reuse kept (length spare) ≡ ok f)
+  accepted-mask : (x : Res MaskInForce) → prepareSays b h reuse kept (length spare) ≡ x → maskLength (shapeOf h) ≤ length q → 0 < maskLength (shapeOf h) → (f : MaskInForce) × (prepareSays b h reuse kept (length spare) ≡ ok f)
   unfolding inForce
   accepted-mask (ok f) e l k = (f, e)
   accepted-mask (fail why) e l k =
-      let s : said ≡ mask-answer.Refused why = mask-same said (mask-answer.Refused why) (prepare-call at-mask .says ∙ ap (λ (x : Res InForce). x >>= answered) e) in
+      let s : said ≡ mask-answer.Refused why = mask-same said (mask-answer.Refused why) (prepare-call at-mask .says ∙ ap (λ (x : Res MaskInForce). x >>= answered) e) in
       let i : m ≡ [] = handed-call at-part ∙ ap (λ (x : MaskAnswer). inForce x kept prepared) s in
       let z : min (maskLength (shapeOf h)) (length q) ≡ 0 = sym (length-take (maskLength (shapeOf h)) q) ∙ ap length (longer ∙ i) in
       absurd (omega arith)

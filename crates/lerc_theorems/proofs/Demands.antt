@@ -50,20 +50,20 @@ and-second false b e = refl
 
 -- ---- an answer that is refused with one number only
 
-abbrev pub One : {A : Type 0} → ℕ → Res A → Type 0
-One n m = (r : Refusal) → m ≡ fail r → r ≡ refuse n
+abbrev pub OnlyNumber : {A : Type 0} → ℕ → Res A → Type 0
+OnlyNumber n m = (r : Refusal) → m ≡ fail r → r ≡ refuse n
 
-pub one-ok : {A : Type 0} (n : ℕ) (a : A) → One n (ok a)
+pub one-ok : {A : Type 0} (n : ℕ) (a : A) → OnlyNumber n (ok a)
 one-ok n a r e = not-refused e
 
-pub one-require : (n : ℕ) (t : Bool) → One n (require t n)
+pub one-require : (n : ℕ) (t : Bool) → OnlyNumber n (require t n)
 one-require n true r e = not-refused e
 one-require n false r e = cc
 
-pub one-bind : {A B : Type 0} (n : ℕ) (m : Res A) (k : A → Res B) → One n m → ((a : A) → One n (k a)) → One n (m >>= k)
+pub one-bind : {A B : Type 0} (n : ℕ) (m : Res A) (k : A → Res B) → OnlyNumber n m → ((a : A) → OnlyNumber n (k a)) → OnlyNumber n (m >>= k)
 one-bind n (ok a) k u v r e = v a r e
 one-bind n (fail q) k u v r e = let z : q ≡ r = cc in u r (ap fail z)
 
-pub one-cond : {A : Type 0} (n : ℕ) (t : Bool) {x y : Res A} → One n x → One n y → One n (cond t x y)
+pub one-cond : {A : Type 0} (n : ℕ) (t : Bool) {x y : Res A} → OnlyNumber n x → OnlyNumber n y → OnlyNumber n (cond t x y)
 one-cond n true u v = u
 one-cond n false u v = v

@@ -5,27 +5,27 @@ use mathlib.Core.Bool.{Bool}
 use mathlib.Core.List.{List}
 use Prim.Native.Nat.{ℕ}
 use Rattle.lerc_words.specs.Res.{Res}
-use Rattle.lerc_bits.proofs.Answers.{plan-same, decoded-same}
+use Rattle.lerc_bits.proofs.Returns.{plan-same, decoded-same}
 use Rattle.lerc_text.proofs.Putting.{put-same}
 use Rattle.lerc_header.specs.declared.Header.{Header}
 use Rattle.lerc_mask.proofs.Passes.{unrolled-same}
 use Rattle.lerc_ranges.specs.declared.Ranges.{Ranges}
 use Rattle.lerc_validity.proofs.Prepared.{prepared-same}
-use Rattle.lerc_block.proofs.Answers.{said-same as block-same, read-same as block-read-same}
+use Rattle.lerc_block.proofs.Returns.{said-same as block-same, read-same as block-read-same}
 use Rattle.lerc_image.specs.declared.WalkAnswer.{WalkAnswer}
 use Rattle.lerc_image.specs.declared.FillAnswer.{FillAnswer}
 use Rattle.lerc_image.specs.Blocks.{Chain}
-use Rattle.lerc_image.specs.Walk.{Walked}
+use Rattle.lerc_image.specs.Walk.{BlocksWalked}
 use Rattle.lerc_image.specs.Fill.{Filled}
 use Rattle.lerc_image.specs.Tiles.{Tiled}
 use Rattle.lerc.specs.declared.ReadAnswer.{ReadAnswer}
 use Rattle.lerc.specs.Read.{Lent, WholeRead}
 use Rattle.lerc_theorems.specs.Promises.{Answers, NoRoom, NoRoomInC}
-use Rattle.lerc_theorems.proofs.Answers.{block-plan-same, word-same, integer-same, offset-same, sample-same, stored-same, header-same, open-same, held-same, pairs-same, way-same, walk-same, fill-same, read-same, counts-same}
+use Rattle.lerc_theorems.proofs.SameAnswers.{block-plan-same, word-same, integer-same, offset-same, sample-same, stored-same, header-same, open-same, held-same, pairs-same, way-same, walk-same, fill-same, read-same, counts-same}
 
 -- ---- promises of an answer and of lent slices
 
-walked-same : {b : List ℕ} {h : Header} {g : Ranges} {m : List ℕ} {r q : WalkAnswer} {old x y : List ℕ} → Walked b h g m r old x → Walked b h g m q old y → (r ≡ q) × (x ≡ y)
+walked-same : {b : List ℕ} {h : Header} {g : Ranges} {m : List ℕ} {r q : WalkAnswer} {old x y : List ℕ} → BlocksWalked b h g m r old x → BlocksWalked b h g m q old y → (r ≡ q) × (x ≡ y)
 walked-same {r = r} {q = q} s t = (walk-same r q (s .says ∙ sym (t .says)), s .list ∙ sym (t .list))
 
 filled-same : {b : List ℕ} {h : Header} {g : Ranges} {m list : List ℕ} {n : ℕ} {r q : FillAnswer} {old x y : List ℕ} → Filled b h g m list n r old x → Filled b h g m list n q old y → (r ≡ q) × (x ≡ y)

@@ -22,7 +22,7 @@ use Rattle.lerc_ranges.specs.declared.Ranges.{Ranges}
 use Rattle.lerc_validity.specs.Validity.{bytesOf, maskSays}
 use Rattle.lerc_ranges.specs.Ranges.{pairsRight, rangesSays, constantWords}
 use Rattle.lerc_block.specs.Block.{Block, rawWords}
-use Rattle.lerc_image.specs.Geometry.{tileOf, tileValid}
+use Rattle.lerc_image.specs.Geometry.{tileOf, validInTile}
 use Rattle.lerc_sweep.specs.Sweep.{Way, rawFrom, blocksFrom, hasModeByte, modeAt, moded, swept}
 use Rattle.lerc_image.specs.Blocks.{Chain, blockAt, chain, allBlocks}
 use Rattle.lerc_image.specs.Walk.{wayWalked, bodyWalked, walkSays}
@@ -84,7 +84,7 @@ module _ (s : List ℕ) (h : Header) (maxima m : List ℕ) where
   unfolding blockAt
   block-at-exactly n at j =
       let t = tileOf (shapeOf h) n in
-      block-exactly s (h .kind) (h .error) (getD maxima (t .d) 0) at (t .x) (tileValid (shapeOf h) m t) j
+      block-exactly s (h .kind) (h .error) (getD maxima (t .d) 0) at (t .x) (validInTile (shapeOf h) m t) j
 
   chain-refused : {j : Refusal} (f n at : ℕ) → chain s h maxima m f n at ≡ fail j → ChainRefused s h maxima m f n at j
   unfolding chain

@@ -32,8 +32,8 @@ use Rattle.lerc_image.specs.Fill.{fillSays, fillCount, fillSaid, fillImage}
 use Rattle.lerc_fills.specs.Each.{fillEach}
 use Rattle.lerc.specs.Meaning.{blockBody, sweptBody, bodySays, meaningFrom, meaning}
 use Rattle.lerc_theorems.specs.Witness.{grid}
-use Rattle.lerc_theorems.specs.Calls.{RangesFrom, FillCall, FillCalls, none, more}
-use Rattle.lerc_theorems.specs.DemandThree.{Case, Opened, Fills}
+use Rattle.lerc_theorems.specs.Calls.{ReadRanges, FillCall, FillCalls, none, more}
+use Rattle.lerc_theorems.specs.DemandThree.{Case, Opened, CaseFills}
 use Rattle.lerc_theorems.proofs.Calls.{fill-calls}
 
 -- ---- calls, wherever the slices stand
@@ -41,7 +41,7 @@ use Rattle.lerc_theorems.proofs.Calls.{fill-calls}
 abbrev lent : List ℕ → RefT (List ℕ)
 lent s = record { ptr = (0, 0); name = 0; now = s }
 
-ranges-call : (b : List ℕ) (h : Header) (r : Ranges) → readRangesSays b h ≡ ok r → RangesFrom b h r
+ranges-call : (b : List ℕ) (h : Header) (r : Ranges) → readRangesSays b h ≡ ok r → ReadRanges b h r
 ranges-call b h r e = record {
   lives = (b, tt);
   inputs = (lent b, (h, tt));
@@ -121,10 +121,10 @@ opened = record {
 abbrev some : List ℕ
 some = 7 ∷ 0 ∷ 7 ∷ 9 ∷ []
 
-pub some-calls : Fills example some (fillEach (example .blob) (example .header) (example .ranges) (example .mask) (example .list) some (example .image))
+pub some-calls : CaseFills example some (fillEach (example .blob) (example .header) (example .ranges) (example .mask) (example .list) some (example .image))
 some-calls = fills-made (example .blob) (example .header) (example .ranges) (example .mask) (example .list) some (example .image)
 
-pub some-filled : (left : List ℕ) → Fills example some left → left ≡ 1 ∷ 9 ∷ 9 ∷ 9 ∷ 9 ∷ 9 ∷ 9 ∷ 8 ∷ 9 ∷ []
+pub some-filled : (left : List ℕ) → CaseFills example some left → left ≡ 1 ∷ 9 ∷ 9 ∷ 9 ∷ 9 ∷ 9 ∷ 9 ∷ 8 ∷ 9 ∷ []
 unfolding bytesOf wordAt little each from count allTo mag code sum scaled less same lesser integer valueOf whole cut sampleAt stored offsetKinds offsetKind pixelValid strips errorRight pairRight
     fieldsRight withinCeilings held keyRight headerOf numberAt byDepth codedRanges pairsRight levelBlock offsetAt finiteOffset offsetBlock formed flagAt blockSays tileOf pixelOf blockOf placeIn rank
     isValidCell painted inBlock indexOf blockAt fillSays fillImage fillEach size span climb

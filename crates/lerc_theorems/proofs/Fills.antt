@@ -18,7 +18,7 @@ use Rattle.lerc_header.specs.Shape.{cells, blockCount, maskLength, Shaped}
 use Rattle.lerc_header.specs.Header.{shapeOf, extentOf, held}
 use Rattle.lerc_header.proofs.Kept.{held-is, held-shaped}
 use Rattle.lerc_ranges.specs.declared.Ranges.{Ranges}
-use Rattle.lerc_validity.specs.Validity.{InForce, bytesOf}
+use Rattle.lerc_validity.specs.Validity.{MaskInForce, bytesOf}
 use Rattle.lerc_ranges.specs.Ranges.{pairsRight, readRangesSays}
 use Rattle.lerc_image.specs.Paint.{filledBlock, fills}
 use Rattle.lerc_sweep.specs.Sweep.{Way, rawFrom, blocksFrom, swept}
@@ -99,7 +99,7 @@ walked-body b h r m entries c w e =
     is-false false q = refl
 
 -- a body in blocks is wayWalked, with the ranges that it has
-pub means-walking : (b : List ℕ) (reuse : Bool) (kept : List ℕ) (h : Header) (f : InForce) (c : Chain) → meaning b reuse kept ≡ ok (record { header = h; mask = f; body = blocks c })
+pub means-walking : (b : List ℕ) (reuse : Bool) (kept : List ℕ) (h : Header) (f : MaskInForce) (c : Chain) → meaning b reuse kept ≡ ok (record { header = h; mask = f; body = blocks c })
     → maskLength (shapeOf h) ≤ length kept → (r : Ranges) → readRangesSays b h ≡ ok r → (entries : ℕ) → blockCount (shapeOf h) ≤ entries → Walking b h r (bytesOf f) entries c
 means-walking b reuse kept h f c e l r q entries room =
     let p = meaning-is b reuse kept (record { header = h; mask = f; body = blocks c }) e in

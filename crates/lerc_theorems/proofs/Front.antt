@@ -22,7 +22,7 @@ use Rattle.lerc_bits.specs.Bits.{Counts, counts}
 use Rattle.lerc_bits.proofs.Values.{counts-ends}
 use Rattle.lerc_bits.proofs.Local.{counts-stays}
 use Rattle.lerc_block.specs.Block.{Block, Offset, rawWords, levelBlock, stepValue, steppedBlock, offsetAt, finiteOffset, offsetBlock, formed, flagAt, blockSays}
-use Rattle.lerc_block.proofs.Answers.{offset-is, finite-is, flag-is}
+use Rattle.lerc_block.proofs.Returns.{offset-is, finite-is, flag-is}
 use Rattle.lerc_block.proofs.Accepted.{block-ends}
 use Rattle.lerc_header.specs.declared.Header.{Header}
 use Rattle.lerc_header.specs.Limits.{depthLimit}

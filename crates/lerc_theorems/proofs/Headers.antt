@@ -23,7 +23,7 @@ use Rattle.lerc_mask.specs.Mask.{validBelow, coded}
 use Rattle.lerc_mask.proofs.Runs.{coded-six}
 use Rattle.lerc_validity.specs.Validity.{uniform, kept, unrolled, maskSays, findSays, prepareSays}
 use Rattle.lerc_ranges.specs.Ranges.{rangesEnd, codedRanges, pairsRight, rangesSays, rangesInSays, readRangesSays}
-use Rattle.lerc_theorems.specs.Table.{HeldRight, HeldRefused, field-wrong, ceiling-passed, blob-cut, HeaderRefused, header-cut, key-wrong, not-held, Uniform, MaskWrong, uniform-coded, not-allowed, miscounted, runs-wrong, FindRefused, find-room, section-cut, find-wrong, PrepareRefused, mask-held, mask-room, mask-wrong, RangesRefused, ranges-cut, pairs-wrong, RangesInRefused, depths-many, ranges-not-in, ReadRangesRefused, ranges-held, ranges-wrong}
+use Rattle.lerc_theorems.specs.Table.{HeldRight, HeldRefused, field-wrong, ceiling-passed, blob-cut, HeaderRefused, header-cut, key-wrong, not-held, UniformMask, MaskWrong, uniform-coded, not-allowed, miscounted, runs-wrong, FindRefused, find-room, section-cut, find-wrong, PrepareRefused, mask-held, mask-room, mask-wrong, RangesRefused, ranges-cut, pairs-wrong, RangesInRefused, depths-many, ranges-not-in, ReadRangesRefused, ranges-held, ranges-wrong}
 use Rattle.lerc_theorems.proofs.Masks.{coded-wrong, wrong-coded}
 use Rattle.lerc_theorems.proofs.Wrong.{pairs-not, not-pairs, fields-not, not-fields, ceilings-not, not-ceilings}
 use Rattle.lerc_theorems.proofs.Demands.{demand, reading, reading-one, choosing, not-refused, and-not, and-first, and-second}
@@ -94,17 +94,17 @@ module _ (s : List ℕ) (h : Header) (reuse : Bool) (old : List ℕ) where
   abbrev Wrong : Refusal → Type 0
   Wrong n = (n ≡ refuse 6) × MaskWrong s h reuse old
 
-  uniform-refused : {n : Refusal} (byte : ℕ) → Uniform h → uniform h byte ≡ fail n → Wrong n
+  uniform-refused : {n : Refusal} (byte : ℕ) → UniformMask h → uniform h byte ≡ fail n → Wrong n
   unfolding uniform
   uniform-refused byte v e = demand Wrong (eqb (h .mask) 0) 6 _ e (λ t. (refl, uniform-coded v (eqb-false _ _ t))) (λ t e. not-refused e)
 
-  kept-refused : {n : Refusal} → (Uniform h → ⊥) → h .mask ≡ 0 → kept h reuse old ≡ fail n → Wrong n
+  kept-refused : {n : Refusal} → (UniformMask h → ⊥) → h .mask ≡ 0 → kept h reuse old ≡ fail n → Wrong n
   unfolding kept
   kept-refused u z e =
       demand Wrong reuse 6 _ e (λ t. (refl, not-allowed u z t)) (λ a e.
       demand Wrong (eqb (validBelow (pixels (shapeOf h)) (take (maskLength (shapeOf h)) old)) (h .valid)) 6 _ e (λ t. (refl, miscounted u z a (eqb-false _ _ t))) (λ t e. not-refused e))
 
-  unrolled-refused : {n : Refusal} → (Uniform h → ⊥) → h .mask ≢ 0 → unrolled s h ≡ fail n → Wrong n
+  unrolled-refused : {n : Refusal} → (UniformMask h → ⊥) → h .mask ≢ 0 → unrolled s h ≡ fail n → Wrong n
   unfolding unrolled
   unrolled-refused u z e =
       let c = coded (take (h .mask) (drop headerBytes s)) (pixels (shapeOf h)) (h .valid) in
@@ -115,10 +115,10 @@ module _ (s : List ℕ) (h : Header) (reuse : Bool) (old : List ℕ) where
   mask-refused e =
       choosing Wrong (eqb (h .valid) 0) _ _ e (λ t e. uniform-refused 0 (inl (eqb-true _ _ t)) e) (λ t e.
       choosing Wrong (eqb (h .valid) (pixels (shapeOf h))) _ _ e (λ u e. uniform-refused 255 (inr (eqb-true _ _ u)) e) (λ u e.
-      let v : Uniform h → ⊥ = ⊎-elim (eqb-false _ _ t) (eqb-false _ _ u) in
+      let v : UniformMask h → ⊥ = ⊎-elim (eqb-false _ _ t) (eqb-false _ _ u) in
       choosing Wrong (eqb (h .mask) 0) _ _ e (λ z e. kept-refused v (eqb-true _ _ z) e) (λ z e. unrolled-refused v (eqb-false _ _ z) e)))
 
-  not-uniform : (Uniform h → ⊥) → maskSays s h reuse old ≡ cond (eqb (h .mask) 0) (kept h reuse old) (unrolled s h)
+  not-uniform : (UniformMask h → ⊥) → maskSays s h reuse old ≡ cond (eqb (h .mask) 0) (kept h reuse old) (unrolled s h)
   unfolding maskSays
   not-uniform u = rw (ne-eqb (h .valid) 0 (λ e. u (inl e)), ne-eqb (h .valid) (pixels (shapeOf h)) (λ e. u (inr e)))
 

@@ -11,7 +11,7 @@ use Rattle.lerc_words.specs.Res.{Res, ok, fail, after}
 use Rattle.lerc_words.specs.Lists.{over}
 use Rattle.lerc_header.specs.declared.Header.{Header}
 use Rattle.lerc_ranges.specs.declared.Ranges.{Ranges}
-use Rattle.lerc_validity.specs.Validity.{InForce}
+use Rattle.lerc_validity.specs.Validity.{MaskInForce}
 use Rattle.lerc.specs.Meaning.{Meaning}
 use Rattle.lerc.specs.Read.{Lent, readSays, masked, refusedAfter, readAfter}
 use Rattle.lerc_c.specs.Records.{numberOf}
@@ -33,7 +33,7 @@ stored-left : (m : Res ℕ) {n : ℕ} {said said' : List ℕ} → StoredDone m n
 stored-left (ok v) d z = absurd (z (d .number))
 stored-left (fail w) d z = d .said
 
-prepare-left : (m : Res InForce) {n : ℕ} {spare spare' said said' : List ℕ} → PrepareDone m n spare spare' said said' → n ≢ 0 → _≡_ {A = List ℕ × List ℕ} (spare', said') (spare, said)
+prepare-left : (m : Res MaskInForce) {n : ℕ} {spare spare' said said' : List ℕ} → PrepareDone m n spare spare' said said' → n ≢ 0 → _≡_ {A = List ℕ × List ℕ} (spare', said') (spare, said)
 prepare-left (ok f) d z = absurd (z (d .number))
 prepare-left (fail w) d z = rw (d .spare, d .said)
 

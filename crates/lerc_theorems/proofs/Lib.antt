@@ -1,4 +1,4 @@
-pub mod Answers
+pub mod SameAnswers
 pub mod Determined
 pub mod Refusals
 pub mod InC

@@ -21,7 +21,7 @@ use Rattle.lerc_header.proofs.Kept.{held-shaped}
 use Rattle.lerc_mask.specs.Mask.{pixelValid}
 use Rattle.lerc_ranges.specs.declared.Ranges.{Ranges}
 use Rattle.lerc_block.specs.Block.{Block}
-use Rattle.lerc_image.specs.Geometry.{tileOf, pixelOf, tileSize, blockOf, placeIn, rank, tileValid, isValidCell}
+use Rattle.lerc_image.specs.Geometry.{tileOf, pixelOf, tileSize, blockOf, placeIn, rank, validInTile, isValidCell}
 use Rattle.lerc_image.specs.Paint.{inBlock, indexOf, wordOf, scattered}
 use Rattle.lerc_sweep.specs.Sweep.{Way, rawFrom, blocksFrom, swept}
 use Rattle.lerc_image.specs.Blocks.{blockAt, chain}
@@ -54,7 +54,7 @@ module _ (h : Shape) (s : Shaped h) (m q : List ℕ) (a : MaskAlike h m q) where
   unfolding rank
   rank-same n l k u = count-same k _ _ (λ i v. a .same (pixelOf h (tileOf h n) i) (pixel-lt h s n i l (omega (arith, u))))
 
-  pub tile-same : (n : ℕ) → n < blockCount h → tileValid h m (tileOf h n) ≡ tileValid h q (tileOf h n)
+  pub tile-same : (n : ℕ) → n < blockCount h → validInTile h m (tileOf h n) ≡ validInTile h q (tileOf h n)
   tile-same n l = rank-same n l (tileSize (tileOf h n)) (omega arith)
 
   pub valid-same : (c : ℕ) → isValidCell h m c ≡ isValidCell h q c

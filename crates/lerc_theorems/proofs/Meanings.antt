@@ -20,7 +20,7 @@ use Rattle.lerc_ranges.specs.declared.Ranges.{Ranges}
 use Rattle.lerc_ranges.specs.Ranges.{rangesSays}
 use Rattle.lerc_ranges.proofs.Judged.{RangesKept, ranges-kept}
 use Rattle.lerc_validity.proofs.Prepared.{Right, mask-told}
-use Rattle.lerc_validity.specs.Validity.{InForce, bytesOf, maskSays}
+use Rattle.lerc_validity.specs.Validity.{MaskInForce, bytesOf, maskSays}
 use Rattle.lerc.specs.Meaning.{Meaning, endOf, bodySays, meaningFrom, meaning}
 use Rattle.lerc.specs.Read.{Lent, room, Masked, masked, readSays}
 use Rattle.lerc_theorems.specs.DemandTwo.{Roomy}
@@ -93,7 +93,7 @@ pub read-is : (b : List ℕ) (reuse : Bool) (l : Lent) → Roomy b l → readSay
 unfolding readSays masked meaning
 read-is b reuse l f = go (headerSays b) f
   where
-    mask : (h : Header) (x : Res InForce) → ((x >>= λ m. ok (record { header = h; mask = m })) >>= λ (k : Masked). meaningFrom b (k .header) (k .mask)) ≡ (x >>= λ m. meaningFrom b h m)
+    mask : (h : Header) (x : Res MaskInForce) → ((x >>= λ m. ok (record { header = h; mask = m })) >>= λ (k : Masked). meaningFrom b (k .header) (k .mask)) ≡ (x >>= λ m. meaningFrom b h m)
     mask h (ok m) = refl
     mask h (fail r) = refl
 

@@ -37,13 +37,13 @@ use Rattle.lerc_image.proofs.Partition.{tile-depth}
 use Rattle.lerc.specs.Meaning.{empty, constant, rawBody, blockBody, bodyFrom, sweptBody, constantBody, bodySays, meaningFrom, meaning}
 use Rattle.lerc_theorems.specs.DemandTwo.{Unstored}
 use Rattle.lerc_block.specs.Block.{rawWords}
-use Rattle.lerc_block.proofs.Spared.{Spared, spared-ok, spared-if, spared-bind, spared-cond, spared-all, storable-spared, word-spared, raw-spared, block-spared}
+use Rattle.lerc_block.proofs.Spared.{NotNine, spared-ok, spared-if, spared-bind, spared-cond, spared-all, storable-spared, word-spared, raw-spared, block-spared}
 
 -- ---- bodies
 
 module _ (s : List ℕ) (h : Header) (maxima m : List ℕ) (plus : negative (h .error) ≡ false)
     (high : (n : ℕ) → n < blockCount (shapeOf h) → Storable (h .kind) (getD maxima (tileOf (shapeOf h) n .d) 0)) where
-  chain-spared : (f n at : ℕ) → n + f ≤ blockCount (shapeOf h) → Spared (chain s h maxima m f n at)
+  chain-spared : (f n at : ℕ) → n + f ≤ blockCount (shapeOf h) → NotNine (chain s h maxima m f n at)
   unfolding chain blockAt
   chain-spared zero n at l = spared-ok _
   chain-spared (suc f) n at l =
@@ -51,13 +51,13 @@ module _ (s : List ℕ) (h : Header) (maxima m : List ℕ) (plus : negative (h .
       (λ b _. spared-bind (chain s h maxima m f (suc n) (b .next)) _ (chain-spared f (suc n) (b .next) (omega arith)) (λ c _. spared-ok _))
 
 module _ (s : List ℕ) where
-  mode-spared : (at : ℕ) → Spared (modeAt s at)
+  mode-spared : (at : ℕ) → NotNine (modeAt s at)
   unfolding modeAt
   mode-spared at =
       spared-bind (wordAt 1 s at) _ (word-spared s 1 at)
       (λ mode _. spared-if (ltb mode 3) 8 _ refl (λ _. spared-if (eqb mode 0) 10 _ refl (λ _. spared-ok _)))
 
-  sweep-spared : (kind error at : ℕ) → Spared (swept s kind error at)
+  sweep-spared : (kind error at : ℕ) → NotNine (swept s kind error at)
   unfolding swept moded
   sweep-spared kind error at =
       spared-bind (wordAt 1 s at) _ (word-spared s 1 at)
@@ -65,7 +65,7 @@ module _ (s : List ℕ) where
       (λ _. spared-cond (eqb sweep 1) (ok (rawFrom (at + 1))) (moded s kind error (at + 1)) (λ _. spared-ok _)
       (λ _. spared-cond (hasModeByte kind error) (modeAt s (at + 1)) (ok (blocksFrom (at + 1))) (λ _. mode-spared (at + 1)) (λ _. spared-ok _))))
 
-  ranges-spared : (h : Header) → Spared (rangesSays s h)
+  ranges-spared : (h : Header) → NotNine (rangesSays s h)
   unfolding rangesSays
   ranges-spared h =
       spared-cond (same (h .min) (h .max)) (ok (uniformRanges h)) _ (λ _. spared-ok _)
@@ -89,7 +89,7 @@ module _ (s : List ℕ) (h : Header) (m : List ℕ) (few : h .depth ≤ depthLim
   unfolding codedRanges numberAt
   coded-low i l = rw (getD-by-depth (h .depth) (numberAt (h .kind) s (rangesAt h)) (h .min) i few l) (own-storable (h .kind) _)
 
-  coded-constant : Spared (constantWords (h .depth) (h .kind) (codedRanges s h .min))
+  coded-constant : NotNine (constantWords (h .depth) (h .kind) (codedRanges s h .min))
   unfolding constantWords
   coded-constant =
       let low = codedRanges s h .min in
@@ -98,7 +98,7 @@ module _ (s : List ℕ) (h : Header) (m : List ℕ) (few : h .depth ≤ depthLim
       rw (getD-take (h .depth) low i 0 k) (storable-spared (h .kind) (getD low i 0) (coded-low i k)))
 
   module _ (shaped : Shaped (shapeOf h)) (plus : negative (h .error) ≡ false) where
-    from-spared : (w : Way) → Spared (bodyFrom s h (codedRanges s h) m w)
+    from-spared : (w : Way) → NotNine (bodyFrom s h (codedRanges s h) m w)
     unfolding rawBody blockBody
     from-spared (rawFrom at) = spared-bind (rawWords s at (h .kind) (h .valid * h .depth)) _ (raw-spared s (h .kind) at (h .valid * h .depth)) (λ b _. spared-ok _)
     from-spared (blocksFrom at) =
@@ -106,15 +106,15 @@ module _ (s : List ℕ) (h : Header) (m : List ℕ) (few : h .depth ≤ depthLim
         (chain-spared s h (codedRanges s h .max) m plus (λ n l. coded-high (tileOf (shapeOf h) n .d) (tile-depth (shapeOf h) shaped n l)) (blockCount (shapeOf h)) 0 at (omega arith))
         (λ c _. spared-ok _)
 
-    swept-spared : Spared (sweptBody s h (codedRanges s h) m)
+    swept-spared : NotNine (sweptBody s h (codedRanges s h) m)
     unfolding sweptBody
     swept-spared = spared-bind (swept s (h .kind) (h .error) (codedRanges s h .at)) _ (sweep-spared s (h .kind) (h .error) (codedRanges s h .at)) (λ w _. from-spared w)
 
-    constant-spared : Spared (constantBody h (codedRanges s h))
+    constant-spared : NotNine (constantBody h (codedRanges s h))
     unfolding constantBody
     constant-spared = spared-bind (constantWords (h .depth) (h .kind) (codedRanges s h .min)) _ coded-constant (λ ws _. spared-ok _)
 
-    coded-spared : Spared (cond (codedRanges s h .constant) (constantBody h (codedRanges s h)) (sweptBody s h (codedRanges s h) m))
+    coded-spared : NotNine (cond (codedRanges s h .constant) (constantBody h (codedRanges s h)) (sweptBody s h (codedRanges s h) m))
     coded-spared = spared-cond (codedRanges s h .constant) _ _ (λ _. constant-spared) (λ _. swept-spared)
 
 -- ---- ranges that the header gives
@@ -145,11 +145,11 @@ module _ (h : Header) (few : h .depth ≤ depthLimit) (some : 0 < h .depth) wher
 -- ---- the whole
 
 -- what is refused 9 was refused there, or behind
-bind-nine : {A B : Type 0} (m : Res A) (k : A → Res B) → Spared m → (m >>= k) ≡ fail (refuse 9) → (a : A) × (m ≡ ok a) × (k a ≡ fail (refuse 9))
+bind-nine : {A B : Type 0} (m : Res A) (k : A → Res B) → NotNine m → (m >>= k) ≡ fail (refuse 9) → (a : A) × (m ≡ ok a) × (k a ≡ fail (refuse 9))
 bind-nine (ok a) k p e = (a, refl, e)
 bind-nine (fail r) k p e = absurd (p (let z : r ≡ refuse 9 = cc in ap fail z))
 
-header-spared : (b : List ℕ) → Spared (headerSays b)
+header-spared : (b : List ℕ) → NotNine (headerSays b)
 unfolding headerSays held
 header-spared b =
     spared-if (leb headerBytes (length b)) 1 _ refl
@@ -160,7 +160,7 @@ header-spared b =
     (λ _. spared-if (leb (headerOf b .size) (length b)) 1 _ refl (λ _. spared-ok _))))
     (λ _ _. spared-ok _)))
 
-mask-spared : (s : List ℕ) (h : Header) (reuse : Bool) (old : List ℕ) → Spared (maskSays s h reuse old)
+mask-spared : (s : List ℕ) (h : Header) (reuse : Bool) (old : List ℕ) → NotNine (maskSays s h reuse old)
 unfolding maskSays uniform kept unrolled
 mask-spared s h reuse old =
     let m = take (maskLength (shapeOf h)) old in

@@ -11,7 +11,7 @@ use borrow.Author.Tests.{leb-true, leb-false, le-leb, lt-leb}
 use Rattle.lerc_words.specs.declared.Refusal.{Refusal}
 use Rattle.lerc_words.specs.Res.{Res, ok, fail, _>>=_, refuse, require}
 use Rattle.lerc_words.proofs.Binding.{bind-no, bind-fail}
-use Rattle.lerc_bits.proofs.Answers.{plan-same}
+use Rattle.lerc_bits.proofs.Returns.{plan-same}
 use Rattle.lerc_header.specs.Limits.{depthLimit}
 use Rattle.lerc_header.specs.Header.{headerSays, openSays}
 use Rattle.lerc_mask.specs.Mask.{maskBytes, decoded}
@@ -21,13 +21,13 @@ use Rattle.lerc_ranges.specs.declared.RangesRead.{RangesRead}
 use Rattle.lerc_ranges.specs.declared.RangesAnswer.the-variants as ranges-answer
 use Rattle.lerc_ranges.specs.declared.Constants.{Constants}
 use Rattle.lerc_ranges.specs.declared.ConstantsAnswer.the-variants as constants-answer
-use Rattle.lerc_validity.specs.Validity.{InForce, reused, new, which}
+use Rattle.lerc_validity.specs.Validity.{MaskInForce, reused, new, which}
 use Rattle.lerc_ranges.specs.Ranges.{pairsRight, pairsSays, rangesSaid, constantsSaid}
-use Rattle.lerc_block.proofs.Answers.{said-same as block-same}
+use Rattle.lerc_block.proofs.Returns.{said-same as block-same}
 use Rattle.lerc_image.specs.Paint.{among}
 use Rattle.lerc_theorems.specs.Table.{HeaderRefused, RunsRefused, runs-room, runs-breach, PairsRefused, pair-wrong}
 use Rattle.lerc_theorems.specs.Numbers.{NumbersExactly, NumbersOnly}
-use Rattle.lerc_theorems.proofs.Answers.{block-plan-same, word-same, integer-same, offset-same, sample-same, stored-same, counts-same, header-same, open-same, held-same, runs-same, mask-same, pairs-same, way-same, walk-same, fill-same, read-same}
+use Rattle.lerc_theorems.proofs.SameAnswers.{block-plan-same, word-same, integer-same, offset-same, sample-same, stored-same, counts-same, header-same, open-same, held-same, runs-same, mask-same, pairs-same, way-same, walk-same, fill-same, read-same}
 use Rattle.lerc_theorems.proofs.Given.{word-in, integer-in, kind-in, sample-in, stored-in, plan-in, counts-in, held-in, header-in, runs-in, prepare-in, find-in, pairs-in, ranges-in-in, read-ranges-in, constants-in, planned-in, block-plan-in, read-block-in, sweep-in, walk-in, fill-in, check-in, tiles-in, whole-in}
 use Rattle.lerc_theorems.proofs.Masks.{coded-wrong, wrong-coded}
 use Rattle.lerc_theorems.proofs.Wrong.{pairs-not, not-pairs}
@@ -49,10 +49,10 @@ told {said = said} {q = q} inj is {r = r} p = (λ e. sym p ∙ ap said e ∙ is,
 behind : {A B : Type 0} (m : Res A) (f : A → B) (n : Refusal) → ((m >>= λ a. ok (f a)) ≡ fail n) ↔ (m ≡ fail n)
 behind m f n = (bind-fail m f, λ e. bind-no _ e)
 
-behind-which : (m : Res InForce) (n : Refusal) → ((m >>= which) ≡ fail n) ↔ (m ≡ fail n)
+behind-which : (m : Res MaskInForce) (n : Refusal) → ((m >>= which) ≡ fail n) ↔ (m ≡ fail n)
 behind-which m n = (there m, λ e. bind-no which e)
   where
-    there : (m : Res InForce) → (m >>= which) ≡ fail n → m ≡ fail n
+    there : (m : Res MaskInForce) → (m >>= which) ≡ fail n → m ≡ fail n
     there (ok (reused m)) e = not-refused e
     there (ok (new m)) e = not-refused e
     there (fail r) e = cc

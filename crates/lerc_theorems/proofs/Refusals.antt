@@ -14,15 +14,15 @@ use Rattle.lerc_header.specs.Limits.{depthLimit}
 use Rattle.lerc_header.specs.Header.{shapeOf, headerSays}
 use Rattle.lerc_header.specs.Shape.{maskLength}
 use Rattle.lerc_bits.specs.declared.CountsAnswer.the-variants as counts
-use Rattle.lerc_bits.specs.Bits.{Counts, Decoded}
+use Rattle.lerc_bits.specs.Bits.{Counts, CountsDecoded}
 use Rattle.lerc_mask.specs.declared.RunsAnswer.the-variants as runs
-use Rattle.lerc_mask.specs.Mask.{Unrolled}
+use Rattle.lerc_mask.specs.Mask.{RunsUnrolled}
 use Rattle.lerc_block.specs.declared.BlockAnswer.the-variants as block
 use Rattle.lerc_block.specs.Block.{Block, BlockRead}
 use Rattle.lerc_image.specs.declared.WalkAnswer.the-variants as walked
 use Rattle.lerc_image.specs.declared.FillAnswer.the-variants as filled
 use Rattle.lerc_image.specs.Blocks.{Chain}
-use Rattle.lerc_image.specs.Walk.{walkSays, walkList, Walked}
+use Rattle.lerc_image.specs.Walk.{walkSays, walkList, BlocksWalked}
 use Rattle.lerc_image.specs.Fill.{fillSays, fillImage, Filled}
 use Rattle.lerc_image.specs.Tiles.{Tiled}
 use Rattle.lerc_ranges.specs.declared.Ranges.{Ranges}
@@ -32,7 +32,7 @@ use Rattle.lerc_ranges.specs.declared.Constants.{Constants}
 use Rattle.lerc_ranges.specs.declared.ConstantsAnswer.the-variants as constants
 use Rattle.lerc_validity.specs.declared.MaskAnswer.{MaskAnswer}
 use Rattle.lerc_validity.specs.declared.MaskAnswer.the-variants as mask
-use Rattle.lerc_validity.specs.Validity.{Prepared, InForce, reused, new, which, maskSays, inForce}
+use Rattle.lerc_validity.specs.Validity.{Prepared, MaskInForce, reused, new, which, maskSays, inForce}
 use Rattle.lerc_ranges.specs.Ranges.{noRanges, rangesSaid, rangesInSays, readRangesSays, constantWords, constantsSaid}
 use Rattle.lerc_validity.proofs.Prepared.{mask-told}
 use Rattle.lerc.specs.declared.ReadAnswer.the-variants as read
@@ -42,25 +42,25 @@ use Rattle.lerc_theorems.proofs.Meanings.{rooms}
 
 -- ---- slices that are lent
 
-decoded-keeps : (m : Res Counts) {why : Refusal} {old x : List ℕ} → Decoded m (counts.Refused why) old x → x ≡ old
+decoded-keeps : (m : Res Counts) {why : Refusal} {old x : List ℕ} → CountsDecoded m (counts.Refused why) old x → x ≡ old
 decoded-keeps m p = let e = bind-fail m _ (sym (p .says)) in p .left ∙ rw (e)
 
-unrolled-keeps : (m : Res (List ℕ)) {why : Refusal} {old x : List ℕ} → Unrolled m (runs.Refused why) old x → x ≡ old
+unrolled-keeps : (m : Res (List ℕ)) {why : Refusal} {old x : List ℕ} → RunsUnrolled m (runs.Refused why) old x → x ≡ old
 unrolled-keeps m p = let e = bind-fail m _ (sym (p .says)) in p .left ∙ rw (e)
 
 -- an accepted mask says which it is
-which-refused : (m : Res InForce) {why : Refusal} → (m >>= which) ≡ fail why → m ≡ fail why
+which-refused : (m : Res MaskInForce) {why : Refusal} → (m >>= which) ≡ fail why → m ≡ fail why
 which-refused (ok (reused m)) e = absurd (let z : _≡_ {A = ℕ} 0 1 = cc in omega arith)
 which-refused (ok (new m)) e = absurd (let z : _≡_ {A = ℕ} 0 1 = cc in omega arith)
 which-refused (fail r) e = cc
 
-prepared-keeps : (m : Res InForce) {why : Refusal} {old x : List ℕ} → Prepared m (mask.Refused why) old x → x ≡ old
+prepared-keeps : (m : Res MaskInForce) {why : Refusal} {old x : List ℕ} → Prepared m (mask.Refused why) old x → x ≡ old
 prepared-keeps m p = let e = which-refused m (sym (p .says)) in p .spare ∙ rw (e)
 
 read-keeps : (m : Res Block) {why : Refusal} {old x : List ℕ} → BlockRead m (block.Refused why) old x → x ≡ old
 read-keeps m p = let e = bind-fail m _ (sym (p .says)) in p .words ∙ rw (e)
 
-walked-keeps : (b : List ℕ) (h : Header) (g : Ranges) (m : List ℕ) {why : Refusal} {old x : List ℕ} → Walked b h g m (walked.Refused why) old x → x ≡ old
+walked-keeps : (b : List ℕ) (h : Header) (g : Ranges) (m : List ℕ) {why : Refusal} {old x : List ℕ} → BlocksWalked b h g m (walked.Refused why) old x → x ≡ old
 unfolding walkList
 walked-keeps b h g m {old = old} p = let e = bind-fail (walkSays b h g m (length old)) _ (sym (p .says)) in p .list ∙ rw (e)
 
@@ -111,7 +111,7 @@ refusals-empty = record {
 
 module _ (b : List ℕ) (reuse : Bool) (l : Lent) where
   -- as far as the mask, where each part is accepted
-  masked-right : (h : Header) (m : InForce) → headerSays b ≡ ok h → room h l ≡ true → maskSays (take (h .size) b) h reuse (l .kept) ≡ ok m → masked b reuse l ≡ ok (record { header = h; mask = m })
+  masked-right : (h : Header) (m : MaskInForce) → headerSays b ≡ ok h → room h l ≡ true → maskSays (take (h .size) b) h reuse (l .kept) ≡ ok m → masked b reuse l ≡ ok (record { header = h; mask = m })
   unfolding masked
   masked-right h m e t d = rw (e, t, d)
 
@@ -148,7 +148,7 @@ module _ (b : List ℕ) (reuse : Bool) (l : Lent) where
           })
       go (ok k) e d = split (k .mask) refl
         where
-          split : (f : InForce) → k .mask ≡ f → WholeKeeps b reuse l after
+          split : (f : MaskInForce) → k .mask ≡ f → WholeKeeps b reuse l after
           split (reused m) i = rw (d, i) (record {
             kept = refl;
             list = refl;

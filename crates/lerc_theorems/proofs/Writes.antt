@@ -15,7 +15,7 @@ use Rattle.lerc_words.specs.Res.{Res, ok, fail, require, after}
 use Rattle.lerc_words.specs.Lists.{over}
 use Rattle.lerc_words.proofs.Binding.{bind-is, require-is, and-is, ok-is, cond-elim}
 use Rattle.lerc_bits.specs.declared.CountsAnswer.the-variants as counts
-use Rattle.lerc_bits.specs.Bits.{Counts, Span, Decoded}
+use Rattle.lerc_bits.specs.Bits.{Counts, Span, CountsDecoded}
 use Rattle.lerc_header.specs.declared.Header.{Header}
 use Rattle.lerc_header.specs.Header.{shapeOf, rangesAt, extentOf, held}
 use Rattle.lerc_header.specs.Shape.{cells, maskLength, blockCount}
@@ -24,7 +24,7 @@ use Rattle.lerc_mask.specs.Mask.{maskBytes, decoded}
 use Rattle.lerc_mask.proofs.Runs.{coded-length}
 use Rattle.lerc_ranges.specs.declared.Ranges.{Ranges}
 use Rattle.lerc_validity.specs.declared.MaskAnswer.{MaskAnswer}
-use Rattle.lerc_validity.specs.Validity.{InForce, reused, new, bytesOf, findSays, prepareSays, spareWith, Prepared}
+use Rattle.lerc_validity.specs.Validity.{MaskInForce, reused, new, bytesOf, findSays, prepareSays, spareWith, Prepared}
 use Rattle.lerc_validity.proofs.Prepared.{prepare-found, mask-length, mask-told}
 use Rattle.lerc_block.specs.declared.BlockAnswer.the-variants as block
 use Rattle.lerc_block.specs.Block.{tileLimit, readBlockSays, BlockRead}
@@ -36,15 +36,15 @@ use Rattle.lerc_image.specs.declared.WalkAnswer.{WalkAnswer}
 use Rattle.lerc_image.specs.Geometry.{isValidCell}
 use Rattle.lerc_sweep.specs.Sweep.{Way, rawFrom, blocksFrom, swept}
 use Rattle.lerc_image.specs.Blocks.{Chain, chain}
-use Rattle.lerc_image.specs.Walk.{walkSays, walkList, Walked}
+use Rattle.lerc_image.specs.Walk.{walkSays, walkList, BlocksWalked}
 use Rattle.lerc_image.specs.Fill.{fillSays, fillImage}
 use Rattle.lerc_image.specs.Tiles.{blockEnd, headStarts, roomToList, listedTiles, isListed, listedImage, roomToFill, filledTiles, tilesSays, Tiled}
 use Rattle.lerc_image.proofs.Chain.{chain-lengths}
 use Rattle.lerc_fills.specs.Each.{fillEach}
 use Rattle.lerc.specs.declared.ReadAnswer.the-variants as read
 use Rattle.lerc.specs.Meaning.{Meaning, Body, startsOf, bodyFrom, blockBody, sweptBody, bodySays, meaningFrom}
-use Rattle.lerc.specs.Read.{Lent, room, Masked, masked, readSays, published, readAfter, Whole, readCount, WholeRead}
-use Rattle.lerc.proofs.Whole.{constant-starts, raw-starts}
+use Rattle.lerc.specs.Read.{Lent, room, Masked, masked, readSays, published, readAfter, ReadTold, readCount, WholeRead}
+use Rattle.lerc.proofs.Endings.{constant-starts, raw-starts}
 use Rattle.lerc_theorems.specs.Writes.{AlikeFrom, AlikeBut, inSome, WritesOnly, WholeWrites}
 use Rattle.lerc_theorems.proofs.Refusals.{masked-is}
 use Rattle.lerc_theorems.proofs.Meanings.{rooms}
@@ -113,7 +113,7 @@ but-after (ok a) which word {old} d = rw (d) (but-painted old which (word a))
 
 -- ---- packed counts
 
-decode-rest : (m : Res Counts) {n next : ℕ} {old x : List ℕ} → Decoded m (counts.Counts n next) old x → (i : ℕ) → n ≤ i → getD x i 0 ≡ getD old i 0
+decode-rest : (m : Res Counts) {n next : ℕ} {old x : List ℕ} → CountsDecoded m (counts.Counts n next) old x → (i : ℕ) → n ≤ i → getD x i 0 ≡ getD old i 0
 decode-rest (fail r) d i l = absurd (let e = d .says in let z : _≡_ {A = ℕ} 0 1 = cc in omega arith)
 decode-rest (ok c) {n} d i l =
     let e = d .says in
@@ -140,14 +140,14 @@ decoded-is s count valid room m e =
     (coded-length s count valid m e, leb-true _ _ (require-is _ 5 p))
 
 -- a mask of the right length, new or reused
-spare-alike : (n : ℕ) (f : InForce) (spare : List ℕ) → length (bytesOf f) ≡ n → n ≤ length spare → AlikeFrom n spare (spareWith f spare)
+spare-alike : (n : ℕ) (f : MaskInForce) (spare : List ℕ) → length (bytesOf f) ≡ n → n ≤ length spare → AlikeFrom n spare (spareWith f spare)
 spare-alike n (reused m) spare l k = alike-same n refl
 spare-alike n (new m) spare l k = rw (← l) (alike-over m spare (rw (l) k))
 
 prepare-writes : (b : List ℕ) (h : Header) (reuse : Bool) (kept : List ℕ) {r : MaskAnswer} {old x : List ℕ} → Prepared (prepareSays b h reuse kept (length old)) r old x → AlikeFrom (maskLength (shapeOf h)) old x
 prepare-writes b h reuse kept {r} {old} {x} p = go (prepareSays b h reuse kept (length old)) refl (p .spare)
   where
-    go : (m : Res InForce) → prepareSays b h reuse kept (length old) ≡ m → x ≡ after m old (λ f. spareWith f old) → AlikeFrom (maskLength (shapeOf h)) old x
+    go : (m : Res MaskInForce) → prepareSays b h reuse kept (length old) ≡ m → x ≡ after m old (λ f. spareWith f old) → AlikeFrom (maskLength (shapeOf h)) old x
     go (fail q) e d = alike-same (maskLength (shapeOf h)) d
     go (ok f) e d = rw (d) (spare-alike (maskLength (shapeOf h)) f old (mask-length b h reuse kept (length old) f e) (prepare-found b h reuse kept (length old) f e .there))
 
@@ -155,7 +155,7 @@ find-writes : (s : List ℕ) (h : Header) (reuse : Bool) (kept : List ℕ) {r : 
 unfolding findSays
 find-writes s h reuse kept {r} {old} {x} p = go (findSays s h reuse kept (length old)) refl (p .spare)
   where
-    go : (m : Res InForce) → findSays s h reuse kept (length old) ≡ m → x ≡ after m old (λ f. spareWith f old) → AlikeFrom (maskLength (shapeOf h)) old x
+    go : (m : Res MaskInForce) → findSays s h reuse kept (length old) ≡ m → x ≡ after m old (λ f. spareWith f old) → AlikeFrom (maskLength (shapeOf h)) old x
     go (fail q) e d = alike-same (maskLength (shapeOf h)) d
     go (ok f) e d =
         let n = maskLength (shapeOf h) in
@@ -173,7 +173,7 @@ module _ (b : List ℕ) (h : Header) where
       let w = walk-is b h g m room c e in
       (chain-lengths (take (h .size) b) h (g .max) m (blockCount (shapeOf h)) 0 (w .from) c (w .blocks) .0, w .list)
 
-  walk-writes : (g : Ranges) (m : List ℕ) {r : WalkAnswer} {old x : List ℕ} → Walked b h g m r old x → AlikeFrom (blockCount (shapeOf h)) old x
+  walk-writes : (g : Ranges) (m : List ℕ) {r : WalkAnswer} {old x : List ℕ} → BlocksWalked b h g m r old x → AlikeFrom (blockCount (shapeOf h)) old x
   unfolding walkList
   walk-writes g m {old = old} p = alike-after (blockCount (shapeOf h)) (walkSays b h g m (length old)) (λ c. c .starts) (walk-starts g m (length old)) (p .list)
 
@@ -314,4 +314,4 @@ module _ (b : List ℕ) (reuse : Bool) (l : Lent) (x : Lent) where
       let (y, p, f) = bind-is (bodySays (take (k .header .size) b) (k .header) (bytesOf (k .mask))) _ f in
       let z : record { header = k .header; mask = k .mask; body = y } ≡ m = ok-is f in
       let q : x ≡ published m l = w .lent ∙ ap (λ (v : Res Meaning). readAfter v (masked b reuse l) l) e in
-      written n k y d p (e ∙ ap ok (sym z)) (sym (ap (λ (v : Whole). v .blocks) (ok-is c)) ∙ ap (λ (v : Meaning). length (startsOf (v .body))) (sym z)) (q ∙ ap (λ (v : Meaning). published v l) (sym z))
+      written n k y d p (e ∙ ap ok (sym z)) (sym (ap (λ (v : ReadTold). v .blocks) (ok-is c)) ∙ ap (λ (v : Meaning). length (startsOf (v .body))) (sym z)) (q ∙ ap (λ (v : Meaning). published v l) (sym z))

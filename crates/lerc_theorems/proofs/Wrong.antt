@@ -16,7 +16,7 @@ use Rattle.lerc_header.specs.declared.Header.{Header}
 use Rattle.lerc_header.specs.Limits.{sideways, depthLimit, cellLimit, sideLimit, sizeLimit}
 use Rattle.lerc_header.specs.Header.{shapeOf, rangesAt, errorRight, pairRight, fieldsRight, withinCeilings}
 use Rattle.lerc_header.specs.Shape.{cells, maskLength, blockCount}
-use Rattle.lerc_header.proofs.Kept.{Right, Within, fields-right, within-ceilings}
+use Rattle.lerc_header.proofs.Kept.{Right, CeilingsKept, fields-right, within-ceilings}
 use Rattle.lerc_ranges.specs.declared.Ranges.{Ranges}
 use Rattle.lerc_ranges.specs.Ranges.{pairsRight}
 use Rattle.lerc.specs.Read.{Lent, room}
@@ -126,7 +126,7 @@ module _ (h : Header) where
   pub not-ceilings : CeilingPassed h → withinCeilings h ≡ false
   not-ceilings p = unless _ (λ t. passed (within-ceilings h t) p)
     where
-      passed : Within h → CeilingPassed h → ⊥
+      passed : CeilingsKept h → CeilingPassed h → ⊥
       passed w (rows-many l) = omega (arith, w .rows)
       passed w (columns-many l) = omega (arith, w .columns)
       passed w (depth-large l) = omega (arith, w .depth)

@@ -55,8 +55,8 @@ abbrev pub RangesCall : List ℕ → Header → RangesRead → Type 0
 RangesCall b h said = Call {S = List ℕ × Header} {T = Unit {0}} read-ranges.Post (λ a. (a .0 .now, a .1 .0)) (λ r. r) (λ o. tt) (b, h) said tt
 
 -- ranges that were read
-abbrev pub RangesFrom : List ℕ → Header → Ranges → Type 0
-RangesFrom b h r = RangesCall b h (record { answer = ranges-answer.Read; ranges = r })
+abbrev pub ReadRanges : List ℕ → Header → Ranges → Type 0
+ReadRanges b h r = RangesCall b h (record { answer = ranges-answer.Read; ranges = r })
 
 -- blob, header, ranges, mask; the answer; the list before and after
 abbrev pub WalkCall : List ℕ → Header → Ranges → List ℕ → WalkAnswer → List ℕ → List ℕ → Type 0

@@ -14,19 +14,19 @@ use Rattle.lerc_header.specs.Shape.{cells, maskLength, blockCount}
 use Rattle.lerc_header.specs.Header.{shapeOf}
 use Rattle.lerc_ranges.specs.declared.Ranges.{Ranges}
 use Rattle.lerc_validity.specs.declared.MaskAnswer.{MaskAnswer}
-use Rattle.lerc_validity.specs.Validity.{InForce, bytesOf, prepareSays}
+use Rattle.lerc_validity.specs.Validity.{MaskInForce, bytesOf, prepareSays}
 use Rattle.lerc_image.specs.declared.WalkAnswer.{WalkAnswer}
 use Rattle.lerc_image.specs.declared.WalkAnswer.the-variants as walk-answer
 use Rattle.lerc_image.specs.declared.FillAnswer.{FillAnswer}
 use Rattle.lerc_image.specs.declared.FillAnswer.the-variants as fill-answer
-use Rattle.lerc_image.specs.Geometry.{blockOf, tileOf, tileValid, isValidCell}
+use Rattle.lerc_image.specs.Geometry.{blockOf, tileOf, validInTile, isValidCell}
 use Rattle.lerc_image.specs.Paint.{among}
 use Rattle.lerc_image.specs.Blocks.{Chain}
 use Rattle.lerc_image.specs.Walk.{walkSays}
 use Rattle.lerc.specs.declared.ReadAnswer.{ReadAnswer}
 use Rattle.lerc.specs.Meaning.{blocks, cellWord, meaning}
 use Rattle.lerc.specs.Read.{Lent, room}
-use Rattle.lerc_theorems.specs.Calls.{PrepareCall, HandedCall, RangesFrom, WalkCall, FillCall, FillCalls, EachCall, TilesCall, ReadCall}
+use Rattle.lerc_theorems.specs.Calls.{PrepareCall, HandedCall, ReadRanges, WalkCall, FillCall, FillCalls, EachCall, TilesCall, ReadCall}
 
 -- a blob in blocks, what it means, and what fills are lent: header, ranges, mask, list and image
 pub record Case : Type 0 where
@@ -34,7 +34,7 @@ pub record Case : Type 0 where
   pub reuse : Bool
   pub kept : List ℕ
   pub header : Header
-  pub means : InForce
+  pub means : MaskInForce
   pub chain : Chain
   pub ranges : Ranges
   pub mask : List ℕ
@@ -57,18 +57,18 @@ blocksOf x = blockCount (shape x)
 pub record Opened (x : Case) : Type 0 where
   pub means : meaning (x .blob) (x .reuse) (x .kept) ≡ ok (record { header = x .header; mask = x .means; body = blocks (x .chain) })
   pub kept : maskLength (shape x) ≤ length (x .kept)
-  pub ranges : RangesFrom (x .blob) (x .header) (x .ranges)
+  pub ranges : ReadRanges (x .blob) (x .header) (x .ranges)
   pub mask : take (maskLength (shape x)) (x .mask) ≡ inMask x
   pub long : blocksOf x ≤ length (x .list)
   pub starts : (n : ℕ) → n < blocksOf x → getD (x .list) n 0 ≡ getD (x .chain .starts) n 0
   pub room : cells (shape x) ≤ length (x .image)
 
 -- a call of fill, and calls one after the other
-abbrev pub Fill : Case → ℕ → FillAnswer → List ℕ → List ℕ → Type 0
-Fill x n said old new = FillCall (x .blob) (x .header) (x .ranges) (x .mask) (x .list) n said old new
+abbrev pub CaseFill : Case → ℕ → FillAnswer → List ℕ → List ℕ → Type 0
+CaseFill x n said old new = FillCall (x .blob) (x .header) (x .ranges) (x .mask) (x .list) n said old new
 
-abbrev pub Fills : Case → List ℕ → List ℕ → Type 0
-Fills x ns new = FillCalls (x .blob) (x .header) (x .ranges) (x .mask) (x .list) ns (x .image) new
+abbrev pub CaseFills : Case → List ℕ → List ℕ → Type 0
+CaseFills x ns new = FillCalls (x .blob) (x .header) (x .ranges) (x .mask) (x .list) ns (x .image) new
 
 -- the words that an answer reports; a refusal reports 0
 abbrev pub reported : FillAnswer → ℕ
@@ -82,28 +82,28 @@ below k (n ∷ ns) = cond (ltb n k) 1 0 + below k ns
 
 pub record DemandThree : Type 0 where
   -- what is handed back after preparing is the mask in force
-  pub mask-handed : (b : List ℕ) (h : Header) (reuse : Bool) (kept spare new m : List ℕ) (f : InForce) (said : MaskAnswer)
+  pub mask-handed : (b : List ℕ) (h : Header) (reuse : Bool) (kept spare new m : List ℕ) (f : MaskInForce) (said : MaskAnswer)
       → PrepareCall b h reuse kept said spare new → HandedCall kept new said m → prepareSays b h reuse kept (length spare) ≡ ok f → m ≡ bytesOf f
   -- the list that a walk leaves holds the starts that it found
   pub walk-lists : (b : List ℕ) (h : Header) (r : Ranges) (m old new : List ℕ) (n end : ℕ) (c : Chain) → WalkCall b h r m (walk-answer.Walked n end) old new → walkSays b h r m (length old) ≡ ok c
       → (n ≡ blockCount (shapeOf h)) × (end ≡ c .end) × (n ≤ length new) × ((i : ℕ) → i < n → getD new i 0 ≡ getD (c .starts) i 0)
   -- a number below the count is filled, and the answer is its tile's valid pixels
-  pub fill-accepts : (x : Case) → Opened x → (n : ℕ) (said : FillAnswer) (new : List ℕ) → Fill x n said (x .image) new → n < blocksOf x
-      → said ≡ fill-answer.Filled (tileValid (shape x) (inMask x) (tileOf (shape x) n))
+  pub fill-accepts : (x : Case) → Opened x → (n : ℕ) (said : FillAnswer) (new : List ℕ) → CaseFill x n said (x .image) new → n < blocksOf x
+      → said ≡ fill-answer.Filled (validInTile (shape x) (inMask x) (tileOf (shape x) n))
   -- a number at or above the count is refused 11, and leaves the image
-  pub fill-refuses : (x : Case) → Opened x → (n : ℕ) (said : FillAnswer) (new : List ℕ) → Fill x n said (x .image) new → blocksOf x ≤ n
+  pub fill-refuses : (x : Case) → Opened x → (n : ℕ) (said : FillAnswer) (new : List ℕ) → CaseFill x n said (x .image) new → blocksOf x ≤ n
       → (said ≡ fill-answer.Refused (refuse 11)) × (new ≡ x .image)
   -- after any list of numbers the image has its length, and a cell holds its Lerc2 word if it is valid and its block is named; else it is as at the start
-  pub fills-long : (x : Case) → Opened x → (ns new : List ℕ) → Fills x ns new → length new ≡ length (x .image)
-  pub fills-exact : (x : Case) → Opened x → (ns new : List ℕ) → Fills x ns new → (c : ℕ) → c < length (x .image)
+  pub fills-long : (x : Case) → Opened x → (ns new : List ℕ) → CaseFills x ns new → length new ≡ length (x .image)
+  pub fills-exact : (x : Case) → Opened x → (ns new : List ℕ) → CaseFills x ns new → (c : ℕ) → c < length (x .image)
       → getD new c 0 ≡ cond (isValidCell (shape x) (inMask x) c && among ns (blockOf (shape x) c)) (cellWord (x .header) (inMask x) (blocks (x .chain)) c) (getD (x .image) c 0)
   -- order and repeats do not matter: only which numbers below the count are named
-  pub fills-order : (x : Case) → Opened x → (ns ms new other : List ℕ) → Fills x ns new → Fills x ms other → ((n : ℕ) → n < blocksOf x → among ns n ≡ among ms n) → new ≡ other
+  pub fills-order : (x : Case) → Opened x → (ns ms new other : List ℕ) → CaseFills x ns new → CaseFills x ms other → ((n : ℕ) → n < blocksOf x → among ns n ≡ among ms n) → new ≡ other
   -- one call with a list of numbers is as many calls: as many of them are filled as are below the count, and the image is the same
-  pub fills-each : (x : Case) → Opened x → (ns new : List ℕ) → Fills x ns new → (other : List ℕ) (filled : ℕ) → EachCall (x .blob) (x .header) (x .ranges) (x .mask) (x .list) ns filled (x .image) other
+  pub fills-each : (x : Case) → Opened x → (ns new : List ℕ) → CaseFills x ns new → (other : List ℕ) (filled : ℕ) → EachCall (x .blob) (x .header) (x .ranges) (x .mask) (x .list) ns filled (x .image) other
       → (filled ≡ below (blocksOf x) ns) × (other ≡ new)
   -- every number named: the image is that of a whole read from the same start
-  pub fills-complete : (x : Case) → Opened x → (ns new : List ℕ) → Fills x ns new → ((n : ℕ) → n < blocksOf x → among ns n ≡ true)
+  pub fills-complete : (x : Case) → Opened x → (ns new : List ℕ) → CaseFills x ns new → ((n : ℕ) → n < blocksOf x → among ns n ≡ true)
       → (said : ReadAnswer) (l left : Lent) → ReadCall (x .blob) (x .reuse) said l left → room (x .header) l ≡ true → l .kept ≡ x .kept → l .image ≡ x .image → new ≡ left .image
   -- all blocks at once, from the first start on: the count and the end, the starts, each valid cell's word; every other cell is as it was
   pub tiles-exact : (x : Case) → Opened x → (said : WalkAnswer) (list image : List ℕ)
@@ -111,5 +111,5 @@ pub record DemandThree : Type 0 where
       → (said ≡ walk-answer.Walked (blocksOf x) (x .chain .end)) × (list ≡ over (x .chain .starts) (x .list)) × (length image ≡ length (x .image))
       × ((c : ℕ) → c < length (x .image) → getD image c 0 ≡ cond (isValidCell (shape x) (inMask x) c) (cellWord (x .header) (inMask x) (blocks (x .chain)) c) (getD (x .image) c 0))
   -- the words reported, over all numbers once, add to valid times depth
-  pub words-sum : (x : Case) → Opened x → (said : ℕ → FillAnswer) (new : ℕ → List ℕ) → ((n : ℕ) → n < blocksOf x → Fill x n (said n) (x .image) (new n))
+  pub words-sum : (x : Case) → Opened x → (said : ℕ → FillAnswer) (new : ℕ → List ℕ) → ((n : ℕ) → n < blocksOf x → CaseFill x n (said n) (x .image) (new n))
       → total (blocksOf x) (λ n. reported (said n)) ≡ x .header .valid * x .header .depth

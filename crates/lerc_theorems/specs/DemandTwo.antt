@@ -21,7 +21,7 @@ use Rattle.lerc_ranges.specs.declared.Ranges.{Ranges}
 use Rattle.lerc_ranges.specs.declared.RangesRead.{RangesRead}
 use Rattle.lerc_ranges.specs.declared.RangesAnswer.the-variants as ranges-answer
 use Rattle.lerc_validity.specs.declared.MaskAnswer.{MaskAnswer}
-use Rattle.lerc_validity.specs.Validity.{InForce, bytesOf, maskSays, spareWith}
+use Rattle.lerc_validity.specs.Validity.{MaskInForce, bytesOf, maskSays, spareWith}
 use Rattle.lerc_image.specs.declared.WalkAnswer.{WalkAnswer}
 use Rattle.lerc_image.specs.declared.WalkAnswer.the-variants as walk-answer
 use Rattle.lerc_image.specs.Geometry.{tileSize, tileOf, tileHere, cellOf, blockOf, placeIn, rank, isValidCell, positionOf, nextOf}
@@ -32,7 +32,7 @@ use Rattle.lerc.specs.Meaning.{Meaning, blocks, endOf, startsOf, cellWord, mean
 use Rattle.lerc.specs.Read.{Lent, room, readSaid}
 use Rattle.lerc.proofs.read.Reads as read
 use Rattle.lerc_theorems.specs.Promises.{lent}
-use Rattle.lerc_theorems.specs.Calls.{HeaderCall, PrepareCall, HandedCall, RangesCall, RangesFrom, WalkCall, FillCalls, ReadCall}
+use Rattle.lerc_theorems.specs.Calls.{HeaderCall, PrepareCall, HandedCall, RangesCall, ReadRanges, WalkCall, FillCalls, ReadCall}
 
 -- the slices have the room that an accepted header asks for
 abbrev pub Roomy : List ℕ → Lent → Type 0
@@ -55,18 +55,18 @@ pub record Exact (m : Meaning) (r : ReadAnswer) (old new : Lent) : Type 0 where
 
 -- Any calls of the operations one after the other, on the blob and the slices that a whole read was lent: each is accepted, the mask is the one in force, and in the end
 -- spare, list and image are as the whole read left them. `new` is what it left.
-pub record WalkAndFills (b : List ℕ) (reuse : Bool) (old new : Lent) (h : Header) (f : InForce) (c : Chain) : Type 0 where
+pub record WalkAndFills (b : List ℕ) (reuse : Bool) (old new : Lent) (h : Header) (f : MaskInForce) (c : Chain) : Type 0 where
   pub header : (said : HeaderAnswer) → HeaderCall b said → said ≡ header-answer.Read h
   pub mask : (said : MaskAnswer) (spare m : List ℕ) → PrepareCall b h reuse (old .kept) said (old .spare) spare → HandedCall (old .kept) spare said m → (m ≡ bytesOf f) × (spare ≡ new .spare)
   pub ranges : (said : RangesRead) → RangesCall b h said → said .answer ≡ ranges-answer.Read
-  pub walk : (r : Ranges) → RangesFrom b h r → (said : WalkAnswer) (list : List ℕ) → WalkCall b h r (bytesOf f) said (old .list) list
+  pub walk : (r : Ranges) → ReadRanges b h r → (said : WalkAnswer) (list : List ℕ) → WalkCall b h r (bytesOf f) said (old .list) list
       → (said ≡ walk-answer.Walked (blockCount (shapeOf h)) (c .end)) × (list ≡ new .list)
-  pub fills : (r : Ranges) → RangesFrom b h r → (image : List ℕ)
+  pub fills : (r : Ranges) → ReadRanges b h r → (image : List ℕ)
       → FillCalls b h r (bytesOf f) (new .list) (tabulate (blockCount (shapeOf h)) (λ n. n)) (old .image) image → image ≡ new .image
 
 -- what accepted calls of read header, prepare mask, mask in force, read ranges and walk tell: a meaning in blocks. m is the mask handed back, n and end the walk's answer.
 pub record WalkMeans (b : List ℕ) (reuse : Bool) (kept : List ℕ) (h : Header) (m : List ℕ) (n end : ℕ) (old new : List ℕ) : Type 0 where
-  pub mask : InForce
+  pub mask : MaskInForce
   pub chain : Chain
   pub means : meaning b reuse kept ≡ ok (record { header = h; mask = mask; body = blocks chain })
   pub kept-long : maskLength (shapeOf h) ≤ length kept
@@ -78,7 +78,7 @@ pub record WalkMeans (b : List ℕ) (reuse : Bool) (kept : List ℕ) (h : Header
 -- a constant body whose one value does not fit its kind: the header's minimum and maximum are the same, and cannot be stored
 pub record Unstored (b : List ℕ) (reuse : Bool) (kept : List ℕ) : Type 0 where
   pub header : Header
-  pub mask : InForce
+  pub mask : MaskInForce
   pub read : headerSays b ≡ ok header
   pub masked : maskSays (take (header .size) b) header reuse kept ≡ ok mask
   pub some : 0 < header .valid
@@ -108,7 +108,7 @@ pub record DemandTwo : Type 0 where
   pub end-bounds : (b : List ℕ) (reuse : Bool) (kept : List ℕ) (m : Meaning) → meaning b reuse kept ≡ ok m
       → (headerBytes ≤ endOf (m .body)) × (endOf (m .body) ≤ m .header .size) × (m .header .size ≤ length b)
   -- a body in blocks has a start for each block; starts rise strictly, and lie below the end
-  pub starts-rise : (b : List ℕ) (reuse : Bool) (kept : List ℕ) (h : Header) (f : InForce) (c : Chain)
+  pub starts-rise : (b : List ℕ) (reuse : Bool) (kept : List ℕ) (h : Header) (f : MaskInForce) (c : Chain)
       → meaning b reuse kept ≡ ok (record { header = h; mask = f; body = blocks c })
       → (length (c .starts) ≡ blockCount (shapeOf h)) × ((i j : ℕ) → i < j → j < length (c .starts) → getD (c .starts) i 0 < getD (c .starts) j 0)
       × ((i : ℕ) → i < length (c .starts) → getD (c .starts) i 0 < c .end)
@@ -124,11 +124,11 @@ pub record DemandTwo : Type 0 where
       × ((m : List ℕ) (c : Chain) → cellWord h m (blocks c) (cellOf s n k) ≡ getD (getD (c .words) n []) (rank s m (tileOf s n) k) 0))
       × ((c : ℕ) → c < cells s → (blockOf s c < blockCount s) × (placeIn s c < tileSize (tileOf s (blockOf s c))) × (cellOf s (blockOf s c) (placeIn s c) ≡ c))
   -- a whole read of a body in blocks is a walk, and then the fill of each number
-  pub read-is-walk-and-fills : (b : List ℕ) (reuse : Bool) (r : ReadAnswer) (old new : Lent) (h : Header) (f : InForce) (c : Chain) → ReadCall b reuse r old new → Roomy b old
+  pub read-is-walk-and-fills : (b : List ℕ) (reuse : Bool) (r : ReadAnswer) (old new : Lent) (h : Header) (f : MaskInForce) (c : Chain) → ReadCall b reuse r old new → Roomy b old
       → meaning b reuse (old .kept) ≡ ok (record { header = h; mask = f; body = blocks c }) → WalkAndFills b reuse old new h f c
   -- and a blob that is prepared, whose ranges are read and that is walked has the meaning that the walk found; the walk may be lent a longer mask
   pub walk-is-read : (b : List ℕ) (reuse : Bool) (kept : List ℕ) (h : Header) (said : MaskAnswer) (spare prepared m q : List ℕ) (r : Ranges) (n end : ℕ) (old new : List ℕ)
-      → HeaderCall b (header-answer.Read h) → PrepareCall b h reuse kept said spare prepared → HandedCall kept prepared said m → RangesFrom b h r
+      → HeaderCall b (header-answer.Read h) → PrepareCall b h reuse kept said spare prepared → HandedCall kept prepared said m → ReadRanges b h r
       → take (maskLength (shapeOf h)) q ≡ m → WalkCall b h r q (walk-answer.Walked n end) old new → WalkMeans b reuse kept h m n end old new
   -- in a whole read 9 comes from a constant body alone: a block's values are clamped to a maximum that was read in the blob's own kind, and so always fit
   pub nine-only-constant : (b : List ℕ) (reuse : Bool) (kept : List ℕ) → meaning b reuse kept ≡ fail (refuse 9) → Unstored b reuse kept

@@ -39,22 +39,22 @@ use Rattle.lerc_image.proofs.decode_tiles.Reads as decode-tiles
 use Rattle.lerc.specs.Read.{Lent, room}
 
 -- a promise by which a refusal leaves what was lent: `before` of the inputs is `left` of the outputs
-abbrev pub Keeps : {K A R O S : Type 0} → (K → A → R → O → Type 0) → (Refusal → R) → (A → S) → (O → S) → Type 0
-Keeps {K} {A} {R} {O} Post Refused before left = (k : K) (a : A) (x : O) (why : Refusal) → Post k a (Refused why) x → left x ≡ before a
+abbrev pub RefusalKeeps : {K A R O S : Type 0} → (K → A → R → O → Type 0) → (Refusal → R) → (A → S) → (O → S) → Type 0
+RefusalKeeps {K} {A} {R} {O} Post Refused before left = (k : K) (a : A) (x : O) (why : Refusal) → Post k a (Refused why) x → left x ≡ before a
 
 -- every public function that is lent a slice to write, whole read apart
 pub record RefusalsKeep : Type 0 where
-  pub decode-plan : Keeps decode-plan.Post counts.Refused (λ a. a .1 .1 .0 .now) (λ o. o .1 .1 .0 .now)
-  pub decode-counts : Keeps decode-counts.Post counts.Refused (λ a. a .1 .1 .0 .now) (λ o. o .1 .1 .0 .now)
-  pub decode-mask : Keeps decode-mask.Post runs.Refused (λ a. a .1 .1 .1 .0 .now) (λ o. o .1 .1 .1 .0 .now)
-  pub prepare-mask : Keeps prepare-mask.Post mask.Refused (λ a. a .1 .1 .1 .1 .0 .now) (λ o. o .1 .1 .1 .1 .0 .now)
-  pub find-mask : Keeps find-mask.Post mask.Refused (λ a. a .1 .1 .1 .1 .0 .now) (λ o. o .1 .1 .1 .1 .0 .now)
-  pub read-block : Keeps read-block.Post block.Refused (λ a. a .1 .1 .1 .1 .1 .1 .1 .0 .now) (λ o. o .1 .1 .1 .1 .1 .1 .1 .0 .now)
-  pub walk : Keeps walk.Post walked.Refused (λ a. a .1 .1 .1 .1 .0 .now) (λ o. o .1 .1 .1 .1 .0 .now)
-  pub fill : Keeps fill.Post filled.Refused (λ a. a .1 .1 .1 .1 .1 .1 .0 .now) (λ o. o .1 .1 .1 .1 .1 .1 .0 .now)
+  pub decode-plan : RefusalKeeps decode-plan.Post counts.Refused (λ a. a .1 .1 .0 .now) (λ o. o .1 .1 .0 .now)
+  pub decode-counts : RefusalKeeps decode-counts.Post counts.Refused (λ a. a .1 .1 .0 .now) (λ o. o .1 .1 .0 .now)
+  pub decode-mask : RefusalKeeps decode-mask.Post runs.Refused (λ a. a .1 .1 .1 .0 .now) (λ o. o .1 .1 .1 .0 .now)
+  pub prepare-mask : RefusalKeeps prepare-mask.Post mask.Refused (λ a. a .1 .1 .1 .1 .0 .now) (λ o. o .1 .1 .1 .1 .0 .now)
+  pub find-mask : RefusalKeeps find-mask.Post mask.Refused (λ a. a .1 .1 .1 .1 .0 .now) (λ o. o .1 .1 .1 .1 .0 .now)
+  pub read-block : RefusalKeeps read-block.Post block.Refused (λ a. a .1 .1 .1 .1 .1 .1 .1 .0 .now) (λ o. o .1 .1 .1 .1 .1 .1 .1 .0 .now)
+  pub walk : RefusalKeeps walk.Post walked.Refused (λ a. a .1 .1 .1 .1 .0 .now) (λ o. o .1 .1 .1 .1 .0 .now)
+  pub fill : RefusalKeeps fill.Post filled.Refused (λ a. a .1 .1 .1 .1 .1 .1 .0 .now) (λ o. o .1 .1 .1 .1 .1 .1 .0 .now)
   -- the list, and the image
-  pub tiles-list : Keeps decode-tiles.Post walked.Refused (λ a. a .1 .1 .1 .1 .1 .0 .now) (λ o. o .1 .1 .1 .1 .1 .0 .now)
-  pub tiles-image : Keeps decode-tiles.Post walked.Refused (λ a. a .1 .1 .1 .1 .1 .1 .0 .now) (λ o. o .1 .1 .1 .1 .1 .1 .0 .now)
+  pub tiles-list : RefusalKeeps decode-tiles.Post walked.Refused (λ a. a .1 .1 .1 .1 .1 .0 .now) (λ o. o .1 .1 .1 .1 .1 .0 .now)
+  pub tiles-image : RefusalKeeps decode-tiles.Post walked.Refused (λ a. a .1 .1 .1 .1 .1 .1 .0 .now) (λ o. o .1 .1 .1 .1 .1 .1 .0 .now)
 
 -- "A refusal carries its number, and 0 for each count and offset; a part to be handed back is then empty."
 -- An answer that is an enum has no place for more than the number where it is a refusal; these are the others.

@@ -20,7 +20,7 @@ use Rattle.lerc_ranges.specs.declared.Ranges.{Ranges}
 use Rattle.lerc_validity.specs.Validity.{bytesOf}
 use Rattle.lerc_ranges.specs.Ranges.{rangesEnd, codedRanges, pairsRight, rangesSays}
 use Rattle.lerc_sweep.specs.Sweep.{rawFrom, blocksFrom, hasModeByte, swept}
-use Rattle.lerc_image.specs.Geometry.{tileOf, tileValid}
+use Rattle.lerc_image.specs.Geometry.{tileOf, validInTile}
 use Rattle.lerc_image.specs.Blocks.{Chain, chain}
 use Rattle.lerc.specs.Read.{Lent, room, Masked, masked}
 use Rattle.lerc_theorems.specs.MaskTable.{CodedWrong}
@@ -92,18 +92,18 @@ pub data HeaderRefused (b : List ℕ) : Refusal → Type 0 where
 -- ---- the mask: "mask section wrong", "Any breach is 6."
 
 -- all pixels are valid, or none is
-abbrev pub Uniform : Header → Type 0
-Uniform h = (h .valid ≡ 0) ⊎ (h .valid ≡ pixels (shapeOf h))
+abbrev pub UniformMask : Header → Type 0
+UniformMask h = (h .valid ≡ 0) ⊎ (h .valid ≡ pixels (shapeOf h))
 
 pub data MaskWrong (s : List ℕ) (h : Header) (reuse : Bool) (old : List ℕ) : Type 0 where
   -- "mask bytes must then be 0"
-  uniform-coded : Uniform h → h .mask ≢ 0 → MaskWrong s h reuse old
+  uniform-coded : UniformMask h → h .mask ≢ 0 → MaskWrong s h reuse old
   -- "if the caller allows reuse"
-  not-allowed : (Uniform h → ⊥) → h .mask ≡ 0 → reuse ≡ false → MaskWrong s h reuse old
+  not-allowed : (UniformMask h → ⊥) → h .mask ≡ 0 → reuse ≡ false → MaskWrong s h reuse old
   -- "Valid pixels must number `valid`."
-  miscounted : (Uniform h → ⊥) → h .mask ≡ 0 → reuse ≡ true → validBelow (pixels (shapeOf h)) (take (maskLength (shapeOf h)) old) ≢ h .valid → MaskWrong s h reuse old
+  miscounted : (UniformMask h → ⊥) → h .mask ≡ 0 → reuse ≡ true → validBelow (pixels (shapeOf h)) (take (maskLength (shapeOf h)) old) ≢ h .valid → MaskWrong s h reuse old
   -- "Else runs"
-  runs-wrong : (Uniform h → ⊥) → h .mask ≢ 0 → CodedWrong (take (h .mask) (drop headerBytes s)) (pixels (shapeOf h)) (h .valid) → MaskWrong s h reuse old
+  runs-wrong : (UniformMask h → ⊥) → h .mask ≢ 0 → CodedWrong (take (h .mask) (drop headerBytes s)) (pixels (shapeOf h)) (h .valid) → MaskWrong s h reuse old
 
 -- the runs of a section alone: 5 for a slice too short, 6
 pub data RunsRefused (s : List ℕ) (count valid room : ℕ) : Refusal → Type 0 where
@@ -163,7 +163,7 @@ pub data SweepRefused (s : List ℕ) (kind error at : ℕ) : Refusal → Type 0 
 abbrev pub BlockAtRefused : List ℕ → Header → List ℕ → List ℕ → ℕ → ℕ → Refusal → Type 0
 BlockAtRefused s h maxima m n at =
     let t = tileOf (shapeOf h) n in
-    BlockRefused s at (h .kind) (h .error) (getD maxima (t .d) 0) (t .x) (tileValid (shapeOf h) m t)
+    BlockRefused s at (h .kind) (h .error) (getD maxima (t .d) 0) (t .x) (validInTile (shapeOf h) m t)
 
 -- f blocks from number n on, the first at `at`: k of them are right, and the next is refused
 pub data ChainRefused (s : List ℕ) (h : Header) (maxima m : List ℕ) (f n at : ℕ) : Refusal → Type 0 where

@@ -101,12 +101,12 @@ lent entries cells = record { kept = 7 ∷ []; spare = 7 ∷ 7 ∷ []; list = re
 -- ---- what each body gives: the answer, and every lent slice afterwards
 
 -- how many blocks, and where the body ends
-pub record Count : Type 0 where
+pub record CountAndEnd : Type 0 where
   pub blocks : ℕ
   pub end : ℕ
 
 pub record Shown : Type 0 where
-  pub said : Res Count
+  pub said : Res CountAndEnd
   pub left : Lent
 
 abbrev pub readInto : Lent → List ℕ → Shown

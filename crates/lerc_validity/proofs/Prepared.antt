@@ -27,27 +27,27 @@ use Rattle.lerc_mask.proofs.Steps.{bytes-part, bytes-repeat}
 use Rattle.lerc_mask.proofs.Runs.{coded-is, coded-length, coded-bytes, coded-six}
 use Rattle.lerc_validity.specs.declared.MaskAnswer.{MaskAnswer}
 use Rattle.lerc_validity.specs.declared.MaskAnswer.the-variants.{Kept, Spare, Refused}
-use Rattle.lerc_validity.specs.Validity.{InForce, reused, new, bytesOf, uniform, kept, unrolled, maskSays, prepareSays, maskSaid, Prepared, firstOf, inForce}
+use Rattle.lerc_validity.specs.Validity.{MaskInForce, reused, new, bytesOf, uniform, kept, unrolled, maskSays, prepareSays, maskSaid, Prepared, firstOf, inForce}
 
 -- a reused mask is the first part of the kept one
-abbrev pub Part : List ℕ → InForce → Type 0
+abbrev pub Part : List ℕ → MaskInForce → Type 0
 Part old (reused m) = (length m ≤ length old) × (m ≡ take (length m) old)
 Part old (new m) = Unit
 
 -- "Length is (pixels+7)/8", "Valid pixels must number `valid`": all three ways to a mask
-pub record Right (s : List ℕ) (h : Header) (old : List ℕ) (f : InForce) : Type 0 where
+pub record Right (s : List ℕ) (h : Header) (old : List ℕ) (f : MaskInForce) : Type 0 where
   pub size : length (bytesOf f) ≡ maskLength (shapeOf h)
   pub counts : validBelow (pixels (shapeOf h)) (bytesOf f) ≡ h .valid
   pub bytes : Bytes s → Bytes old → Bytes (bytesOf f)
   pub part : Part old f
 
 -- an accepted mask is right; "Any breach is 6."
-abbrev pub Told : List ℕ → Header → List ℕ → Res InForce → Type 0
+abbrev pub Told : List ℕ → Header → List ℕ → Res MaskInForce → Type 0
 Told s h old (ok f) = Right s h old f
 Told s h old (fail r) = r ≡ refuse 6
 
 module _ (s : List ℕ) (h : Header) (old : List ℕ) where
-  required : (t : Bool) (a : Res InForce) → (t ≡ true → Told s h old a) → Told s h old (require t 6 >>= λ _. a)
+  required : (t : Bool) (a : Res MaskInForce) → (t ≡ true → Told s h old a) → Told s h old (require t 6 >>= λ _. a)
   required true a f = f refl
   required false a f = refl
 
@@ -105,13 +105,13 @@ module _ (s : List ℕ) (h : Header) (old : List ℕ) where
 
 module _ (b : List ℕ) (h : Header) (reuse : Bool) (old : List ℕ) (room : ℕ) where
   -- accepted: the header was held, there was room, and the section is right
-  pub record Found (f : InForce) : Type 0 where
+  pub record Found (f : MaskInForce) : Type 0 where
     pub header : held h (length b) ≡ ok (extentOf h)
     pub here : maskLength (shapeOf h) ≤ length old
     pub there : maskLength (shapeOf h) ≤ room
     pub mask : maskSays (take (h .size) b) h reuse old ≡ ok f
 
-  pub prepare-found : (f : InForce) → prepareSays b h reuse old room ≡ ok f → Found f
+  pub prepare-found : (f : MaskInForce) → prepareSays b h reuse old room ≡ ok f → Found f
   unfolding prepareSays
   prepare-found f e =
       let (x, p, e) = bind-is (held h (length b)) _ e in
@@ -120,7 +120,7 @@ module _ (b : List ℕ) (h : Header) (reuse : Bool) (old : List ℕ) (room : ℕ
       let i : x ≡ extentOf h = held-is h (length b) p in
       record { header = rw (i) at p; here = rw (i) at (leb-true (x .mask) (length old) k); there = rw (i) at (leb-true (x .mask) room l); mask = e }
 
-  module _ (f : InForce) (e : prepareSays b h reuse old room ≡ ok f) where
+  module _ (f : MaskInForce) (e : prepareSays b h reuse old room ≡ ok f) where
     pub prepared-right : Right (take (h .size) b) h old f
     prepared-right = let k = prepare-found f e in rw (k .mask) at (mask-told (take (h .size) b) h old reuse (k .here))
 
@@ -164,7 +164,7 @@ said-is (Spare n) b e = cc
 said-is (Refused r) b e = absurd (let z : _≡_ {A = ℕ} 0 1 = cc in omega arith)
 
 -- what is handed back after an acceptance is the mask in force
-pub in-force : (f : InForce) (m : Res InForce) (r : MaskAnswer) (old spare newer : List ℕ) → m ≡ ok f → Part old f → Prepared m r spare newer → inForce r old newer ≡ bytesOf f
+pub in-force : (f : MaskInForce) (m : Res MaskInForce) (r : MaskAnswer) (old spare newer : List ℕ) → m ≡ ok f → Part old f → Prepared m r spare newer → inForce r old newer ≡ bytesOf f
 unfolding inForce
 in-force (reused n) m r old spare newer e p u =
     let a : r ≡ Kept (length n) = said-is r (Kept (length n)) (rw (e) at (u .says)) in
@@ -183,5 +183,5 @@ same-said (Refused r) (Spare n) e = absurd (let z : _≡_ {A = ℕ} 0 1 = cc in 
 same-said (Kept n) b e = sym (said-is b (Kept n) (sym e))
 same-said (Spare n) b e = sym (said-is b (Spare n) (sym e))
 
-pub prepared-same : {m : Res InForce} {a b : MaskAnswer} {old x y : List ℕ} → Prepared m a old x → Prepared m b old y → (a ≡ b) × (x ≡ y)
+pub prepared-same : {m : Res MaskInForce} {a b : MaskAnswer} {old x y : List ℕ} → Prepared m a old x → Prepared m b old y → (a ≡ b) × (x ≡ y)
 prepared-same {m} {a} {b} p q = (same-said a b (p .says ∙ sym (q .says)), p .spare ∙ sym (q .spare))

@@ -18,22 +18,22 @@ use Rattle.lerc_header.proofs.Kept.{held-is, held-size}
 use Rattle.lerc_header.specs.Shape.{pixels, maskLength}
 use Rattle.lerc_mask.specs.declared.RunsAnswer.{RunsAnswer}
 use Rattle.lerc_mask.specs.declared.RunsAnswer.the-variants as runs
-use Rattle.lerc_mask.specs.Mask.{validBelow, coded, decoded, Unrolled}
+use Rattle.lerc_mask.specs.Mask.{validBelow, coded, decoded, RunsUnrolled}
 use Rattle.lerc_mask.proofs.Pixels.{valid-take}
 use Rattle.lerc_mask.proofs.Runs.{decoded-coded}
 use Rattle.lerc_validity.specs.declared.MaskAnswer.{MaskAnswer}
 use Rattle.lerc_validity.specs.declared.MaskAnswer.the-variants.{Kept, Spare, Refused}
-use Rattle.lerc_validity.specs.Validity.{InForce, reused, new, uniform, kept, unrolled, maskSays, findSays, prepareSays, Prepared}
+use Rattle.lerc_validity.specs.Validity.{MaskInForce, reused, new, uniform, kept, unrolled, maskSays, findSays, prepareSays, Prepared}
 
 -- ---- the promise, for each answer
 
-pub refused : {m : Res InForce} {r : Refusal} {old : List ℕ} → m ≡ fail r → Prepared m (Refused r) old old
+pub refused : {m : Res MaskInForce} {r : Refusal} {old : List ℕ} → m ≡ fail r → Prepared m (Refused r) old old
 refused e = rw e (record { says = refl; spare = refl })
 
-pub spared : {m : Res InForce} (bytes : List ℕ) (n : ℕ) {old newer : List ℕ} → m ≡ ok (new bytes) → length bytes ≡ n → newer ≡ over bytes old → Prepared m (Spare n) old newer
+pub spared : {m : Res MaskInForce} (bytes : List ℕ) (n : ℕ) {old newer : List ℕ} → m ≡ ok (new bytes) → length bytes ≡ n → newer ≡ over bytes old → Prepared m (Spare n) old newer
 spared bytes n e l d = rw (e, d) (record { says = rw (l); spare = refl })
 
-pub reuses : {m : Res InForce} (bytes : List ℕ) (n : ℕ) {old : List ℕ} → m ≡ ok (reused bytes) → length bytes ≡ n → Prepared m (Kept n) old old
+pub reuses : {m : Res MaskInForce} (bytes : List ℕ) (n : ℕ) {old : List ℕ} → m ≡ ok (reused bytes) → length bytes ≡ n → Prepared m (Kept n) old old
 reuses bytes n e l = rw e (record { says = rw (l); spare = refl })
 
 -- ---- a uniform mask
@@ -71,14 +71,14 @@ abbrev pub fromRuns : RunsAnswer → MaskAnswer
 fromRuns (runs.Mask n) = Spare n
 fromRuns (runs.Refused r) = Refused r
 
-pub runs-told : (m : Res (List ℕ)) (a : RunsAnswer) {old newer : List ℕ} → Unrolled m a old newer → Prepared (m >>= λ bytes. ok (new bytes)) (fromRuns a) old newer
+pub runs-told : (m : Res (List ℕ)) (a : RunsAnswer) {old newer : List ℕ} → RunsUnrolled m a old newer → Prepared (m >>= λ bytes. ok (new bytes)) (fromRuns a) old newer
 runs-told (ok bytes) (runs.Mask n) u = let e : n ≡ length bytes = cc (u .says) in record { says = rw (e); spare = u .left }
 runs-told (ok bytes) (runs.Refused r) u = absurd (let z : _≡_ {A = ℕ} 0 1 = cc (u .says) in omega arith)
 runs-told (fail q) (runs.Mask n) u = absurd (let z : _≡_ {A = ℕ} 0 1 = cc (u .says) in omega arith)
 runs-told (fail q) (runs.Refused r) u = let e : r ≡ q = cc (u .says) in record { says = rw (e); spare = u .left }
 
 pub unroll-told : (s : List ℕ) (h : Header) (room : ℕ) (a : RunsAnswer) {old newer : List ℕ} → maskLength (shapeOf h) ≤ room
-    → Unrolled (decoded (take (h .mask) (drop headerBytes s)) (pixels (shapeOf h)) (h .valid) room) a old newer → Prepared (unrolled s h) (fromRuns a) old newer
+    → RunsUnrolled (decoded (take (h .mask) (drop headerBytes s)) (pixels (shapeOf h)) (h .valid) room) a old newer → Prepared (unrolled s h) (fromRuns a) old newer
 unfolding unrolled
 unroll-told s h room a l u =
     let t = take (h .mask) (drop headerBytes s) in

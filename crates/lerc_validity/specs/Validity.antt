@@ -17,21 +17,21 @@ use Rattle.lerc_validity.specs.declared.MaskAnswer.{MaskAnswer}
 use Rattle.lerc_validity.specs.declared.MaskAnswer.the-variants.{Kept, Spare, Refused}
 
 -- a reused mask, or a new one
-pub data InForce : Type 0 where
-  reused new : List ℕ → InForce
+pub data MaskInForce : Type 0 where
+  reused new : List ℕ → MaskInForce
 
-abbrev pub bytesOf : InForce → List ℕ
+abbrev pub bytesOf : MaskInForce → List ℕ
 bytesOf (reused m) = m
 bytesOf (new m) = m
 
 -- "Valid 0 gives all 0, valid = pixels all 255; mask bytes must then be 0."
-unfoldable pub uniform : Header → ℕ → Res InForce
+unfoldable pub uniform : Header → ℕ → Res MaskInForce
 uniform h byte = do
   _ ← require (eqb (h .mask) 0) 6
   ok (new (replicate (maskLength (shapeOf h)) byte))
 
 -- "mask bytes 0 means the kept mask, if the caller allows reuse"; "Valid pixels must number `valid`."
-unfoldable pub kept : Header → Bool → List ℕ → Res InForce
+unfoldable pub kept : Header → Bool → List ℕ → Res MaskInForce
 kept h reuse old = do
   _ ← require reuse 6
   let m = take (maskLength (shapeOf h)) old
@@ -39,20 +39,20 @@ kept h reuse old = do
   ok (reused m)
 
 -- "Else runs", in the mask section
-unfoldable pub unrolled : List ℕ → Header → Res InForce
+unfoldable pub unrolled : List ℕ → Header → Res MaskInForce
 unrolled s h = do
   m ← coded (take (h .mask) (drop headerBytes s)) (pixels (shapeOf h)) (h .valid)
   ok (new m)
 
 -- the mask of a blob s whose header is h; "Any breach is 6."
-unfoldable pub maskSays : List ℕ → Header → Bool → List ℕ → Res InForce
+unfoldable pub maskSays : List ℕ → Header → Bool → List ℕ → Res MaskInForce
 maskSays s h reuse old =
     cond (eqb (h .valid) 0) (uniform h 0)
     (cond (eqb (h .valid) (pixels (shapeOf h))) (uniform h 255)
     (cond (eqb (h .mask) 0) (kept h reuse old) (unrolled s h)))
 
 -- the mask in the bytes of a blob that was opened: room for it in both slices (5), its section (1), and what it says
-unfoldable pub findSays : List ℕ → Header → Bool → List ℕ → ℕ → Res InForce
+unfoldable pub findSays : List ℕ → Header → Bool → List ℕ → ℕ → Res MaskInForce
 findSays s h reuse old room = do
   _ ← require (leb (maskLength (shapeOf h)) (length old) && leb (maskLength (shapeOf h)) room) 5
   _ ← require (leb (rangesAt h) (length s)) 1
@@ -61,14 +61,14 @@ findSays s h reuse old room = do
 -- ---- prepare a mask
 
 -- the header by value; "Room is judged right after the header's refusals and from the header alone"; the mask section
-unfoldable pub prepareSays : List ℕ → Header → Bool → List ℕ → ℕ → Res InForce
+unfoldable pub prepareSays : List ℕ → Header → Bool → List ℕ → ℕ → Res MaskInForce
 prepareSays b h reuse old room = do
   e ← held h (length b)
   _ ← require (leb (e .mask) (length old) && leb (e .mask) room) 5
   maskSays (take (h .size) b) h reuse old
 
 -- "the spare's first (pixels+7)/8 bytes hold the new mask"
-abbrev pub spareWith : InForce → List ℕ → List ℕ
+abbrev pub spareWith : MaskInForce → List ℕ → List ℕ
 spareWith (reused m) spare = spare
 spareWith (new m) spare = over m spare
 
@@ -83,11 +83,11 @@ refusalOfMask (Spare n) = refuse 0
 refusalOfMask (Refused r) = r
 
 -- which, and how long
-abbrev pub which : InForce → Res MaskAnswer
+abbrev pub which : MaskInForce → Res MaskAnswer
 which (reused m) = ok (Kept (length m))
 which (new m) = ok (Spare (length m))
 
-pub record Prepared (m : Res InForce) (r : MaskAnswer) (old new : List ℕ) : Type 0 where
+pub record Prepared (m : Res MaskInForce) (r : MaskAnswer) (old new : List ℕ) : Type 0 where
   pub says : maskSaid r ≡ (m >>= which)
   pub spare : new ≡ after m old (λ f. spareWith f old)
 

@@ -1,4 +1,4 @@
-use Rattle.lerc.proofs.Masked.{keep-new, keep-old, keep-none}
+use Rattle.lerc.proofs.MaskKept.{keep-new, keep-old, keep-none}
 use native.Mathlib.Omega.{arith}
 use denote.Ref.{now}
 use lib.ListN.{length-take}

@@ -1,5 +1,5 @@
-use Rattle.lerc.proofs.Masked.{room-is}
-use Rattle.lerc.proofs.Whole.{read-refused, header-no, room-no}
+use Rattle.lerc.proofs.MaskKept.{room-is}
+use Rattle.lerc.proofs.Endings.{read-refused, header-no, room-no}
 use Rattle.lerc.specs.Read.{Lent}
 use Rattle.lerc_header.proofs.Kept.{open-no, open-ok}
 use Rattle.lerc_header.specs.Header.{openSaid, refusalOfOpen}

@@ -1,6 +1,6 @@
 use mathlib.Core.Path.{_∙_, sym}
-use Rattle.lerc.proofs.Whole.{checked-no, body-no, to-write, body-written}
-use Rattle.lerc.proofs.Masked.{kept-no, kept-yes}
+use Rattle.lerc.proofs.Endings.{checked-no, body-no, to-write, body-written}
+use Rattle.lerc.proofs.MaskKept.{kept-no, kept-yes}
 use borrow.Author.Needs.{needs}
 use Rattle.lerc.proofs.read_behind.Statement.{statement}
 use Rattle.lerc.proofs.read_behind.Tie as tie

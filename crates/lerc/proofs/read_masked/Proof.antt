@@ -4,7 +4,7 @@ use denote.Ref.{now}
 use lib.ListN.{length, length-take}
 use Rattle.lerc_header.proofs.Kept.{header-held, held-size}
 use Rattle.lerc.specs.Read.{Lent}
-use Rattle.lerc.proofs.Masked.{named, mask-refused, behind, behind-read}
+use Rattle.lerc.proofs.MaskKept.{named, mask-refused, behind, behind-read}
 use borrow.Author.Needs.{needs}
 use Rattle.lerc.proofs.read_masked.Statement.{statement}
 use Rattle.lerc.proofs.read_masked.Tie as tie

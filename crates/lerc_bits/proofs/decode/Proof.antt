@@ -2,7 +2,7 @@ use borrow.Author.Needs.{needs}
 use native.Mathlib.Omega.{arith}
 use denote.Ref.{now}
 use Rattle.lerc_bits.proofs.Plans.{counts-by-plan}
-use Rattle.lerc_bits.proofs.Answers.{refused, inspect-ok, inspect-no, counts-no}
+use Rattle.lerc_bits.proofs.Returns.{refused, inspect-ok, inspect-no, counts-no}
 use Rattle.lerc_bits.proofs.decode.Statement.{statement}
 use Rattle.lerc_bits.proofs.decode.Tie as tie
 

@@ -4,10 +4,10 @@ use mathlib.Core.Path.{_∙_, sym}
 use native.Mathlib.Omega.{arith}
 use denote.Ref.{now}
 use lib.ListN.{length}
-use Rattle.lerc_bits.specs.Bits.{run, Kept}
+use Rattle.lerc_bits.specs.Bits.{run, PlanKept}
 use Rattle.lerc_bits.proofs.Run.{length-digits}
 use Rattle.lerc_bits.proofs.Plans.{keeps-kept, by-broken, by-kept}
-use Rattle.lerc_bits.proofs.Answers.{refused, given, unpacked-plain}
+use Rattle.lerc_bits.proofs.Returns.{refused, given, unpacked-plain}
 use Rattle.lerc_bits.proofs.decode_plan.Statement.{statement}
 use Rattle.lerc_bits.proofs.decode_plan.Tie as tie
 
@@ -16,7 +16,7 @@ returns c =
     let a = c .before .before .before .args in
     refused (by-broken (now (a .s)) (a .p) (sym (c .before .keeps-bounds .ensures) ∙ not-true _ (c .if1 .taken)))
 
-kept : (k : tie.Else1) → Kept (length (now (k .before .before .before .args .s))) (k .before .before .before .args .p)
+kept : (k : tie.Else1) → PlanKept (length (now (k .before .before .before .args .s))) (k .before .before .before .args .p)
 kept k = keeps-kept _ _ (sym (k .before .keeps-bounds .ensures) ∙ not-false _ (k .if1 .left))
 
 unpack-requires : tie.Need-unpack-requires

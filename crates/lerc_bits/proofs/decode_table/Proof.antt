@@ -10,7 +10,7 @@ use Rattle.lerc_bits.specs.declared.Plan.{Plan}
 use Rattle.lerc_bits.specs.Bits.{run, chosen, allBelow}
 use Rattle.lerc_bits.proofs.Run.{length-digits}
 use Rattle.lerc_bits.proofs.Choose.{length-chosen, below-front, chosen-front}
-use Rattle.lerc_bits.proofs.Answers.{refused, given, unpacked-table, unpacked-bad}
+use Rattle.lerc_bits.proofs.Returns.{refused, given, unpacked-table, unpacked-bad}
 use Rattle.lerc_bits.proofs.decode_table.Statement.{statement}
 use Rattle.lerc_bits.proofs.decode_table.Tie as tie
 

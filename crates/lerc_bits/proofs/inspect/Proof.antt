@@ -8,7 +8,7 @@ use denote.Ref.{now}
 use Rattle.lerc_words.specs.Res.{ok, wordAt}
 use Rattle.lerc_words.proofs.Little.{read-ok, read-no, wordAt-is}
 use Rattle.lerc_bits.specs.Bits.{countBytes}
-use Rattle.lerc_bits.proofs.Answers.{Headed, count-bytes, count-small, plan-no, plan-form, plan-short, plan-many, plan-plain, plan-tabled}
+use Rattle.lerc_bits.proofs.Returns.{Headed, count-bytes, count-small, plan-no, plan-form, plan-short, plan-many, plan-plain, plan-tabled}
 use Rattle.lerc_bits.proofs.inspect.Statement.{statement}
 use Rattle.lerc_bits.proofs.inspect.Tie as tie
 

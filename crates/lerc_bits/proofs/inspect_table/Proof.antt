@@ -4,7 +4,7 @@ use native.Mathlib.Omega.{arith}
 use denote.Ref.{now}
 use Rattle.lerc_words.specs.Res.{ok, wordAt}
 use Rattle.lerc_words.proofs.Little.{Bytes, read-ok, read-no, byte-lt, wordAt-is}
-use Rattle.lerc_bits.proofs.Answers.{tabled-zero, tabled-no, tabled-few, tabled-more}
+use Rattle.lerc_bits.proofs.Returns.{tabled-zero, tabled-no, tabled-few, tabled-more}
 use Rattle.lerc_bits.proofs.inspect_table.Statement.{statement}
 use Rattle.lerc_bits.proofs.inspect_table.Tie as tie
 

@@ -2,7 +2,7 @@ use borrow.Author.Needs.{needs}
 use mathlib.Core.Path.{sym}
 use native.Mathlib.Omega.{arith}
 use Rattle.lerc_bits.specs.Bits.{plainPlan}
-use Rattle.lerc_bits.proofs.Answers.{fits-ok, fits-no}
+use Rattle.lerc_bits.proofs.Returns.{fits-ok, fits-no}
 use Rattle.lerc_bits.proofs.plan_plain.Statement.{statement}
 use Rattle.lerc_bits.proofs.plan_plain.Tie as tie
 

@@ -3,7 +3,7 @@ use Prim.Native.Nat.{_+_}
 use mathlib.Core.Path.{_≡_, sym}
 use native.Mathlib.Omega.{arith}
 use Rattle.lerc_bits.specs.Bits.{runBytes, indexWidth, tablePlan}
-use Rattle.lerc_bits.proofs.Answers.{fits-ok, fits-no}
+use Rattle.lerc_bits.proofs.Returns.{fits-ok, fits-no}
 use Rattle.lerc_bits.proofs.plan_table.Statement.{statement}
 use Rattle.lerc_bits.proofs.plan_table.Tie as tie
 

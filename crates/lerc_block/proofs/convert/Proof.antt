@@ -3,7 +3,7 @@ use Prim.Native.Nat.{_-_}
 use mathlib.Core.Path.{refl}
 use native.Mathlib.Omega.{arith}
 use Rattle.lerc_samples.specs.Samples.{storedSaid, refusalOfStored}
-use Rattle.lerc_block.proofs.Answers.{said-ok, said-no}
+use Rattle.lerc_block.proofs.Returns.{said-ok, said-no}
 use Rattle.lerc_block.proofs.Steps.{converted-all, converted-no}
 use denote.Ref.{now}
 use lib.ListN.{length}

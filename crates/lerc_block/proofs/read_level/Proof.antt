@@ -7,7 +7,7 @@ use lib.ListN.{replicate, length-replicate, length-take}
 use Rattle.lerc_words.specs.Res.{ok}
 use Rattle.lerc_samples.specs.Samples.{stored, storedSaid, refusalOfStored}
 use Rattle.lerc_block.specs.Plan.{offsetValue}
-use Rattle.lerc_block.proofs.Answers.{said-ok, said-no, refused, given, level-none, level-no, level-ok}
+use Rattle.lerc_block.proofs.Returns.{said-ok, said-no, refused, given, level-none, level-no, level-ok}
 use Rattle.lerc_slices.proofs.Parts.{front-filled}
 use Rattle.lerc_block.proofs.read_level.Statement.{statement}
 use Rattle.lerc_block.proofs.read_level.Tie as tie

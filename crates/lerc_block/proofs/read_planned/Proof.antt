@@ -10,8 +10,8 @@ use Rattle.lerc_words.proofs.Tables.{length-tabulate}
 use Rattle.lerc_numeric.specs.Kinds.{typeSize}
 use Rattle.lerc_numeric.proofs.Integers.{size-le}
 use Rattle.lerc_block.specs.Block.{levelBlock}
-use Rattle.lerc_block.specs.Plan.{planned, formWords}
-use Rattle.lerc_block.proofs.Answers.{given}
+use Rattle.lerc_block.specs.Plan.{plannedBlock, formWords}
+use Rattle.lerc_block.proofs.Returns.{given}
 use Rattle.lerc_slices.proofs.Parts.{front-filled}
 use Rattle.lerc_block.proofs.read_planned.Statement.{statement}
 use Rattle.lerc_block.proofs.read_planned.Tie as tie
@@ -31,7 +31,7 @@ read-steps-requires c κs =
     (i .pre .0, i .pre .1, rw (c .before .before .form3 .given .1) at (i .pre .2) .1)
 
 returns : tie.Need-returns
-unfolding planned formWords
+unfolding plannedBlock formWords
 returns c =
     let t = c .before .before in
     let z = t .before .before in
@@ -42,7 +42,7 @@ returns c =
     (rw (z .size .ensures) at (t .read-words .ensures)))
 
 returns-2 : tie.Need-returns-2
-unfolding planned formWords
+unfolding plannedBlock formWords
 returns-2 c =
     let t = c .before .before in
     let a = t .before .before .before .before .before .before .args in
@@ -50,11 +50,11 @@ returns-2 c =
     (given (replicate (a .n) 0) (a .n) refl (length-replicate (a .n) 0) (front-filled 0 (a .n) (now (a .words)) (omega arith) (t .fill-words .ensures)))
 
 returns-3 : tie.Need-returns-3
-unfolding planned formWords levelBlock
+unfolding plannedBlock formWords levelBlock
 returns-3 c = rw (c .before .before .before .before .before .form2 .given .1) (c .before .before .read-level .ensures)
 
 returns-4 : tie.Need-returns-4
-unfolding planned formWords
+unfolding plannedBlock formWords
 returns-4 c = rw (c .before .before .before .before .before .form3 .given .1) (c .before .before .read-steps .ensures)
 
 pub read-planned-spec : {M : Type 1} → statement M

@@ -6,12 +6,12 @@ use native.Mathlib.Omega.{arith}
 use denote.Ref.{now}
 use lib.ListN.{length, take, drop, replicate, length-take}
 use Rattle.lerc_words.specs.Res.{each}
-use Rattle.lerc_bits.specs.Bits.{unpacked, Decoded}
+use Rattle.lerc_bits.specs.Bits.{unpacked, CountsDecoded}
 use Rattle.lerc_bits.proofs.Plans.{by-kept}
-use Rattle.lerc_bits.proofs.Answers.{Given, decode-ok, decode-no}
+use Rattle.lerc_bits.proofs.Returns.{CountsGiven, decode-ok, decode-no}
 use Rattle.lerc_block.specs.Plan.{steppedWords, ended}
 use Rattle.lerc_block.specs.Steps.{stepWord}
-use Rattle.lerc_block.proofs.Answers.{refused, given}
+use Rattle.lerc_block.proofs.Returns.{refused, given}
 use Rattle.lerc_slices.proofs.Parts.{front-copied}
 use Rattle.lerc_block.proofs.Steps.{converted-fails, converted-is, steps-other, steps-no, counts-room, steps-each, steps-long, steps-front}
 use Rattle.lerc_block.proofs.read_steps.Statement.{statement}
@@ -29,7 +29,7 @@ same k = k .before .before
 
 decoded : (k : tie.After-decode-plan) →
     let a = same k .before .before .before .before .before .args in
-    Decoded (unpacked (now (a .s)) (a .steps .counts)) (k .decode-plan .result) (replicate 256 0) (k .decode-plan .last .1 .1 .0)
+    CountsDecoded (unpacked (now (a .s)) (a .steps .counts)) (k .decode-plan .result) (replicate 256 0) (k .decode-plan .last .1 .1 .0)
 decoded k =
     let i = same k .before .before .before .before .before in
     rw (by-kept (now (i .args .s)) (i .args .steps .counts) (i .pre .2)) at (k .decode-plan .ensures)
@@ -37,7 +37,7 @@ decoded k =
 read : (k : tie.After-a) →
     let d = k .before .before in
     let a = same d .before .before .before .before .before .args in
-    Given (unpacked (now (a .s)) (a .steps .counts)) (k .a .given .0 .0) (k .a .given .0 .1 .0) (replicate 256 0) (d .decode-plan .last .1 .1 .0)
+    CountsGiven (unpacked (now (a .s)) (a .steps .counts)) (k .a .given .0 .0) (k .a .given .0 .1 .0) (replicate 256 0) (d .decode-plan .last .1 .1 .0)
 read k = decode-ok _ (decoded (k .before .before)) (k .a .given .1)
 
 -- ---- after the offset's value was computed

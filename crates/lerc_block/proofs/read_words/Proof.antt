@@ -1,6 +1,6 @@
 use borrow.Author.Needs.{needs}
-use Prim.Native.Nat.{_-_, _+_, _*_, min}
-use mathlib.Core.Path.{_≡_}
+use Prim.Native.Nat.{ℕ, _-_, _+_, _*_, min}
+use mathlib.Core.Path.{_≡_, _∙_, ap}
 use native.Mathlib.Omega.{arith}
 use native.Mathlib.Nat.{suc-mul, mul-le-mul-right, zero-mul, add-zero}
 use native.Mathlib.Numerals.{add-one}
@@ -35,7 +35,8 @@ loop-again c =
     let l = c .before .before in
     let a = l .before .before .before .args in
     let h : min (a .size) 8 ≡ a .size = omega arith in
-    (rw (l .loop .inv .0, add-one) (omega (arith, suc-mul (l .loop .k) (a .size))), filling-more (l .loop .inv .1) _ (c .before .loop-test .taken) (rw (c .bytes .ensures, h, l .loop .inv .0)))
+    let word = (rw (h) at (c .bytes .ensures)) ∙ ap (λ (p : ℕ). little (a .size) (now (a .s)) p) (l .loop .inv .0) in
+    (rw (l .loop .inv .0, add-one) (omega (arith, suc-mul (l .loop .k) (a .size))), filling-more (l .loop .inv .1) _ (c .before .loop-test .taken) word)
 
 same-length : tie.Need-same-length Inv-loop μ-loop
 same-length c = filling-length (c .before .loop .inv .1)

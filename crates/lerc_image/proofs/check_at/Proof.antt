@@ -1,4 +1,9 @@
 use borrow.Author.Needs.{needs}
+use Prim.Native.Nat.{ℕ}
+use mathlib.Core.Path.{_∙_, ap}
+use lib.ListN.{getD}
+use Rattle.lerc_words.specs.Res.{Res}
+use Rattle.lerc_block.specs.Block.{Block, readBlockSays, nextBlock}
 use native.Mathlib.Omega.{arith}
 use denote.Ref.{now}
 use Rattle.lerc_image.proofs.Reading.{read-block}
@@ -23,9 +28,14 @@ returns : tie.Need-returns
 returns c =
     let k = c .before .before .before in
     let i = k .before .before .before in
-    let t = k .current .ensures in
-    let few = valid-small (i .args .shape) (k .current .result) (here-in (i .pre) t) (now (i .args .mask)) in
-    rw (c .before .count-valid .ensures, read-block _ _ _ _ _ _ _ few, here-block (i .pre) t _ _ _ _) at (c .check-block .ensures)
+    let a = i .args in
+    let t = k .current .result in
+    let e = k .current .ensures in
+    let few = valid-small (a .shape) t (here-in (i .pre) e) (now (a .mask)) in
+    let reading : ℕ → Res Block = λ n. readBlockSays (now (a .s)) (a .at) (a .h .kind) (a .h .error) (getD (now (a .maxima)) (t .d) 0) (t .x) n in
+    c .check-block .ensures
+    ∙ ap (λ (n : ℕ). nextBlock (reading n)) (c .before .count-valid .ensures)
+    ∙ ap nextBlock (read-block _ _ _ _ _ _ _ few ∙ here-block (i .pre) e (now (a .s)) (a .at) (now (a .maxima)) (now (a .mask)))
 
 pub check-at-spec : {M : Type 1} → statement M
 check-at-spec =

@@ -4,7 +4,7 @@ use denote.Ref.{now}
 use borrow.Author.Needs.{needs}
 use Rattle.lerc_block.specs.Plan.{planSays, planEnd}
 use Rattle.lerc_block.proofs.Leads.{plan-few, plan-any}
-use Rattle.lerc_image.specs.Geometry.{tileValid}
+use Rattle.lerc_image.specs.Geometry.{validInTile}
 use Rattle.lerc_image.proofs.Cursors.{valid-small}
 use Rattle.lerc_image.proofs.end_at.Statement.{statement}
 use Rattle.lerc_image.proofs.end_at.Tie as tie
@@ -15,7 +15,7 @@ returns c =
     let a = t .before .before .before .before .before .args in
     let s = now (a .s) in
     let x = a .t .x in
-    let n = tileValid (a .h) (now (a .mask)) (a .t) in
+    let n = validInTile (a .h) (now (a .mask)) (a .t) in
     let d = rw (t .before .before .bytes .ensures) at (t .before .if1 .taken) in
     c .end .ensures ∙ ap planEnd (t .inspect-block .ensures ∙ plan-few s (a .at) (a .kind) x 0 (omega arith) ∙ plan-any s (a .at) (a .kind) x 0 n d)
 
@@ -26,7 +26,7 @@ returns-2 c =
     let a = i .args in
     let s = now (a .s) in
     let x = a .t .x in
-    let n = tileValid (a .h) (now (a .mask)) (a .t) in
+    let n = validInTile (a .h) (now (a .mask)) (a .t) in
     c .end2 .ensures
     ∙ ap planEnd (t .inspect-block2 .ensures ∙ ap (λ k. planSays s (a .at) (a .kind) x k) (t .before .count-valid .ensures) ∙ plan-few s (a .at) (a .kind) x n (valid-small (a .h) (a .t) (i .pre) (now (a .mask))))
 

@@ -1,4 +1,6 @@
+use mathlib.Core.Path.{sym}
 use native.Mathlib.Omega.{arith}
+use denote.Ref.{now}
 use Rattle.lerc_image.proofs.Standing.{here-within, here-depth, here-asked, here-block}
 use borrow.Author.Needs.{needs}
 use Rattle.lerc_image.proofs.fill_at.Statement.{statement}
@@ -21,7 +23,9 @@ fill-tile-requires c κs =
 returns : tie.Need-returns
 returns c =
     let t = c .before .before .before .before .before in
-    rw (here-block (t .before .before .before .before .pre .0) (t .current .ensures) _ _ _ _) at (c .before .before .fill-tile .ensures)
+    let i = t .before .before .before .before in
+    let a = i .args in
+    rw (sym (here-block (i .pre .0) (t .current .ensures) (now (a .s)) (a .at) (now (a .maxima)) (now (a .mask)))) (c .before .before .fill-tile .ensures)
 
 pub fill-at-spec : {M : Type 1} → statement M
 fill-at-spec =

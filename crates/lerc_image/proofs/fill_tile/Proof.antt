@@ -2,7 +2,7 @@ use mathlib.Core.Path.{_∙_, ap}
 use denote.Ref.{now}
 use Rattle.lerc_block.specs.Block.{refusalOfBlock}
 use Rattle.lerc_block.proofs.Accepted.{block-words}
-use Rattle.lerc_image.specs.Geometry.{tileValid}
+use Rattle.lerc_image.specs.Geometry.{validInTile}
 use Rattle.lerc_image.proofs.Standing.{asked-in}
 use Rattle.lerc_image.proofs.Reading.{fill-refused, fill-accepted}
 use borrow.Author.Needs.{needs}
@@ -23,7 +23,7 @@ returns-2 c =
     let b = g .before .before .before .before .before .before .before in
     let a = b .pre in
     fill-accepted (g .before .before .read-tile .ensures) (b .args .h) (a .shaped) (now (b .args .mask)) (b .args .number) (a .below) (g .got .given .1)
-    (λ k e. block-words _ _ _ _ _ _ _ e ∙ ap (tileValid (b .args .h) (now (b .args .mask))) (a .tile)) (c .before .before .scatter .ensures)
+    (λ k e. block-words _ _ _ _ _ _ _ e ∙ ap (validInTile (b .args .h) (now (b .args .mask))) (a .tile)) (c .before .before .scatter .ensures)
 
 pub fill-tile-spec : {M : Type 1} → statement M
 fill-tile-spec =

@@ -1,5 +1,6 @@
 use mathlib.Core.Path.{_∙_, sym}
 use borrow.Author.Tests.{le-leb, lt-leb, not-true, not-false}
+use Rattle.lerc_header.specs.Limits.{depthLimit}
 use Rattle.lerc_ranges.specs.Ranges.{rangesSays, rangesInSays}
 use borrow.Author.Needs.{needs}
 use Rattle.lerc_ranges.proofs.ranges_in.Statement.{statement}
@@ -7,7 +8,7 @@ use Rattle.lerc_ranges.proofs.ranges_in.Tie as tie
 
 returns : tie.Need-returns
 unfolding rangesInSays
-returns c = rw (c .refused .ensures, lt-leb _ _ (c .before .if1 .taken))
+returns c = rw (c .refused .ensures, lt-leb _ depthLimit (c .before .if1 .taken))
 
 returns-2 : tie.Need-returns-2
 unfolding rangesInSays rangesSays

@@ -17,13 +17,13 @@ returns-2 : tie.Need-returns-2
 unfolding modeAt
 returns-2 c =
     let a = c .before .before .before .before .before .before .args in
-    rw (read-ok (now (a .s)) (a .at) 1 (omega arith) (c .before .before .before .before .word .ensures) (c .before .before .a .given .1), le-ltb _ _ (c .if1 .taken))
+    rw (read-ok (now (a .s)) (a .at) 1 (omega arith) (c .before .before .before .before .word .ensures) (c .before .before .a .given .1), le-ltb _ 3 (c .if1 .taken))
 
 returns-3 : tie.Need-returns-3
 unfolding modeAt
 returns-3 c =
     let a = c .before .before .before .before .before .before .before .args in
-    rw (read-ok (now (a .s)) (a .at) 1 (omega arith) (c .before .before .before .before .before .word .ensures) (c .before .before .before .a .given .1), lt-ltb _ _ (c .before .if1 .left), ne-eqb _ _ (c .if2 .taken))
+    rw (read-ok (now (a .s)) (a .at) 1 (omega arith) (c .before .before .before .before .before .word .ensures) (c .before .before .before .a .given .1), lt-ltb _ 3 (c .before .if1 .left), ne-eqb _ 0 (c .if2 .taken))
 
 add-t9 : tie.Need-add-t9
 add-t9 c =
@@ -35,7 +35,7 @@ returns-4 : tie.Need-returns-4
 unfolding modeAt
 returns-4 c =
     let a = c .before .before .before .before .before .before .before .args in
-    rw (read-ok (now (a .s)) (a .at) 1 (omega arith) (c .before .before .before .before .before .word .ensures) (c .before .before .before .a .given .1), lt-ltb _ _ (c .before .if1 .left), eq-eqb _ _ (c .if2 .left))
+    rw (read-ok (now (a .s)) (a .at) 1 (omega arith) (c .before .before .before .before .before .word .ensures) (c .before .before .before .a .given .1), lt-ltb _ 3 (c .before .if1 .left), eq-eqb _ 0 (c .if2 .left))
 
 pub read-mode-spec : {M : Type 1} → statement M
 read-mode-spec =

@@ -17,7 +17,7 @@ returns-2 : tie.Need-returns-2
 unfolding swept
 returns-2 c =
     let a = c .before .before .before .before .before .before .args in
-    rw (read-ok (now (a .s)) (a .at) 1 (omega arith) (c .before .before .before .before .word .ensures) (c .before .before .a .given .1), le-ltb _ _ (c .if1 .taken))
+    rw (read-ok (now (a .s)) (a .at) 1 (omega arith) (c .before .before .before .before .word .ensures) (c .before .before .a .given .1), le-ltb _ 2 (c .if1 .taken))
 
 add-t10 : tie.Need-add-t10
 add-t10 c =
@@ -29,7 +29,7 @@ returns-3 : tie.Need-returns-3
 unfolding swept
 returns-3 c =
     let a = c .before .before .before .before .before .before .before .args in
-    rw (read-ok (now (a .s)) (a .at) 1 (omega arith) (c .before .before .before .before .before .word .ensures) (c .before .before .before .a .given .1), lt-ltb _ _ (c .before .if1 .left), eq-eqb _ _ (c .if2 .taken))
+    rw (read-ok (now (a .s)) (a .at) 1 (omega arith) (c .before .before .before .before .before .word .ensures) (c .before .before .before .a .given .1), lt-ltb _ 2 (c .before .if1 .left), eq-eqb _ 1 (c .if2 .taken))
 
 add-after-sweep : tie.Need-add-after-sweep
 add-after-sweep c =
@@ -41,7 +41,7 @@ returns-4 : tie.Need-returns-4
 unfolding swept
 returns-4 c =
     let a = c .before .before .before .before .before .before .before .before .args in
-    rw (read-ok (now (a .s)) (a .at) 1 (omega arith) (c .before .before .before .before .before .before .word .ensures) (c .before .before .before .before .a .given .1), lt-ltb _ _ (c .before .before .if1 .left), ne-eqb _ _ (c .before .if2 .left)) (c .after-sweep .ensures)
+    rw (read-ok (now (a .s)) (a .at) 1 (omega arith) (c .before .before .before .before .before .before .word .ensures) (c .before .before .before .before .a .given .1), lt-ltb _ 2 (c .before .before .if1 .left), ne-eqb _ 1 (c .before .if2 .left)) (c .after-sweep .ensures)
 
 pub read-sweep-spec : {M : Type 1} → statement M
 read-sweep-spec =

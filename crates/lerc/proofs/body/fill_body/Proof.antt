@@ -1,14 +1,28 @@
+use Prim.Native.Nat.{_≤_}
+use mathlib.Core.Path.{_≡_, sym}
+use native.Mathlib.Omega.{arith}
+use lib.ListN.{length}
+use Rattle.lerc_header.specs.Limits.{depthLimit}
 use denote.Ref.{now}
 use Rattle.lerc.proofs.Writing.{shaped, raw-asked, image-refused, image-none, image-constant, image-written, image-blocks}
 use borrow.Author.Needs.{needs}
 use Rattle.lerc.proofs.body.fill_body.Statement.{statement}
 use Rattle.lerc.proofs.body.fill_body.Tie as tie
 
+array-lent : tie.Need-slice-aggregate-write-constant
+array-lent c =
+    let f = c .before .before .before .before .before in
+    let s = f .before .before .before .before .before .before in
+    let k : length (s .args .body .words) ≡ depthLimit = search (needs, s .good .1 .1 .1 .0) in
+    sym k
+
 write-constant-requires : tie.Need-write-constant-requires
 write-constant-requires c κs =
     let f = c .before .before .before .before .before .before in
     let s = f .before .before .before .before .before .before in
-    rw (f .shape .ensures) (shaped (s .pre .0), s .pre .3)
+    let k : length (s .args .body .words) ≡ depthLimit = search (needs, s .good .1 .1 .1 .0) in
+    let long : depthLimit ≤ length (s .args .body .words) = omega (arith, k) in
+    rw (f .shape .ensures) (shaped (s .pre .0), s .pre .3, long)
 
 write-raw-requires : tie.Need-write-raw-requires
 write-raw-requires c κs =
@@ -53,6 +67,7 @@ fill-body-spec =
     (λ c κs. search needs)
     (λ c κs. search needs)
     (λ c. search needs)
+    array-lent
     write-constant-requires
     (λ c. search needs)
     write-raw-requires

@@ -1,67 +1,57 @@
 use borrow.Author.Needs.{needs}
-use Prim.Native.Nat.{_≤_, _-_}
-use mathlib.Core.Path.{_≡_}
-use Prim.Native.Nat.{ℕ, _<_, _+_}
+use mathlib.Core.Path.{_≡_, _∙_, sym, ap}
+use mathlib.Core.List.{List, _++_}
+use Prim.Native.Nat.{ℕ, _-_, _+_}
 use native.Mathlib.Omega.{arith}
 use denote.Ref.{now}
-use lib.ListN.{length, getD}
-use Rattle.lerc_image.specs.Paint.{painted}
-use Rattle.lerc_image.proofs.Painting.{length-painted}
-use Rattle.lerc.specs.Linear.{within}
-use Rattle.lerc.proofs.Pixels.{cells-none, cell-more}
+use lib.ListN.{length, getD, take, drop, length-take}
+use lib.Seq.{take-take}
+use Rattle.lerc_slices.proofs.Parts.{part-copied}
+use Rattle.lerc.proofs.Pixels.{cell-put, cells-pasted}
 use Rattle.lerc.proofs.linear.put_constant.Statement.{statement}
 use Rattle.lerc.proofs.linear.put_constant.Tie as tie
 
-abbrev Inv-loop : tie.InvT-loop
-Inv-loop words depth base image₀ d₀ image d = (d ≤ depth) × (image ≡ painted image₀ (within base d) (λ c. getD words (c - base) 0))
+lent : tie.Need-slice-aggregate-copy-words
+lent c =
+    let a = c .before .before .before .before .args in
+    let l : length (take (a .depth) (now (a .words))) ≡ a .depth = simp length-take (omega arith) in
+    sym l
 
-abbrev μ-loop : tie.MeasureT-loop
-μ-loop words depth base image₀ d₀ image d = depth - d
-
-loop-holds : tie.Need-loop-holds Inv-loop μ-loop
-loop-holds c = let a = c .args in (omega arith, cells-none (now (a .image)) (λ i. getD (now (a .words)) (i - a .base) 0) (a .base))
-
-slice-write-image : tie.Need-slice-write-image Inv-loop μ-loop
-slice-write-image c =
-    let l = c .before .before in
-    let a = l .before .args in
-    let im = now (a .image) in
+one : tie.Need-returns
+one c =
+    let a = c .before .before .before .before .args in
     let w : ℕ → ℕ = λ i. getD (now (a .words)) (i - a .base) 0 in
-    rw (l .loop .inv .1, length-painted im w (within (a .base) (l .loop .d))) (omega arith)
+    let z : a .base - a .base ≡ 0 = omega arith in
+    rw (c .before .if1 .taken) (rw (z) at (cell-put (now (a .image)) w (a .base) (omega arith)))
 
-loop-again : tie.Need-loop-again Inv-loop μ-loop
-loop-again c =
-    let l = c .before .before in
-    let a = l .before .args in
+copied : tie.Need-returns-2
+copied c =
+    let s = c .before .before .before .before .before .before .before .before in
+    let a = s .args in
     let im = now (a .image) in
-    let w : ℕ → ℕ = λ i. getD (now (a .words)) (i - a .base) 0 in
-    let h : a .base + l .loop .d < length im = omega arith in
-    let e : a .base + l .loop .d - a .base ≡ l .loop .d = omega arith in
-    (omega arith, rw (l .loop .inv .1) (rw (e) at (cell-more im w (a .base) (l .loop .d) h)))
-
-same-length : tie.Need-same-length Inv-loop μ-loop
-same-length c =
-    let l = c .before in
-    let a = l .before .args in
-    rw (l .loop .inv .1, length-painted (now (a .image)) (λ i. getD (now (a .words)) (i - a .base) 0) (within (a .base) (l .loop .d)))
-
-returns : tie.Need-returns Inv-loop μ-loop
-returns c = let l = c .before in let e : l .loop .d ≡ l .before .args .depth = omega arith in rw (← e) (l .loop .inv .1)
+    let words = now (a .words) in
+    let l : length (take (a .depth) words) ≡ a .depth = simp length-take (omega arith) in
+    let front : take (a .depth) (take (a .depth) words) ≡ take (a .depth) words = take-take (a .depth) (a .depth) words (omega arith) in
+    rw (c .before .before .copy-words .ensures)
+    (part-copied im (take (a .depth) words) (a .base) (a .depth) (omega arith) l
+    ∙ ap (λ (x : List ℕ). take (a .base) im ++ x ++ drop (a .base + a .depth) im) front
+    ∙ cells-pasted im words (a .base) (a .depth) (omega arith) (omega arith))
 
 pub put-constant-spec : {M : Type 1} → statement M
 put-constant-spec =
     tie.close
     (tie.spec
-    Inv-loop
-    μ-loop
-    loop-holds
     (λ c. search needs)
     (λ c. search needs)
     (λ c. search needs)
     (λ c. search needs)
-    slice-write-image
+    lent
     (λ c. search needs)
     (λ c. search needs)
-    loop-again
-    same-length
-    returns)
+    (λ c. search needs)
+    (λ c. search needs)
+    (λ c κs. search needs)
+    (λ c. search needs)
+    one
+    (λ c. search needs)
+    copied)

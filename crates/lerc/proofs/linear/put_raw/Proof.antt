@@ -1,6 +1,6 @@
 use borrow.Author.Needs.{needs}
 use Prim.Native.Nat.{_≤_, _-_}
-use mathlib.Core.Path.{_≡_}
+use mathlib.Core.Path.{_≡_, _∙_, ap}
 use Prim.Native.Nat.{ℕ, _<_, _+_, _*_, min}
 use native.Mathlib.Omega.{arith}
 use native.Mathlib.Nat.{suc-mul, mul-le-mul-right, zero-mul, add-zero}
@@ -52,7 +52,8 @@ loop-again c =
     let h : a .base + d < length im = omega arith in
     let e : a .base + d - a .base ≡ d = omega arith in
     let f : min (a .size) 8 ≡ a .size = omega arith in
-    (omega arith, rw (l .loop .inv .1, add-one) (omega (arith, suc-mul d (a .size))), rw (l .loop .inv .2, c .bytes .ensures, l .loop .inv .1, f) (rw (e) at (cell-more im w (a .base) d h)))
+    let word = (rw (f) at (c .bytes .ensures)) ∙ ap (λ (i : ℕ). little (a .size) (now (a .s)) i) (l .loop .inv .1) in
+    (omega arith, rw (l .loop .inv .1, add-one) (omega (arith, suc-mul d (a .size))), rw (l .loop .inv .2, word) (rw (e) at (cell-more im w (a .base) d h)))
 
 same-length : tie.Need-same-length Inv-loop μ-loop
 same-length c =

@@ -23,28 +23,29 @@ abbrev μ-loop : tie.MeasureT-loop
 μ-loop h words mask image₀ pixels p₀ base₀ image p base = h .rows * h .columns - p
 
 mul-pixels : tie.Need-mul-pixels Inv-loop μ-loop
-mul-pixels c = let s = c .before .before .before in omega (arith, pixels-few (s .args .h) (s .pre .0))
+mul-pixels c = let s = c .before .before .before .before in omega (arith, pixels-few (s .args .h) (s .pre .0))
 
 loop-holds : tie.Need-loop-holds Inv-loop μ-loop
 loop-holds c =
-    let a = c .before .before .before .args in
+    let a = c .before .before .before .before .args in
     let e : 0 * a .h .depth ≡ 0 = zero-mul (a .h .depth) in
     (omega arith, sym e, rw (e) (upto-none (a .h) (now (a .mask)) (now (a .image)) (depthWord (a .h) (now (a .words)))))
 
 put-constant-requires : tie.Need-put-constant-requires Inv-loop μ-loop
 put-constant-requires c κs =
     let l = c .before .before .before .before in
-    let s = l .before .before .before .before in
+    let s = l .before .before .before .before .before in
     let a = s .args in
     let i = l .loop .inv in
     let e : length (l .loop .image) ≡ length (now (a .image)) = rw (i .2) (length-painted (now (a .image)) (depthWord (a .h) (now (a .words))) (validUpto (a .h) (now (a .mask)) (l .loop .p * a .h .depth))) in
     let f = pixel-fits (a .h) (now (a .mask)) (l .loop .p) (omega arith) (length (now (a .image))) (s .pre .1) in
-    (s .pre .0 .depth .1, omega arith)
+    let few = s .pre .0 .depth .1 in
+    (omega (arith, few, s .pre .2), omega arith)
 
 add-base : tie.Need-add-base Inv-loop μ-loop
 add-base c =
     let l = c .before .before .before .before in
-    let s = l .before .before .before .before in
+    let s = l .before .before .before .before .before in
     let a = s .args in
     let f = pixel-fits (a .h) (now (a .mask)) (l .loop .p) (omega arith) 4194304 (s .pre .0 .few) in
     omega arith
@@ -52,14 +53,14 @@ add-base c =
 add-p : tie.Need-add-p Inv-loop μ-loop
 add-p c =
     let l = c .before .before .before .before in
-    let s = l .before .before .before .before in
+    let s = l .before .before .before .before .before in
     let f = pixels-few (s .args .h) (s .pre .0) in
     omega arith
 
 loop-again : tie.Need-loop-again Inv-loop μ-loop
 loop-again c =
     let l = c .before .before .before .before in
-    let s = l .before .before .before .before in
+    let s = l .before .before .before .before .before in
     let a = s .args in
     let h = a .h in
     let m = now (a .mask) in
@@ -75,13 +76,13 @@ loop-again c =
 same-length : tie.Need-same-length Inv-loop μ-loop
 same-length c =
     let l = c .before in
-    let a = l .before .before .before .before .args in
+    let a = l .before .before .before .before .before .args in
     rw (l .loop .inv .2) (length-painted (now (a .image)) (depthWord (a .h) (now (a .words))) (validUpto (a .h) (now (a .mask)) (l .loop .p * a .h .depth)))
 
 returns : tie.Need-returns Inv-loop μ-loop
 returns c =
     let l = c .before in
-    let a = l .before .before .before .before .args in
+    let a = l .before .before .before .before .before .args in
     let e : l .loop .p ≡ a .h .rows * a .h .columns = omega arith in
     l .loop .inv .2 ∙ rw (e) (upto-all (a .h) (now (a .mask)) (now (a .image)) (depthWord (a .h) (now (a .words))))
 

@@ -8,7 +8,7 @@ use Rattle.lerc_bits.specs.declared.Plan.{Plan}
 use Rattle.lerc_bits.specs.Bits.{run, chosen, allBelow}
 use Rattle.lerc_bits.proofs.Run.{length-digits}
 use Rattle.lerc_bits.proofs.Choose.{length-chosen, below-front}
-use Rattle.lerc_bits.proofs.Answers.{counted, uncounted, unpacked-table, unpacked-bad}
+use Rattle.lerc_bits.proofs.Returns.{counted, uncounted, unpacked-table, unpacked-bad}
 use Rattle.lerc_bits.proofs.checks.check_table.Statement.{statement}
 use Rattle.lerc_bits.proofs.checks.check_table.Tie as tie
 

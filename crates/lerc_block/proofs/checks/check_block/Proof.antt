@@ -5,8 +5,8 @@ use denote.Ref.{now}
 use Rattle.lerc_words.specs.Res.{ok}
 use Rattle.lerc_words.proofs.Binding.{bind-ok, bind-no}
 use Rattle.lerc_block.specs.Block.{readBlockSays, nextBlock}
-use Rattle.lerc_block.specs.Plan.{planSays, planned, planSaid, refusalOfPlan}
-use Rattle.lerc_block.proofs.Answers.{said-ok, said-no}
+use Rattle.lerc_block.specs.Plan.{planSays, plannedBlock, planSaid, refusalOfPlan}
+use Rattle.lerc_block.proofs.Returns.{said-ok, said-no}
 use Rattle.lerc_block.proofs.Leads.{read-planned, plan-sound}
 use Rattle.lerc_block.proofs.Fitting.{next-no}
 use Rattle.lerc_block.proofs.checks.check_block.Statement.{statement}
@@ -17,7 +17,7 @@ found k = said-ok planSaid (k .before .before .inspect-block .ensures) (k .a .gi
 
 by-plan : (k : tie.After-a) →
     let a = k .before .before .before .before .args in
-    readBlockSays (now (a .s)) (a .at) (a .kind) (a .error) (a .maximum) (a .x) (a .n) ≡ planned (now (a .s)) (a .kind) (a .error) (a .maximum) (a .n) (k .a .given .0 .0)
+    readBlockSays (now (a .s)) (a .at) (a .kind) (a .error) (a .maximum) (a .x) (a .n) ≡ plannedBlock (now (a .s)) (a .kind) (a .error) (a .maximum) (a .n) (k .a .given .0 .0)
 by-plan k =
     let a = k .before .before .before .before .args in
     read-planned (now (a .s)) (a .at) (a .kind) (a .error) (a .maximum) (a .x) (a .n) ∙ bind-ok _ (found k)

@@ -4,7 +4,7 @@ use mathlib.Core.Path.{_≡_, _∙_, sym, ap}
 use denote.Ref.{now}
 use Rattle.lerc_bits.specs.Bits.{unpacked, countsSaid, spanned}
 use Rattle.lerc_bits.proofs.Plans.{by-kept}
-use Rattle.lerc_bits.proofs.Answers.{check-ok, check-no}
+use Rattle.lerc_bits.proofs.Returns.{check-ok, check-no}
 use Rattle.lerc_block.specs.Plan.{ended}
 use Rattle.lerc_block.proofs.Steps.{steps-other, steps-no}
 use Rattle.lerc_block.proofs.Fitting.{next-no, steps-next}

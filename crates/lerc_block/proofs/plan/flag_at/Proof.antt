@@ -5,7 +5,7 @@ use native.Mathlib.Omega.{arith}
 use denote.Ref.{now}
 use Rattle.lerc_words.specs.Res.{ok, wordAt, wordSaid, refusalOfWord}
 use Rattle.lerc_words.proofs.Little.{read-ok, read-no}
-use Rattle.lerc_block.proofs.Answers.{flag-many, flag-no, flag-strange, flag-ok}
+use Rattle.lerc_block.proofs.Returns.{flag-many, flag-no, flag-strange, flag-ok}
 use Rattle.lerc_block.proofs.plan.flag_at.Statement.{statement}
 use Rattle.lerc_block.proofs.plan.flag_at.Tie as tie
 

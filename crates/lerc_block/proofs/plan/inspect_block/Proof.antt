@@ -5,7 +5,7 @@ use native.Mathlib.Omega.{arith}
 use denote.Ref.{now}
 use Rattle.lerc_words.specs.Res.{ok, wordSaid, refusalOfWord}
 use Rattle.lerc_block.specs.Check.{readFlag}
-use Rattle.lerc_block.proofs.Answers.{said-ok, said-no, Flagged, read-flag-is}
+use Rattle.lerc_block.proofs.Returns.{said-ok, said-no, Flagged, read-flag-is}
 use Rattle.lerc_block.proofs.Planning.{plan-no, plan-raw, plan-zero, plan-offset}
 use Rattle.lerc_block.proofs.plan.inspect_block.Statement.{statement}
 use Rattle.lerc_block.proofs.plan.inspect_block.Tie as tie

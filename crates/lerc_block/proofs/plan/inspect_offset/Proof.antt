@@ -8,7 +8,7 @@ use Rattle.lerc_words.specs.Res.{ok, wordSaid, refusalOfWord}
 use Rattle.lerc_words.proofs.Little.{wordAt-is}
 use Rattle.lerc_samples.specs.Samples.{offsetKind, offsetSaid, refusalOfOffset}
 use Rattle.lerc_block.specs.Plan.{finiteWord}
-use Rattle.lerc_block.proofs.Answers.{said-ok, said-no}
+use Rattle.lerc_block.proofs.Returns.{said-ok, said-no}
 use Rattle.lerc_block.proofs.Planning.{word-is, offset-no-kind, offset-no-word, offset-level, offset-steps}
 use Rattle.lerc_block.proofs.plan.inspect_offset.Statement.{statement}
 use Rattle.lerc_block.proofs.plan.inspect_offset.Tie as tie

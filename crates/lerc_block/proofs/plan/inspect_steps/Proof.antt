@@ -1,6 +1,6 @@
 use borrow.Author.Needs.{needs}
 use denote.Ref.{now}
-use Rattle.lerc_bits.proofs.Answers.{inspect-ok, inspect-no}
+use Rattle.lerc_bits.proofs.Returns.{inspect-ok, inspect-no}
 use Rattle.lerc_block.proofs.Planning.{steps-ok, steps-no}
 use Rattle.lerc_block.proofs.plan.inspect_steps.Statement.{statement}
 use Rattle.lerc_block.proofs.plan.inspect_steps.Tie as tie

@@ -7,7 +7,7 @@ use Rattle.lerc_image.proofs.Position.advance.Statement.{statement}
 use Rattle.lerc_image.proofs.Position.advance.Tie as tie
 
 returns : tie.Need-returns
-returns c = rw (lt-ltb _ _ (c .before .if1 .taken))
+returns c = rw (lt-ltb _ (c .before .before .before .before .args .h .depth) (c .before .if1 .taken))
 
 add-if2 : tie.Need-add-if2
 add-if2 c = omega (arith, ap (λ (t : Tile). t .w) (c .before .before .current .ensures))

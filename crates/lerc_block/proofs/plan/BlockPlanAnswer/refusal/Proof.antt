@@ -3,7 +3,10 @@ use Rattle.lerc_block.proofs.plan.BlockPlanAnswer.refusal.Statement.{st
 use Rattle.lerc_block.proofs.plan.BlockPlanAnswer.refusal.Tie as tie
 
 returns : tie.Need-returns
-returns c = cc
+returns c = rw (c .before .self .given .1)
+
+returns-2 : tie.Need-returns-2
+returns-2 c = rw (c .before .self2 .given .1)
 
 pub refusal-spec : {M : Type 1} → statement M
-refusal-spec = tie.close (tie.spec (λ c. search needs) (λ c. search needs) returns (λ c. search needs))
+refusal-spec = tie.close (tie.spec (λ c. search needs) (λ c. search needs) returns returns-2)

@@ -15,7 +15,7 @@ use Rattle.lerc_bits.specs.declared.PlanAnswer.{PlanAnswer}
 use Rattle.lerc_bits.specs.declared.PlanAnswer.the-variants as found
 use Rattle.lerc_bits.specs.declared.CountsAnswer.{CountsAnswer}
 use Rattle.lerc_bits.specs.declared.CountsAnswer.the-variants as answer
-use Rattle.lerc_bits.specs.Bits.{countBytes, plainPlan, tablePlan, fits, tabled, plan, planSaid, refusalOfPlan, run, chosen, allBelow, lookedUp, valuesOf, unpacked, Counts, counts, Span, spanned, countsSaid, refusalOfCounts, Decoded}
+use Rattle.lerc_bits.specs.Bits.{countBytes, plainPlan, tablePlan, fits, tabled, plan, planSaid, refusalOfPlan, run, chosen, allBelow, lookedUp, valuesOf, unpacked, Counts, counts, Span, spanned, countsSaid, refusalOfCounts, CountsDecoded}
 
 -- ---- plans
 
@@ -123,11 +123,11 @@ module _ (s : List ℕ) (p : Plan) where
 
 -- ---- the promise of decode
 
-pub refused : {m : Res Counts} {r : Refusal} {old : List ℕ} → m ≡ fail r → Decoded m (answer.Refused r) old old
+pub refused : {m : Res Counts} {r : Refusal} {old : List ℕ} → m ≡ fail r → CountsDecoded m (answer.Refused r) old old
 refused e = rw e (record { says = refl; left = refl })
 
 pub given : {m : Res Counts} (values : List ℕ) (n : ℕ) {next : ℕ} {old new : List ℕ} → m ≡ ok (record { values = values; next = next }) → length values ≡ n
-    → new ≡ values ++ drop n old → Decoded m (answer.Counts n next) old new
+    → new ≡ values ++ drop n old → CountsDecoded m (answer.Counts n next) old new
 given values n e l d = rw (e, d) (record { says = rw (l); left = rw (l) })
 
 ok-inj : {x y : Span} → _≡_ {A = Res Span} (ok x) (ok y) → x ≡ y
@@ -151,7 +151,7 @@ pub inspect-no : (s : List ℕ) (at : ℕ) {r : PlanAnswer} {q why : Refusal} �
 inspect-no s at e d f = sym e ∙ ap planSaid d ∙ ap fail (sym (f ∙ ap refusalOfPlan d))
 
 -- n values, which stand in front of what the array held, and their end
-pub record Given (m : Res Counts) (n next : ℕ) (old new : List ℕ) : Type 0 where
+pub record CountsGiven (m : Res Counts) (n next : ℕ) (old new : List ℕ) : Type 0 where
   pub values : List ℕ
   pub reads : m ≡ ok (record { values = values; next = next })
   pub many : length values ≡ n
@@ -171,12 +171,12 @@ check-no (fail w) {r} {q} {why} e d f =
     let b : why ≡ q = f ∙ ap refusalOfCounts d in
     ap fail (sym (b ∙ a))
 
-pub decode-ok : (m : Res Counts) {r : CountsAnswer} {n next : ℕ} {old new : List ℕ} → Decoded m r old new → r ≡ answer.Counts n next → Given m n next old new
+pub decode-ok : (m : Res Counts) {r : CountsAnswer} {n next : ℕ} {old new : List ℕ} → CountsDecoded m r old new → r ≡ answer.Counts n next → CountsGiven m n next old new
 decode-ok m g d =
     let (c, e, l, x) = check-ok m (g .says) d in
     record { values = c .values; reads = e ∙ ap (λ (z : ℕ). ok (record { values = c .values; next = z })) x; many = l; left = rw (e) at (g .left) }
 
-pub decode-no : (m : Res Counts) {r : CountsAnswer} {q why : Refusal} {old new : List ℕ} → Decoded m r old new → r ≡ answer.Refused q → why ≡ refusalOfCounts r
+pub decode-no : (m : Res Counts) {r : CountsAnswer} {q why : Refusal} {old new : List ℕ} → CountsDecoded m r old new → r ≡ answer.Refused q → why ≡ refusalOfCounts r
     → (m ≡ fail why) × (new ≡ old)
 decode-no m g d f =
     let e = check-no m (g .says) d f in
@@ -194,7 +194,7 @@ said-same (answer.Counts n next) (answer.Refused r) e = absurd (let z : _≡_ {A
 said-same (answer.Refused r) (answer.Counts m to) e = absurd (let z : _≡_ {A = ℕ} 0 1 = cc in omega arith)
 said-same (answer.Refused r) (answer.Refused q) e = let z : r ≡ q = cc in rw (z)
 
-pub decoded-same : {m : Res Counts} {a b : CountsAnswer} {old x y : List ℕ} → Decoded m a old x → Decoded m b old y → (a ≡ b) × (x ≡ y)
+pub decoded-same : {m : Res Counts} {a b : CountsAnswer} {old x y : List ℕ} → CountsDecoded m a old x → CountsDecoded m b old y → (a ≡ b) × (x ≡ y)
 decoded-same {m} {a} {b} p q = (said-same a b (p .says ∙ sym (q .says)), p .left ∙ sym (q .left))
 
 pub plan-same : (a b : PlanAnswer) → planSaid a ≡ planSaid b → a ≡ b

@@ -52,7 +52,7 @@ use Rattle.lerc_ranges.specs.Ranges.{pairsSaid}
 use Rattle.lerc_sweep.specs.Sweep.{Way, rawFrom, blocksFrom, waySaid}
 use Rattle.lerc_image.specs.Walk.{Walk, walkSaid}
 use Rattle.lerc_image.specs.Fill.{fillSaid}
-use Rattle.lerc.specs.Read.{Whole, readSaid}
+use Rattle.lerc.specs.Read.{ReadTold, readSaid}
 
 back-same : {A B : Type 0} (said : A → B) (back : B → A) → ((a : A) → back (said a) ≡ a) → (a b : A) → said a ≡ said b → a ≡ b
 back-same said back h a b e = sym (h a) ∙ ap back e ∙ h b
@@ -252,7 +252,7 @@ fill-same = back-same fillSaid fill-back (λ a. go a)
     go (fill.Filled n) = refl
     go (fill.Refused r) = refl
 
-read-back : Res Whole → ReadAnswer
+read-back : Res ReadTold → ReadAnswer
 read-back (ok w) = read.Whole (w .header) (w .blocks) (w .end)
 read-back (fail r) = read.Refused r
 

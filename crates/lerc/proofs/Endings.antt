@@ -19,8 +19,8 @@ use Rattle.lerc.specs.declared.ReadAnswer.{ReadAnswer}
 use Rattle.lerc.specs.declared.ReadAnswer.the-variants as answer
 use Rattle.lerc.specs.declared.body.BodyFound.{BodyFound}
 use Rattle.lerc.specs.Meaning.{Body, rawBody, constantBody, bodySays, startsOf, meaningFrom}
-use Rattle.lerc_validity.specs.Validity.{InForce, bytesOf, maskSays, spareWith}
-use Rattle.lerc.specs.Read.{Lent, room, Masked, masked, readSays, published, refusedAfter, Whole, WholeRead, readSaid}
+use Rattle.lerc_validity.specs.Validity.{MaskInForce, bytesOf, maskSays, spareWith}
+use Rattle.lerc.specs.Read.{Lent, room, Masked, masked, readSays, published, refusedAfter, ReadTold, WholeRead, readSaid}
 use Rattle.lerc.specs.Parts.{Ready, bodyIn, bodyCount, answerOf, Checked, ToWrite, Written, BodyRead}
 
 -- ---- a body that was checked, and written
@@ -80,7 +80,7 @@ body-refused {y} {h} {m} {why} t = go y (t .says)
 pub body-read : {y : Res Body} {h g : Header} {m : List ℕ} {n end : ℕ} {list list' image image' : List ℕ} → BodyRead y h m (answer.Whole g n end) list list' image image' → (b : Body) × (y ≡ ok b)
 body-read {y} {h} t = go y (t .says)
   where
-    go : {w : Whole} (x : Res Body) → ok w ≡ (x >>= bodyCount h) → (b : Body) × (x ≡ ok b)
+    go : {w : ReadTold} (x : Res Body) → ok w ≡ (x >>= bodyCount h) → (b : Body) × (x ≡ ok b)
     go (ok b) e = (b, refl)
     go (fail r) e = absurd (let z : _≡_ {A = ℕ} 0 1 = cc in omega arith)
 
@@ -99,6 +99,6 @@ module _ (b : List ℕ) (reuse : Bool) (l : Lent) where
   unfolding masked
   mask-no e d f = rw (e, d, f)
 
-  pub mask-yes : {h : Header} {f : InForce} → headerSays b ≡ ok h → room h l ≡ true → maskSays (take (h .size) b) h reuse (l .kept) ≡ ok f → masked b reuse l ≡ ok (record { header = h; mask = f })
+  pub mask-yes : {h : Header} {f : MaskInForce} → headerSays b ≡ ok h → room h l ≡ true → maskSays (take (h .size) b) h reuse (l .kept) ≡ ok f → masked b reuse l ≡ ok (record { header = h; mask = f })
   unfolding masked
   mask-yes e d f = rw (e, d, f)

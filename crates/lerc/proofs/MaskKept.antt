@@ -10,27 +10,27 @@ use lib.Seq.{take-all}
 use lib.Dec.{leb}
 use borrow.Author.Tests.{le-leb, leb-true}
 use Rattle.lerc_words.specs.declared.Refusal.{Refusal}
-use Rattle.lerc_words.specs.Res.{Res, ok, fail, _>>=_, require, after}
+use Rattle.lerc_words.specs.Res.{Res, ok, fail, _>>=_, after}
 use Rattle.lerc_words.specs.Lists.{over}
 use Rattle.lerc_slices.specs.Slices.{copied}
-use Rattle.lerc_words.proofs.Binding.{and-is, bind-is, require-is}
+use Rattle.lerc_words.proofs.Binding.{and-is}
 use Rattle.lerc_header.specs.declared.Header.{Header}
 use Rattle.lerc_header.specs.declared.Extent.{Extent}
-use Rattle.lerc_header.specs.Header.{shapeOf, extentOf, fieldsRight, withinCeilings, held, headerSays}
+use Rattle.lerc_header.specs.Header.{shapeOf, extentOf, held, headerSays}
 use Rattle.lerc_header.specs.Shape.{cells, maskLength, blockCount}
-use Rattle.lerc_header.proofs.Kept.{held-size, header-held}
+use Rattle.lerc_header.proofs.Kept.{held-size, held-own, header-held}
 use Rattle.lerc_validity.specs.declared.MaskAnswer.{MaskAnswer}
 use Rattle.lerc_validity.specs.declared.MaskAnswer.the-variants as mask
-use Rattle.lerc_validity.specs.Validity.{InForce, reused, new, bytesOf, maskSays, findSays, prepareSays, spareWith, maskSaid, which, Prepared, inForce}
+use Rattle.lerc_validity.specs.Validity.{MaskInForce, reused, new, bytesOf, maskSays, findSays, prepareSays, spareWith, maskSaid, which, Prepared, inForce}
 use Rattle.lerc_validity.proofs.Preparing.{prepare-find, prepare-says}
 use Rattle.lerc_validity.proofs.Prepared.{Right, prepared-right, in-force}
 use Rattle.lerc.specs.declared.ReadAnswer.{ReadAnswer}
 use Rattle.lerc.specs.declared.ReadAnswer.the-variants as answer
 use Rattle.lerc.specs.Meaning.{Body, bodySays}
 use Rattle.lerc.specs.Read.{Lent, room, WholeRead}
-use Rattle.lerc.specs.Parts.{BodyRead, Fits, Behind, KeptRead}
+use Rattle.lerc.specs.Parts.{BodyRead, MaskFits, Behind, KeptRead}
 use Rattle.lerc.proofs.Bodies.{over-itself}
-use Rattle.lerc.proofs.Whole.{read-refused, read-body, body-refused, body-read, mask-no, mask-yes}
+use Rattle.lerc.proofs.Endings.{read-refused, read-body, body-refused, body-read, mask-no, mask-yes}
 
 -- ---- keep
 
@@ -66,33 +66,22 @@ module _ {y : Res Body} {h : Header} {m : List ℕ} {old : List ℕ} {list list'
   pub kept-yes : {g : Header} {n end : ℕ} {next : List ℕ} → BodyRead y h m (answer.Whole g n end) list list' image image' → next ≡ over m old → KeptRead y h m (answer.Whole g n end) old next list list' image image'
   kept-yes t d = let (b, e) = body-read t in record { body = t; kept = rw (e, d) }
 
--- ---- the blob's own bytes
-
--- the header of a longer slice is held by them as well
-pub held-own : (h : Header) (n k : ℕ) {e : Extent} → held h n ≡ ok e → h .size ≤ k → held h k ≡ ok e
-unfolding held
-held-own h n k p l =
-    let (_, t3, p) = bind-is (require (fieldsRight h) 3) _ p in
-    let (_, t4, p) = bind-is (require (withinCeilings h) 4) _ p in
-    let (_, t1, p) = bind-is (require (leb (h .size) n) 1) _ p in
-    rw (require-is (fieldsRight h) 3 t3, require-is (withinCeilings h) 4 t4, le-leb (h .size) k l) p
-
 -- ---- the mask section
 
 -- an accepted mask that the answer names
-pub record Named (m : Res InForce) (said : MaskAnswer) : Type 0 where
-  pub found : InForce
+pub record Named (m : Res MaskInForce) (said : MaskAnswer) : Type 0 where
+  pub found : MaskInForce
   pub is : m ≡ ok found
 
-pub named : {m : Res InForce} {said next : MaskAnswer} {old newer : List ℕ} → Prepared m said old newer → maskSaid said ≡ ok next → Named m said
+pub named : {m : Res MaskInForce} {said next : MaskAnswer} {old newer : List ℕ} → Prepared m said old newer → maskSaid said ≡ ok next → Named m said
 named {m} {said} {next} p e = go m (sym e ∙ p .says)
   where
-    go : (x : Res InForce) → ok next ≡ (x >>= which) → Named x said
+    go : (x : Res MaskInForce) → ok next ≡ (x >>= which) → Named x said
     go (ok f) q = record { found = f; is = refl }
     go (fail r) q = absurd (let z : _≡_ {A = ℕ} 0 1 = cc in omega arith)
 
 module _ (b : List ℕ) (reuse : Bool) (l : Lent) (h : Header) (e : headerSays b ≡ ok h) (d : room h l ≡ true) where
-  abbrev m : Res InForce
+  abbrev m : Res MaskInForce
   m = findSays (take (h .size) b) h reuse (l .kept) (length (l .spare))
 
   pub record Rooms : Type 0 where
@@ -127,23 +116,23 @@ module _ (b : List ℕ) (reuse : Bool) (l : Lent) (h : Header) (e : headerSays b
     pub mask-refused : {why : Refusal} → said ≡ mask.Refused why → WholeRead b reuse (answer.Refused why) l (record { kept = l .kept; spare = newer; list = l .list; image = l .image })
     mask-refused {why} q = go m refl (sym (ap maskSaid q) ∙ p .says) (p .spare)
       where
-        go : (x : Res InForce) → m ≡ x → fail why ≡ (x >>= which) → newer ≡ after x (l .spare) (λ f. spareWith f (l .spare))
+        go : (x : Res MaskInForce) → m ≡ x → fail why ≡ (x >>= which) → newer ≡ after x (l .spare) (λ f. spareWith f (l .spare))
             → WholeRead b reuse (answer.Refused why) l (record { kept = l .kept; spare = newer; list = l .list; image = l .image })
         go (ok (reused w)) i u v = absurd (let z : _≡_ {A = ℕ} 0 1 = cc in omega arith)
         go (ok (new w)) i u v = absurd (let z : _≡_ {A = ℕ} 0 1 = cc in omega arith)
         go (fail r) i u v = let z : r ≡ why = cc in rw (v) (read-refused b reuse l (mask-no b reuse l e d (sym mask-is ∙ i ∙ ap fail z)))
 
-    module _ (f : InForce) (i : m ≡ ok f) where
+    module _ (f : MaskInForce) (i : m ≡ ok f) where
       right : Right (take (h .size) b) h (l .kept) f
       right = prepared-right b h reuse (l .kept) (length (l .spare)) f (prepare-is ∙ i)
 
       part : inForce said (l .kept) newer ≡ bytesOf f
       part = in-force f m said (l .kept) (l .spare) newer i (right .part) p
 
-      fits : Fits said (l .kept) newer
-      fits n q = go f i (sym (ap maskSaid q) ∙ p .says ∙ ap (λ (x : Res InForce). x >>= which) i) (p .spare ∙ ap (λ (x : Res InForce). after x (l .spare) (λ g. spareWith g (l .spare))) i)
+      fits : MaskFits said (l .kept) newer
+      fits n q = go f i (sym (ap maskSaid q) ∙ p .says ∙ ap (λ (x : Res MaskInForce). x >>= which) i) (p .spare ∙ ap (λ (x : Res MaskInForce). after x (l .spare) (λ g. spareWith g (l .spare))) i)
         where
-          go : (g : InForce) → m ≡ ok g → ok (mask.Spare n) ≡ which g → newer ≡ spareWith g (l .spare) → (n ≤ length (l .kept)) × (n ≤ length newer)
+          go : (g : MaskInForce) → m ≡ ok g → ok (mask.Spare n) ≡ which g → newer ≡ spareWith g (l .spare) → (n ≤ length (l .kept)) × (n ≤ length newer)
           go (reused w) j u v = absurd (let z : _≡_ {A = ℕ} 0 1 = cc in omega arith)
           go (new w) j u v =
               let z : n ≡ length w = cc in
@@ -172,7 +161,7 @@ module _ (b : List ℕ) (reuse : Bool) (l : Lent) (h : Header) (e : headerSays b
       behind-read t =
           let t' = rw (part) at t in
           read-body b reuse l (bodySays (take (h .size) b) h (bytesOf f)) (mask-yes b reuse l e d (sym mask-is ∙ i)) refl (t' .body) (t' .kept)
-          (p .spare ∙ ap (λ (x : Res InForce). after x (l .spare) (λ g. spareWith g (l .spare))) i)
+          (p .spare ∙ ap (λ (x : Res MaskInForce). after x (l .spare) (λ g. spareWith g (l .spare))) i)
 
 -- ---- room
 
