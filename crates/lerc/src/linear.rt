@@ -24,16 +24,17 @@ fn put_constant(words: &[u64], depth: usize, base: usize, image: &mut [u64])
     }
 }
 
-// every valid pixel of a constant body
+// every valid pixel of a constant body; where all are valid, the mask is not asked again
 pub(crate) fn write_constant(h: Shape, words: &[u64], mask: &[u8], image: &mut [u64])
     requires { ⌜ Shaped h × (cells h ≤ length (now image)) × (depthLimit ≤ length (now words)) ⌝ }
     ensures { λ r. ⌜ now (image .exit) ≡ painted (now (image .entry)) (isValidCell h (now (mask .entry))) (depthWord h (now (words .entry))) ⌝ }
 {
     let pixels = h.rows * h.columns;
+    let full = lerc_mask::count(mask, pixels) == pixels;
     let mut p = 0;
     let mut base = 0;
     while p < pixels {
-        if lerc_mask::is_valid(mask, p) {
+        if full || lerc_mask::is_valid(mask, p) {
             put_constant(words, h.depth, base, &mut image[..]);
         }
         base += h.depth;
