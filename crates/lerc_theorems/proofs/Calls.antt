@@ -42,7 +42,7 @@ pub prepare-call : {b : List ℕ} {h : Header} {reuse : Bool} {kept : List ℕ} 
 prepare-call = promise (λ g r x. Prepared (prepareSays (g .0) (g .1) (g .2) (g .3) (length (g .4))) r (g .4) x) (λ k a r x p. p)
 
 pub handed-call : {kept spare m : List ℕ} {said : MaskAnswer} → HandedCall kept spare said m → m ≡ inForce said kept spare
-handed-call = promise (λ g r x. r ≡ inForce (g .2) (g .0) (g .1)) (λ k a r x p. p)
+handed-call = promise (λ g r x. r ≡ inForce (g .2) (g .0) (g .1)) (λ k a r x p. p .0)
 
 pub ranges-call : {b : List ℕ} {h : Header} {r : RangesRead} → RangesCall b h r → r ≡ rangesSaid (readRangesSays b h)
 ranges-call = promise (λ g r x. r ≡ rangesSaid (readRangesSays (g .0) (g .1))) (λ k a r x p. p)
@@ -72,7 +72,8 @@ ranges-from {b} {h} {r} c = go (readRangesSays b h) (ranges-call c)
     go (fail q) e = let y : ranges-answer.Read ≡ ranges-answer.Refused q = ap (λ (x : RangesRead). x .answer) e in absurd (let z : _≡_ {A = ℕ} 0 1 = cc in omega arith)
 
 -- calls of fill leave what one fill after the other does
-pub fill-calls : {b : List ℕ} {h : Header} {r : Ranges} {m list : List ℕ} (ns old new : List ℕ) → FillCalls b h r m list ns old new → new ≡ fillEach b h r m list ns old
+pub fill-calls : {b : List ℕ} {h : Header} {r : Ranges} {m list : List ℕ} (ns : List ℕ) (said : List FillAnswer) (old new : List ℕ) → FillCalls b h r m list ns said old new
+    → new ≡ fillEach b h r m list ns old
 unfolding fillEach
-fill-calls ns old new (none image) = refl
-fill-calls {b} {h} {r} {m} {list} ns old new (more n rest old' mid new' said f c) = fill-calls rest mid new c ∙ ap (fillEach b h r m list rest) (fill-call f .image)
+fill-calls ns said old new (none image) = refl
+fill-calls {b} {h} {r} {m} {list} ns said old new (more n rest one others old' mid new' f c) = fill-calls rest others mid new c ∙ ap (fillEach b h r m list rest) (fill-call f .image)

@@ -2,7 +2,7 @@
 -- Assumes nothing.
 use Rattle.lerc_theorems.specs.DemandOne.{DemandOne}
 use Rattle.lerc_theorems.proofs.Determined.{no-room, no-room-in-c}
-use Rattle.lerc_theorems.proofs.Refusals.{refusals-keep, refusals-empty, whole-keeps}
+use Rattle.lerc_theorems.proofs.Refusals.{refusals-keep, refusals-empty, handed-back, whole-keeps}
 use Rattle.lerc_theorems.proofs.InC.{refusals-keep-in-c}
 use Rattle.lerc_theorems.proofs.Numbers.{numbers-exactly, numbers-only}
 use Rattle.lerc_theorems.proofs.Writes.{writes-only, whole-writes}
@@ -17,6 +17,7 @@ demand-one = record {
   whole-keeps = λ k a x why p. whole-keeps _ _ _ _ why p;
   keeps-in-c = refusals-keep-in-c;
   refusal-empty = refusals-empty;
+  handed-back = handed-back;
   writes-only = writes-only;
   whole-writes = λ k a x h n end p. whole-writes _ _ _ _ h n end p;
 }

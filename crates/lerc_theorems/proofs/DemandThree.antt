@@ -1,213 +1,25 @@
 -- Demand 3, proved.
 -- Assumes nothing.
-use mathlib.Core.Path.{_≡_, _∙_, sym, ap, refl}
-use mathlib.Core.Bool.{Bool, true, false, cond, _&&_}
-use mathlib.Core.List.{List, []}
-use Prim.Native.Nat.{ℕ, _*_, _≤_, _<_}
-use native.Mathlib.Nat.{mul-le-mul}
-use native.Mathlib.Omega.{arith}
-use lib.ListN.{length, getD, take}
-use borrow.Author.Tests.{le-leb}
-use Rattle.lerc_words.specs.Res.{Res, ok, _>>=_, refuse, after}
-use Rattle.lerc_words.specs.Lists.{over, total}
-use Rattle.lerc_words.proofs.Binding.{ok-is}
-use Rattle.lerc_header.specs.declared.Header.{Header}
-use Rattle.lerc_header.specs.Shape.{cells, blockCount, Shaped}
-use Rattle.lerc_header.specs.Header.{shapeOf}
-use Rattle.lerc_header.proofs.Kept.{held-shaped}
-use Rattle.lerc_ranges.specs.declared.Ranges.{Ranges}
-use Rattle.lerc_validity.specs.Validity.{prepareSays}
-use Rattle.lerc_validity.proofs.Prepared.{Right, prepared-right, in-force}
-use Rattle.lerc_image.specs.declared.FillAnswer.{FillAnswer}
-use Rattle.lerc_image.specs.declared.FillAnswer.the-variants as fill-answer
-use Rattle.lerc_image.specs.declared.WalkAnswer.{WalkAnswer}
-use Rattle.lerc_image.specs.declared.WalkAnswer.the-variants as walk-answer
-use Rattle.lerc_image.specs.Geometry.{blockOf, tileOf, validInTile, isValidCell}
-use Rattle.lerc_image.specs.Paint.{among, painted, wordOf, fills}
-use Rattle.lerc_image.specs.Blocks.{Chain}
-use Rattle.lerc_image.specs.Fill.{fillSays, fillCount, fillSaid, fillImage}
-use Rattle.lerc_image.specs.Walk.{Walk, walkSays, walkCount}
-use Rattle.lerc_image.specs.Tiles.{tilesSays, tilesImage}
-use Rattle.lerc_image.proofs.Partition.{block-lt}
-use Rattle.lerc_image.proofs.Chain.{chain-lengths, chain-first}
-use Rattle.lerc_image.proofs.Stages.{getD-any}
-use Rattle.lerc_image.proofs.Painting.{length-painted, painted-cell}
-use Rattle.lerc_image.proofs.Upto.{valid-below}
-use Rattle.lerc_image.proofs.WordsSum as sums
-use Rattle.lerc_image.proofs.Fills as fills-laws
-use Rattle.lerc_fills.specs.Each.{fillEach}
-use Rattle.lerc_fills.proofs.Turns.{length-each}
-use Rattle.lerc.specs.declared.ReadAnswer.{ReadAnswer}
-use Rattle.lerc.specs.Meaning.{Meaning, blocks, cellWord}
-use Rattle.lerc.specs.Read.{Lent, room, masked, readSays, published, readAfter}
-use Rattle.lerc_theorems.specs.Calls.{EachCall, TilesCall, ReadCall, WalkCall}
-use Rattle.lerc_theorems.specs.DemandThree.{Case, Opened, CaseFill, CaseFills, DemandThree, shape, inMask, blocksOf, reported, below}
-use Rattle.lerc_theorems.specs.DemandTwo.{Roomy}
-use Rattle.lerc_theorems.proofs.SameAnswers.{fill-same, walk-same}
-use Rattle.lerc_theorems.proofs.Calls.{prepare-call, handed-call, ranges-from, walk-call, fill-call, fill-calls, each-call, tiles-call, read-call}
-use Rattle.lerc_theorems.proofs.Longer.{MaskAlike, alike-take, tile-same, valid-same, index-same, chain-same as longer-chain, fill-same as longer-fill, image-same as longer-image, each-same as longer-each, filled-same as longer-count}
-use Rattle.lerc_theorems.proofs.Meanings.{Means, meaning-is, mask-kept, read-is}
-use Rattle.lerc_theorems.proofs.Fills.{Walking, means-walking, fill-ok, fill-no, each-is, count-is, left-long, left-starts, total-same}
-
-module _ (x : Case) (o : Opened x) where
-  abbrev whole : Meaning
-  whole = record { header = x .header; mask = x .means; body = blocks (x .chain) }
-
-  parts : Means (x .blob) (x .reuse) (x .kept) whole
-  parts = meaning-is (x .blob) (x .reuse) (x .kept) whole (o .means)
-
-  right : Right (take (x .header .size) (x .blob)) (x .header) (x .kept) (x .means)
-  right = mask-kept (x .blob) (x .reuse) (x .kept) whole parts (o .kept)
-
-  walk : Walking (x .blob) (x .header) (x .ranges) (inMask x) (blocksOf x) (x .chain)
-  walk = means-walking (x .blob) (x .reuse) (x .kept) (x .header) (x .means) (x .chain) (o .means) (o .kept) (x .ranges) (ranges-from (o .ranges)) (blocksOf x) (omega arith)
-
-  shaped : Shaped (shape x)
-  shaped = held-shaped (x .header) (length (x .blob)) (walk .kept)
-
-  -- the lent mask may be longer than the mask in force
-  alike : MaskAlike (shape x) (x .mask) (inMask x)
-  alike = let z = right .size in alike-take (shape x) (x .mask) (inMask x) (o .mask) (omega (arith, z))
-
-  -- ---- one fill
-
-  module _ (n : ℕ) (said : FillAnswer) (new : List ℕ) (f : CaseFill x n said (x .image) new) where
-    says : fillSaid said ≡ (fillSays (x .blob) (x .header) (x .ranges) (inMask x) (x .list) n (length (x .image)) >>= fillCount (x .header) (x .mask) n)
-    says = fill-call f .says ∙ rw (longer-fill (x .blob) (x .header) (walk .kept) (x .mask) (inMask x) alike (x .ranges) (x .list) n (length (x .image)))
-
-    accepts : n < blocksOf x → said ≡ fill-answer.Filled (validInTile (shape x) (inMask x) (tileOf (shape x) n))
-    accepts l =
-        fill-same said (fill-answer.Filled (validInTile (shape x) (inMask x) (tileOf (shape x) n)))
-        (says ∙ rw (fill-ok _ _ _ _ _ _ walk (x .list) (o .long) (o .starts) n (length (x .image)) l (o .room), tile-same (shape x) shaped (x .mask) (inMask x) alike n l))
-
-    refuses : blocksOf x ≤ n → (said ≡ fill-answer.Refused (refuse 11)) × (new ≡ x .image)
-    unfolding fillImage
-    refuses l =
-        let e = fill-no _ _ _ _ _ _ walk (x .list) (o .long) (o .starts) n (length (x .image)) l in (
-          fill-same said (fill-answer.Refused (refuse 11)) (says ∙ rw (e)),
-          fill-call f .image ∙ longer-image (x .blob) (x .header) (walk .kept) (x .mask) (inMask x) alike (x .ranges) (x .list) n (x .image) ∙ rw (e),
-        )
-
-  words-add : (said : ℕ → FillAnswer) (new : ℕ → List ℕ) → ((n : ℕ) → n < blocksOf x → CaseFill x n (said n) (x .image) (new n))
-      → total (blocksOf x) (λ n. reported (said n)) ≡ x .header .valid * x .header .depth
-  words-add said new f =
-      total-same (blocksOf x) _ (λ n. validInTile (shape x) (inMask x) (tileOf (shape x) n)) (λ n l. ap reported (accepts n (said n) (new n) (f n l) l))
-      ∙ sums.words-sum (shape x) shaped (inMask x)
-      ∙ ap (λ (v : ℕ). v * x .header .depth) (right .counts)
-
-  -- ---- any fills
-
-  abbrev words : ℕ → List ℕ
-  words n = getD (x .chain .words) n []
-
-  -- the image after a list of numbers
-  abbrev filledBy : List ℕ → List ℕ
-  filledBy ns = fills (shape x) (inMask x) words ns (x .image)
-
-  each : (ns : List ℕ) → fillEach (x .blob) (x .header) (x .ranges) (x .mask) (x .list) ns (x .image) ≡ filledBy ns
-  each ns =
-      longer-each (x .blob) (x .header) (walk .kept) (x .mask) (inMask x) alike (x .ranges) (x .list) ns (x .image)
-      ∙ each-is _ _ _ _ _ _ walk (x .list) (o .long) (o .starts) ns (x .image) (o .room)
-
-  module _ (ns new : List ℕ) (f : CaseFills x ns new) where
-    is : new ≡ filledBy ns
-    is = fill-calls ns (x .image) new f ∙ each ns
-
-    long : length new ≡ length (x .image)
-    long = rw (fill-calls ns (x .image) new f) (length-each (x .blob) (x .header) (x .ranges) (x .mask) (x .list) ns (x .image))
-
-    exact : (c : ℕ) → c < length (x .image)
-        → getD new c 0 ≡ cond (isValidCell (shape x) (inMask x) c && among ns (blockOf (shape x) c)) (cellWord (x .header) (inMask x) (blocks (x .chain)) c) (getD (x .image) c 0)
-    unfolding cellWord
-    exact c l = rw (is) (fills-laws.fills-cell (shape x) shaped (inMask x) words ns (x .image) c l)
-
-    by-each : (other : List ℕ) (filled : ℕ) → EachCall (x .blob) (x .header) (x .ranges) (x .mask) (x .list) ns filled (x .image) other → (filled ≡ below (blocksOf x) ns) × (other ≡ new)
-    by-each other filled c =
-        let p = each-call c in (
-          p .says
-              ∙ longer-count (x .blob) (x .header) (walk .kept) (x .mask) (inMask x) alike (x .ranges) (x .list) (length (x .image)) ns
-              ∙ count-is _ _ _ _ _ _ walk (x .list) (o .long) (o .starts) (length (x .image)) (o .room) ns,
-          p .image ∙ each ns ∙ sym is,
-        )
-
-    complete : ((n : ℕ) → n < blocksOf x → among ns n ≡ true) → (said : ReadAnswer) (l left : Lent) → ReadCall (x .blob) (x .reuse) said l left → room (x .header) l ≡ true → l .kept ≡ x .kept
-        → l .image ≡ x .image → new ≡ left .image
-    unfolding cellWord published
-    complete g said l left c q k i =
-        let roomy : Roomy (x .blob) l = λ h e. rw (← ok-is (sym (parts .header) ∙ e)) q in
-        let r : readSays (x .blob) (x .reuse) l ≡ ok whole = read-is (x .blob) (x .reuse) l roomy ∙ rw (k) (o .means) in
-        is
-        ∙ fills-laws.fills-all (shape x) shaped (inMask x) words ns (x .image) g
-        ∙ ap (λ (y : List ℕ). painted y (isValidCell (shape x) (inMask x)) (cellWord (x .header) (inMask x) (blocks (x .chain)))) (sym i)
-        ∙ sym (ap (λ (y : Lent). y .image) (read-call c .lent) ∙ ap (λ (y : Res Meaning). readAfter y (masked (x .blob) (x .reuse) l) l .image) r)
-
-  -- ---- all blocks at once
-
-  some-block : 0 < blocksOf x
-  some-block =
-      let a = mul-le-mul (mul-le-mul (shaped .rows .0) (shaped .columns .0)) (shaped .depth .0) in
-      let c : 0 < cells (shape x) = omega (arith, a) in
-      let d = block-lt (shape x) shaped 0 c in
-      omega (arith, d)
-
-  first : getD (x .list) 0 0 ≡ walk .from
-  first =
-      let s = take (x .header .size) (x .blob) in
-      let n = blocksOf x in
-      let p : 0 < n = some-block in
-      let l : 0 < length (x .chain .starts) = rw (chain-lengths s (x .header) (x .ranges .max) (inMask x) n 0 (walk .from) (x .chain) (walk .blocks) .0) p in
-      o .starts 0 p ∙ getD-any (x .chain .starts) 0 0 (x .chain .end) l ∙ chain-first s (x .header) (x .ranges .max) (inMask x) n 0 (walk .from) (x .chain) (walk .blocks)
-
-  tiled : tilesSays (x .blob) (x .header) (x .mask) (x .ranges .max) (getD (x .list) 0 0) (length (x .list)) (length (x .image)) ≡ ok (x .chain)
-  unfolding tilesSays
-  tiled =
-      rw (walk .kept, le-leb _ _ (alike .long), le-leb _ _ (o .long), le-leb _ _ (o .room), first)
-      (longer-chain (x .blob) (x .header) (walk .kept) (x .mask) (inMask x) alike (take (x .header .size) (x .blob)) (x .ranges .max) (blocksOf x) 0 (walk .from) (omega arith) ∙ walk .blocks)
-
-  word-same : (c : ℕ) → cond (isValidCell (shape x) (x .mask) c) (wordOf (shape x) (x .mask) words c) (getD (x .image) c 0)
-      ≡ cond (isValidCell (shape x) (inMask x) c) (wordOf (shape x) (inMask x) words c) (getD (x .image) c 0)
-  word-same c = rw (valid-same (shape x) shaped (x .mask) (inMask x) alike c) (on (isValidCell (shape x) (inMask x) c) refl)
-    where
-      on : (t : Bool) → isValidCell (shape x) (inMask x) c ≡ t → cond t (wordOf (shape x) (x .mask) words c) (getD (x .image) c 0) ≡ cond t (wordOf (shape x) (inMask x) words c) (getD (x .image) c 0)
-      on true e = rw (index-same (shape x) shaped (x .mask) (inMask x) alike c (valid-below (shape x) (inMask x) c e))
-      on false e = refl
-
-  by-tiles : (said : WalkAnswer) (list image : List ℕ) → TilesCall (x .blob) (x .header) (x .mask) (x .ranges .max) (getD (x .list) 0 0) said (x .list) list (x .image) image
-      → (said ≡ walk-answer.Walked (blocksOf x) (x .chain .end)) × (list ≡ over (x .chain .starts) (x .list)) × (length image ≡ length (x .image))
-      × ((c : ℕ) → c < length (x .image) → getD image c 0 ≡ cond (isValidCell (shape x) (inMask x) c) (cellWord (x .header) (inMask x) (blocks (x .chain)) c) (getD (x .image) c 0))
-  unfolding cellWord
-  by-tiles said list image k =
-      let p = tiles-call k in
-      let i : image ≡ painted (x .image) (isValidCell (shape x) (x .mask)) (wordOf (shape x) (x .mask) words) = p .image ∙ ap (λ (y : Res Chain). after y (x .image) (tilesImage (x .header) (x .mask) (x .image))) tiled in (
-        walk-same said (walk-answer.Walked (blocksOf x) (x .chain .end)) (p .says ∙ ap (λ (y : Res Chain). y >>= walkCount (x .header)) tiled),
-        p .list ∙ ap (λ (y : Res Chain). after y (x .list) (λ c. over (c .starts) (x .list))) tiled,
-        ap length i ∙ length-painted (x .image) _ _,
-        λ c l. rw (i) (painted-cell (x .image) (wordOf (shape x) (x .mask) words) (isValidCell (shape x) (x .mask)) c l ∙ word-same c),
-      )
-
-  order : (ns ms new other : List ℕ) → CaseFills x ns new → CaseFills x ms other → ((n : ℕ) → n < blocksOf x → among ns n ≡ among ms n) → new ≡ other
-  order ns ms new other f g e = is ns new f ∙ fills-laws.fills-order (shape x) shaped (inMask x) words ns ms (x .image) e ∙ sym (is ms other g)
-
-listed : (b : List ℕ) (h : Header) (r : Ranges) (m old new : List ℕ) (n end : ℕ) (c : Chain) → WalkCall b h r m (walk-answer.Walked n end) old new → walkSays b h r m (length old) ≡ ok c
-    → (n ≡ blockCount (shapeOf h)) × (end ≡ c .end) × (n ≤ length new) × ((i : ℕ) → i < n → getD new i 0 ≡ getD (c .starts) i 0)
-listed b h r m old new n end c w e =
-    let p = walk-call w in
-    let z : _≡_ {A = Walk} (record { blocks = n; end = end }) (record { blocks = blockCount (shapeOf h); end = c .end }) = ok-is (p .says ∙ ap (λ (y : Res Chain). y >>= walkCount h) e) in
-    let i : n ≡ blockCount (shapeOf h) = ap (λ (y : Walk). y .blocks) z in
-    (i, ap (λ (y : Walk). y .end) z, rw (p .list, i) (left-long b h r m old c e), λ j l. rw (p .list) (left-starts b h r m old c e j (rw (← i) l)))
+use Rattle.lerc_theorems.specs.DemandThree.{DemandThree}
+use Rattle.lerc_theorems.proofs.OpenedFills as fills
+use Rattle.lerc_theorems.proofs.FromCalls as calls
 
 pub demand-three : DemandThree
 demand-three = record {
-  mask-handed = λ b h reuse kept spare new m f said p q e.
-      handed-call q ∙ in-force f (prepareSays b h reuse kept (length spare)) said kept spare new e (prepared-right b h reuse kept (length spare) f e .part) (prepare-call p);
-  walk-lists = listed;
-  fill-accepts = accepts;
-  fill-refuses = refuses;
-  fills-long = long;
-  fills-exact = exact;
-  fills-order = order;
-  fills-each = by-each;
-  fills-complete = complete;
-  tiles-exact = by-tiles;
-  words-sum = words-add;
+  opened-by-walk = calls.opened-by-walk;
+  opened-by-read = calls.opened-by-read;
+  any-order = calls.any-order;
+  mask-handed = fills.mask-handed;
+  walk-lists = fills.listed;
+  fill-accepts = λ x o. fills.accepts x o (x .image) (o .room);
+  fill-refuses = λ x o. fills.refuses x o (x .image) (o .room);
+  fill-reports = fills.reports;
+  fills-answer = λ x o ns said new. fills.answered x o ns said (x .image) new (o .room);
+  fills-long = fills.long;
+  fills-exact = fills.exact;
+  fills-order = fills.order;
+  fills-each = fills.by-each;
+  fills-complete = fills.complete;
+  tiles-exact = fills.by-tiles;
+  words-sum = fills.words-add;
 }

@@ -31,6 +31,7 @@ use Rattle.lerc_ranges.specs.Ranges.{readRangesSays, rangesSaid}
 use Rattle.lerc_validity.proofs.Prepared.{prepare-found, mask-length}
 use Rattle.lerc_image.specs.declared.WalkAnswer.{WalkAnswer}
 use Rattle.lerc_image.specs.declared.WalkAnswer.the-variants as walk-answer
+use Rattle.lerc_image.specs.declared.FillAnswer.{FillAnswer}
 use Rattle.lerc_image.specs.Geometry.{tileSize, tileOf, cellOf, rank, isValidCell}
 use Rattle.lerc_image.specs.Paint.{painted, indexOf, among}
 use Rattle.lerc_image.specs.Blocks.{Chain}
@@ -53,10 +54,11 @@ use Rattle.lerc_theorems.proofs.SameAnswers.{header-same, mask-same, wa
 use Rattle.lerc_theorems.proofs.Calls.{header-call, prepare-call, handed-call, ranges-call, ranges-from, walk-call, read-call}
 use Rattle.lerc_theorems.proofs.Longer.{alike-take, walk-same as longer-walk}
 use Rattle.lerc_theorems.proofs.Bodies.{BlocksCoded, coded-is, starts-up, starts-end}
-use Rattle.lerc_theorems.proofs.Meanings.{Means, meaning-is, means-is, keeps, mask-kept, ends, Rooms, rooms, read-is, meaning-same, means-front}
+use Rattle.lerc_theorems.proofs.Meanings.{Means, meaning-is, means-is, keeps, mask-kept, ends, Rooms, rooms, read-is, kept-unread, meaning-same, means-front}
+use Rattle.lerc_theorems.proofs.Unread.{unread}
 use Rattle.lerc_theorems.proofs.Nine.{nine-flat, flat-nine}
 use Rattle.lerc_theorems.proofs.Fills.{walk-is, walked-body, means-walking, walking-says, left-is, left-long, left-starts}
-use Rattle.lerc_theorems.proofs.DemandThree.{demand-three}
+use Rattle.lerc_theorems.proofs.OpenedFills.{complete, mask-handed, listed}
 
 -- ---- what a whole read leaves
 
@@ -131,7 +133,7 @@ module _ (b : List ℕ) (reuse : Bool) (r : ReadAnswer) (old new : Lent) (w : Wh
     unfolding isValidCell
     outside c l = rw (le-ltb c (cells (shapeOf (m .header))) l)
 
-    exact : Exact m r old new
+    pub exact : Exact m r old new
     exact = record {
       answer = says ∙ ap (λ (x : Res Meaning). x >>= readCount) e;
       kept = kept-as;
@@ -152,7 +154,7 @@ module _ (b : List ℕ) (reuse : Bool) (kept : List ℕ) (h : Header) (f : MaskI
   coded : BlocksCoded (take (h .size) b) h (bytesOf f) c
   coded = coded-is (take (h .size) b) h (bytesOf f) c (parts .body)
 
-  rise : (length (c .starts) ≡ blockCount (shapeOf h)) × ((i j : ℕ) → i < j → j < length (c .starts) → getD (c .starts) i 0 < getD (c .starts) j 0)
+  pub rise : (length (c .starts) ≡ blockCount (shapeOf h)) × ((i j : ℕ) → i < j → j < length (c .starts) → getD (c .starts) i 0 < getD (c .starts) j 0)
       × ((i : ℕ) → i < length (c .starts) → getD (c .starts) i 0 < c .end)
   rise =
       let s = take (h .size) b in
@@ -229,10 +231,10 @@ module _ (b : List ℕ) (reuse : Bool) (r : ReadAnswer) (old new : Lent) (h : He
       room = o .image;
     }
 
-    by-fills : (image : List ℕ) → FillCalls b h g (bytesOf f) (new .list) (tabulate (blockCount (shapeOf h)) (λ n. n)) (old .image) image → image ≡ new .image
-    by-fills image k =
-        demand-three .fills-complete opened is-opened (tabulate (blockCount (shapeOf h)) (λ n. n)) image k
-        (λ n l. named (blockCount (shapeOf h)) 0 n (omega arith) (omega (arith, l))) r old new z (y h (p .header)) refl refl
+    by-fills : (answers : List FillAnswer) (image : List ℕ) → FillCalls b h g (bytesOf f) (new .list) (tabulate (blockCount (shapeOf h)) (λ n. n)) answers (old .image) image → image ≡ new .image
+    by-fills answers image k =
+        complete opened is-opened (tabulate (blockCount (shapeOf h)) (λ n. n)) answers image k (λ n l. named (blockCount (shapeOf h)) 0 n (omega arith) (omega (arith, l))) new
+        (record { answer = r; lent = old; read = z; room = y h (p .header); same-mask = λ t. refl; same-start = refl })
 
     by-walk : (said : WalkAnswer) (list : List ℕ) → WalkCall b h g (bytesOf f) said (old .list) list → (said ≡ walk-answer.Walked (blockCount (shapeOf h)) (c .end)) × (list ≡ new .list)
     by-walk said list k =
@@ -241,7 +243,7 @@ module _ (b : List ℕ) (reuse : Bool) (r : ReadAnswer) (old new : Lent) (h : He
 
   by-mask : (said : MaskAnswer) (spare m : List ℕ) → PrepareCall b h reuse (old .kept) said (old .spare) spare → HandedCall (old .kept) spare said m → (m ≡ bytesOf f) × (spare ≡ new .spare)
   by-mask said spare m k q = (
-    demand-three .mask-handed b h reuse (old .kept) (old .spare) spare m f said k q prepared,
+    mask-handed b h reuse (old .kept) (old .spare) spare m f said k q prepared,
     prepare-call k .spare ∙ ap (λ (x : Res MaskInForce). after x (old .spare) (λ i. spareWith i (old .spare))) prepared ∙ sym (left-so .spare),
   )
 
@@ -280,16 +282,16 @@ module _ (b : List ℕ) (reuse : Bool) (kept : List ℕ) (h : Header) (said : Ma
       let z : min (maskLength (shapeOf h)) (length q) ≡ 0 = sym (length-take (maskLength (shapeOf h)) q) ∙ ap length (longer ∙ i) in
       absurd (omega arith)
 
-  found : WalkMeans b reuse kept h m n end old new
+  pub found : WalkMeans b reuse kept h m n end old new
   found =
       let (c, e, _) = bind-is (walkSays b h r q (length old)) _ (sym (walk-call at-walk .says)) in
       let w = walk-is b h r q (length old) c e in
       let (f, p) = accepted-mask (prepareSays b h reuse kept (length spare)) refl (w .mask) (some-byte (shapeOf h) (held-shaped h (length b) (w .kept))) in
       let t = prepare-found b h reuse kept (length spare) f p in
-      let i : m ≡ bytesOf f = demand-three .mask-handed b h reuse kept spare prepared m f said at-mask at-part p in
+      let i : m ≡ bytesOf f = mask-handed b h reuse kept spare prepared m f said at-mask at-part p in
       let a = alike-take (shapeOf h) q (bytesOf f) (longer ∙ i) (let z = mask-length b h reuse kept (length spare) f p in omega (arith, z)) in
       let v = sym (longer-walk b h (w .kept) q (bytesOf f) a r (length old)) ∙ e in
-      let l = demand-three .walk-lists b h r q old new n end c at-walk e in
+      let l = listed b h r q old new n end c at-walk e in
       record {
         mask = f;
         chain = c;
@@ -310,6 +312,8 @@ demand-two = record {
   mask-right = λ b reuse kept m e l. let q = mask-kept b reuse kept m (meaning-is b reuse kept m e) l in (q .size, q .counts);
   below-size = λ b c reuse kept n p q e. meaning-same b c n p e q reuse kept;
   behind-end = λ b c reuse kept m e q l. means-is c reuse kept m (means-front b reuse kept m (meaning-is b reuse kept m e) c q l);
+  unread = unread;
+  kept-unread = kept-unread;
   end-bounds = λ b reuse kept m e. ends b reuse kept m (meaning-is b reuse kept m e);
   starts-rise = rise;
   order = λ b h e. let s = held-shaped h (length b) (header-held b h e .1) in (position-first (shapeOf h) s, λ n l. (sym (position-next (shapeOf h) s n l), sym (tile-here (shapeOf h) s n l)));

@@ -51,6 +51,9 @@ module _ {K A R O : Type 0} {Pre : K → A → Type 0} {Post : K → A → R →
   told : {B : Type 0} {said : R → B} → ((r q : R) → said r ≡ said q → r ≡ q) → (f : K → A → B) → ((k : K) (a : A) (r : R) (x : O) → Post k a r x → said r ≡ f k a) → Answers Pre Post
   told inj f h = record { asks-nothing = asks; same = λ k a r q x y p s. (inj r q (h k a r x p ∙ sym (h k a q y s)), refl) }
 
+pair-same : {A B : Type 0} {a b : A} {x y : B} → a ≡ b → x ≡ y → _≡_ {A = A × B} (a, x) (b, y)
+pair-same p q = rw (p, q)
+
 pub no-room : NoRoom
 no-room = record {
   word-refusal = given (λ k a. tt) _ (λ k a r x p. p);
@@ -102,7 +105,7 @@ no-room = record {
   constants-refusal = given (λ k a. tt) _ (λ k a r x p. p);
   prepare-mask = record { asks-nothing = λ k a. tt; same = λ k a r q x y p s. prepared-same p s };
   find-mask = record { asks-nothing = λ k a. tt; same = λ k a r q x y p s. prepared-same p s };
-  mask-in-force = record { asks-nothing = λ k a. tt; same = λ k a r q x y p s. (p ∙ sym s, refl) };
+  mask-in-force = record { asks-nothing = λ k a. tt; same = λ k a r q x y p s. (pair-same (p .0 ∙ sym (s .0)) (p .1 ∙ sym (s .1)), refl) };
   pairs = told (λ k a. tt) pairs-same _ (λ k a r x p. p);
   ranges-in = given (λ k a. tt) _ (λ k a r x p. p);
   read-ranges = given (λ k a. tt) _ (λ k a r x p. p);

@@ -8,7 +8,7 @@ use native.Mathlib.Omega.{arith}
 use denote.Ref.{RefT}
 use lib.ListN.{length, replicate, List·getD-append}
 use lib.Ieee.{size, span, climb}
-use Rattle.lerc_words.specs.Res.{Res, ok, fail, _>>=_, wordAt, little, each}
+use Rattle.lerc_words.specs.Res.{Res, ok, fail, _>>=_, refuse, wordAt, little, each}
 use Rattle.lerc_words.specs.Lists.{from, count, allTo}
 use Rattle.lerc_numeric.specs.Numeric.{mag, code, sum, scaled, less, same, lesser}
 use Rattle.lerc_numeric.specs.Kinds.{integer, valueOf, whole, cut}
@@ -35,6 +35,7 @@ use Rattle.lerc_theorems.specs.Witness.{grid}
 use Rattle.lerc_theorems.specs.Calls.{ReadRanges, FillCall, FillCalls, none, more}
 use Rattle.lerc_theorems.specs.DemandThree.{Case, Opened, CaseFills}
 use Rattle.lerc_theorems.proofs.Calls.{fill-calls}
+use Rattle.lerc_theorems.proofs.OpenedFills.{answered}
 
 -- ---- calls, wherever the slices stand
 
@@ -74,11 +75,15 @@ module _ (b : List ℕ) (h : Header) (r : Ranges) (m list : List ℕ) where
     outputs-are = refl;
   }
 
+  abbrev pub answersMade : List ℕ → List ℕ → List FillAnswer
+  answersMade [] image = []
+  answersMade (n ∷ ns) image = answerOf (fillSays b h r m list n (length image) >>= fillCount h m n) ∷ answersMade ns (fillImage b h r m list n image)
+
   -- any list of numbers has calls
-  pub fills-made : (ns image : List ℕ) → FillCalls b h r m list ns image (fillEach b h r m list ns image)
+  pub fills-made : (ns image : List ℕ) → FillCalls b h r m list ns (answersMade ns image) image (fillEach b h r m list ns image)
   unfolding fillEach
   fills-made [] image = none image
-  fills-made (n ∷ ns) image = more n ns image (fillImage b h r m list n image) (fillEach b h r m list ns (fillImage b h r m list n image)) _ (fill-made n image) (fills-made ns (fillImage b h r m list n image))
+  fills-made (n ∷ ns) image = more n ns _ _ image (fillImage b h r m list n image) (fillEach b h r m list ns (fillImage b h r m list n image)) (fill-made n image) (fills-made ns (fillImage b h r m list n image))
 
 -- ---- the blob
 
@@ -121,11 +126,16 @@ opened = record {
 abbrev some : List ℕ
 some = 7 ∷ 0 ∷ 7 ∷ 9 ∷ []
 
-pub some-calls : CaseFills example some (fillEach (example .blob) (example .header) (example .ranges) (example .mask) (example .list) some (example .image))
+pub some-calls : CaseFills example some (answersMade (example .blob) (example .header) (example .ranges) (example .mask) (example .list) some (example .image))
+    (fillEach (example .blob) (example .header) (example .ranges) (example .mask) (example .list) some (example .image))
 some-calls = fills-made (example .blob) (example .header) (example .ranges) (example .mask) (example .list) some (example .image)
 
-pub some-filled : (left : List ℕ) → CaseFills example some left → left ≡ 1 ∷ 9 ∷ 9 ∷ 9 ∷ 9 ∷ 9 ∷ 9 ∷ 8 ∷ 9 ∷ []
+pub some-answers : (said : List FillAnswer) (left : List ℕ) → CaseFills example some said left → said ≡ fill-answer.Filled 1 ∷ fill-answer.Filled 1 ∷ fill-answer.Filled 1 ∷ fill-answer.Refused (refuse 11) ∷ []
+unfolding bytesOf little from count allTo pixelValid strips headerOf tileOf pixelOf rank blockOf placeIn size span climb
+some-answers said left f = answered example opened some said (example .image) left (opened .room) f
+
+pub some-filled : (said : List FillAnswer) (left : List ℕ) → CaseFills example some said left → left ≡ 1 ∷ 9 ∷ 9 ∷ 9 ∷ 9 ∷ 9 ∷ 9 ∷ 8 ∷ 9 ∷ []
 unfolding bytesOf wordAt little each from count allTo mag code sum scaled less same lesser integer valueOf whole cut sampleAt stored offsetKinds offsetKind pixelValid strips errorRight pairRight
     fieldsRight withinCeilings held keyRight headerOf numberAt byDepth codedRanges pairsRight levelBlock offsetAt finiteOffset offsetBlock formed flagAt blockSays tileOf pixelOf blockOf placeIn rank
     isValidCell painted inBlock indexOf blockAt fillSays fillImage fillEach size span climb
-some-filled left f = fill-calls some (example .image) left f
+some-filled said left f = fill-calls some said (example .image) left f

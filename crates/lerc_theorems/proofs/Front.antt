@@ -1,4 +1,4 @@
--- What is read lies in front of the end: two slices that agree below it have the same body.
+-- What is read lies between where reading begins and the end: two slices that agree there have the same blocks, and the same body.
 -- Assumes nothing.
 use mathlib.Core.Path.{_≡_, _∙_, sym, ap, refl}
 use mathlib.Core.Bool.{Bool, true, false, cond}
@@ -37,42 +37,46 @@ use Rattle.lerc_image.proofs.Chain.{chain-none, chain-front, chain-parts}
 use Rattle.lerc.specs.Meaning.{Body, empty, rawBody, blockBody, bodyFrom, sweptBody, constantBody, bodySays, endOf}
 use Rattle.lerc_theorems.proofs.Bodies.{placeOf, swept-in, block-in, chain-in}
 
--- they agree in the first k bytes, and the second has them
-pub record Agree (s t : List ℕ) (k : ℕ) : Type 0 where
-  pub front : take k s ≡ take k t
+-- they agree in the bytes from j up to k, and the second has them
+pub record Agree (s t : List ℕ) (j k : ℕ) : Type 0 where
+  pub bytes : (i : ℕ) → j ≤ i → i < k → getD s i 0 ≡ getD t i 0
   pub room : k ≤ length t
 
-module _ {s t : List ℕ} {k : ℕ} (a : Agree s t k) where
-  byte : (i : ℕ) → i < k → getD s i 0 ≡ getD t i 0
-  byte i l = sym (getD-take k s i 0 l) ∙ ap (λ (x : List ℕ). getD x i 0) (a .front) ∙ getD-take k t i 0 l
+-- as they do where their first k bytes are the same
+pub front-agrees : (s t : List ℕ) (k : ℕ) → take k s ≡ take k t → k ≤ length t → Agree s t 0 k
+front-agrees s t k e r = record {
+  bytes = λ i o l. sym (getD-take k s i 0 l) ∙ ap (λ (x : List ℕ). getD x i 0) e ∙ getD-take k t i 0 l;
+  room = r;
+}
 
-  pub little-agrees : (n at : ℕ) → at + n ≤ k → little n s at ≡ little n t at
-  little-agrees n at l = little-same n s t at at (λ i r. let z : at + i < k = omega arith in byte (at + i) z)
+module _ {s t : List ℕ} {j k : ℕ} (a : Agree s t j k) where
+  pub little-agrees : (n at : ℕ) → j ≤ at → at + n ≤ k → little n s at ≡ little n t at
+  little-agrees n at o l = little-same n s t at at (λ i r. a .bytes (at + i) (omega arith) (omega arith))
 
-  pub word-agrees : (n at v : ℕ) → wordAt n s at ≡ ok v → at + n ≤ k → wordAt n t at ≡ ok v
-  word-agrees n at v e l =
+  pub word-agrees : (n at v : ℕ) → wordAt n s at ≡ ok v → j ≤ at → at + n ≤ k → wordAt n t at ≡ ok v
+  word-agrees n at v e o l =
       let r : at + n ≤ length t = omega (arith, a .room) in
-      wordAt-ok n t at r ∙ ap ok (sym (little-agrees n at l) ∙ sym (wordAt-is n s at v e .value))
+      wordAt-ok n t at r ∙ ap ok (sym (little-agrees n at o l) ∙ sym (wordAt-is n s at v e .value))
 
-  sample-agrees : (kind at v : ℕ) → sampleAt kind s at ≡ ok v → at + typeSize kind ≤ k → sampleAt kind t at ≡ ok v
+  sample-agrees : (kind at v : ℕ) → sampleAt kind s at ≡ ok v → j ≤ at → at + typeSize kind ≤ k → sampleAt kind t at ≡ ok v
   unfolding sampleAt
-  sample-agrees kind at v e l =
+  sample-agrees kind at v e o l =
       let (w, p, e) = bind-is (wordAt (typeSize kind) s at) _ e in
-      rw (word-agrees (typeSize kind) at w p l) e
+      rw (word-agrees (typeSize kind) at w p o l) e
 
   -- ---- the four forms of a block
 
-  pub raw-agrees : (at kind n : ℕ) (b : Block) → rawWords s at kind n ≡ ok b → b .next ≤ k → rawWords t at kind n ≡ ok b
+  pub raw-agrees : (at kind n : ℕ) (b : Block) → rawWords s at kind n ≡ ok b → j ≤ at → b .next ≤ k → rawWords t at kind n ≡ ok b
   unfolding rawWords
-  raw-agrees at kind n b e l =
+  raw-agrees at kind n b e o l =
       let (_, q, e) = bind-is (require (leb (at + n * typeSize kind) (length s)) 1) _ e in
       let z : at + n * typeSize kind ≡ b .next = ap (λ (x : Block). x .next) (ok-is e) in
       let r : at + n * typeSize kind ≤ length t = omega (arith, a .room, z) in
       let words : tabulate n (λ i. little (typeSize kind) t (at + i * typeSize kind)) ≡ tabulate n (λ i. little (typeSize kind) s (at + i * typeSize kind)) =
-      tabulate-same n _ _ (λ i j.
-      let m : suc i * typeSize kind ≤ n * typeSize kind = mul-le-mul-right (typeSize kind) j in
+      tabulate-same n _ _ (λ i q.
+      let m : suc i * typeSize kind ≤ n * typeSize kind = mul-le-mul-right (typeSize kind) q in
       let y : at + i * typeSize kind + typeSize kind ≤ k = omega (arith, m, suc-mul i (typeSize kind), z) in
-      sym (little-agrees (typeSize kind) (at + i * typeSize kind) y)) in
+      sym (little-agrees (typeSize kind) (at + i * typeSize kind) (omega arith) y)) in
       rw (le-leb _ _ r) (ap (λ (x : List ℕ). ok (record { words = x; next = at + n * typeSize kind })) words ∙ e)
 
   raw-next : (at kind n : ℕ) (b : Block) → rawWords s at kind n ≡ ok b → at ≤ b .next
@@ -82,32 +86,32 @@ module _ {s t : List ℕ} {k : ℕ} (a : Agree s t k) where
       let z : at + n * typeSize kind ≡ b .next = ap (λ (x : Block). x .next) (ok-is e) in
       omega (arith, z)
 
-  counts-agrees : (at : ℕ) (c : Counts) → counts s at ≡ ok c → c .next ≤ k → counts t at ≡ ok c
-  counts-agrees at c e l =
+  counts-agrees : (at : ℕ) (c : Counts) → counts s at ≡ ok c → j ≤ at → c .next ≤ k → counts t at ≡ ok c
+  counts-agrees at c e o l =
       let d = counts-ends s at e in
       let n : ℕ = c .next - at in
       let z : at + n ≡ c .next = omega (arith, d .0) in
-      let m : Stays s at t at n = record { same = λ i r. (let y : at + i < k = omega arith in byte (at + i) y); room = omega (arith, a .room, z) } in
+      let m : Stays s at t at n = record { same = λ i r. a .bytes (at + i) (omega arith) (omega arith); room = omega (arith, a .room, z) } in
       rw (z) at (counts-stays m e (sym z))
 
-  finite-agrees : (at kind flag : ℕ) (o : Offset) → finiteOffset s at kind flag ≡ ok o → o .next ≤ k → finiteOffset t at kind flag ≡ ok o
+  finite-agrees : (at kind flag : ℕ) (o : Offset) → finiteOffset s at kind flag ≡ ok o → j ≤ at → o .next ≤ k → finiteOffset t at kind flag ≡ ok o
   unfolding finiteOffset offsetAt
-  finite-agrees at kind flag o e l =
+  finite-agrees at kind flag o e i l =
       let (p, q) = finite-is s at kind flag e in
       let f = offset-is s at kind flag p in
       let z = f .ends in
-      rw (f .named, sample-agrees (f .k) at (o .value) (f .sampled) (omega (arith, z)), q, ← z)
+      rw (f .named, sample-agrees (f .k) at (o .value) (f .sampled) i (omega (arith, z)), q, ← z)
 
   module _ (kind error top n : ℕ) (b : Block) (l : b .next ≤ k) where
-    stepped-agrees : (at offset : ℕ) → steppedBlock s at kind error top offset n ≡ ok b → (at ≤ b .next) × (steppedBlock t at kind error top offset n ≡ ok b)
+    stepped-agrees : (at offset : ℕ) → j ≤ at → steppedBlock s at kind error top offset n ≡ ok b → (at ≤ b .next) × (steppedBlock t at kind error top offset n ≡ ok b)
     unfolding steppedBlock
-    stepped-agrees at offset e =
+    stepped-agrees at offset o e =
         let (c, p, e) = bind-is (counts s at) _ e in
         let (_, q, e) = bind-is (require (eqb (length (c .values)) n) 8) _ e in
         let (ws, r, e) = bind-is (each (λ q. stored kind (stepValue error top offset q)) (c .values)) _ e in
         let z : c .next ≡ b .next = ap (λ (x : Block). x .next) (ok-is e) in
         let d = counts-ends s at p in
-        (omega (arith, d .0, z), rw (counts-agrees at c p (omega (arith, z)), require-is (eqb (length (c .values)) n) 8 q, r) e)
+        (omega (arith, d .0, z), rw (counts-agrees at c p o (omega (arith, z)), require-is (eqb (length (c .values)) n) 8 q, r) e)
 
     level-next : (at offset : ℕ) → levelBlock at kind offset n ≡ ok b → at ≤ b .next
     unfolding levelBlock
@@ -116,84 +120,86 @@ module _ {s t : List ℕ} {k : ℕ} (a : Agree s t k) where
         let z : at ≡ b .next = ap (λ (x : Block). x .next) (ok-is e) in
         omega (arith, z)
 
-    offset-agrees : (at flag : ℕ) → offsetBlock s at kind error top flag n ≡ ok b → offsetBlock t at kind error top flag n ≡ ok b
+    offset-agrees : (at flag : ℕ) → j ≤ at → offsetBlock s at kind error top flag n ≡ ok b → offsetBlock t at kind error top flag n ≡ ok b
     unfolding offsetBlock
-    offset-agrees at flag e =
+    offset-agrees at flag i e =
         let (o, p, e) = bind-is (finiteOffset s at kind flag) _ e in
-        let (z, e) = go (o .next) (o .value) (eqb (flag % 4) 3) e in
-        rw (finite-agrees at kind flag o p (omega (arith, z))) e
+        let f = offset-is s at kind flag (finite-is s at kind flag p .0) .ends in
+        let (z, e) = go (o .next) (o .value) (eqb (flag % 4) 3) (omega (arith, f)) e in
+        rw (finite-agrees at kind flag o p i (omega (arith, z))) e
       where
-        go : (to offset : ℕ) (x : Bool) → cond x (levelBlock to kind offset n) (steppedBlock s to kind error top offset n) ≡ ok b
+        go : (to offset : ℕ) (x : Bool) → j ≤ to → cond x (levelBlock to kind offset n) (steppedBlock s to kind error top offset n) ≡ ok b
             → (to ≤ b .next) × (cond x (levelBlock to kind offset n) (steppedBlock t to kind error top offset n) ≡ ok b)
-        go to offset true e = (level-next to offset e, e)
-        go to offset false e = stepped-agrees to offset e
+        go to offset true o e = (level-next to offset e, e)
+        go to offset false o e = stepped-agrees to offset o e
 
-    formed-agrees : (at flag : ℕ) → formed s at kind error top flag n ≡ ok b → formed t at kind error top flag n ≡ ok b
+    formed-agrees : (at flag : ℕ) → j ≤ at → formed s at kind error top flag n ≡ ok b → formed t at kind error top flag n ≡ ok b
     unfolding formed
-    formed-agrees at flag = go (eqb (flag % 4) 0) (eqb (flag % 4) 2)
+    formed-agrees at flag o = go (eqb (flag % 4) 0) (eqb (flag % 4) 2)
       where
         go : (x y : Bool)
             → cond x (rawWords s at kind n) (cond y (ok (record { words = replicate n 0; next = at })) (offsetBlock s at kind error top flag n)) ≡ ok b
             → cond x (rawWords t at kind n) (cond y (ok (record { words = replicate n 0; next = at })) (offsetBlock t at kind error top flag n)) ≡ ok b
-        go true y e = raw-agrees at kind n b e l
+        go true y e = raw-agrees at kind n b e o l
         go false true e = e
-        go false false e = offset-agrees at flag e
+        go false false e = offset-agrees at flag o e
 
-    pub block-agrees : (at x : ℕ) → blockSays s at kind error top x n ≡ ok b → blockSays t at kind error top x n ≡ ok b
+    pub block-agrees : (at x : ℕ) → j ≤ at → blockSays s at kind error top x n ≡ ok b → blockSays t at kind error top x n ≡ ok b
     unfolding blockSays flagAt
-    block-agrees at x e =
+    block-agrees at x o e =
         let d = block-ends s at kind error top x n e in
         let (flag, p, e) = bind-is (flagAt s at x) _ e in
         let (w, q) = flag-is s at x p in
-        rw (word-agrees 1 at flag w (omega (arith, d .0)), q) (formed-agrees (at + 1) flag e)
+        rw (word-agrees 1 at flag w o (omega (arith, d .0)), q) (formed-agrees (at + 1) flag (omega arith) e)
 
   -- ---- the blocks of a body
 
   module _ (h : Header) (maxima m : List ℕ) where
-    at-agrees : (n at : ℕ) (b : Block) → b .next ≤ k → blockAt s h maxima m n at ≡ ok b → blockAt t h maxima m n at ≡ ok b
+    pub at-agrees : (n at : ℕ) (b : Block) → j ≤ at → b .next ≤ k → blockAt s h maxima m n at ≡ ok b → blockAt t h maxima m n at ≡ ok b
     unfolding blockAt
-    at-agrees n at b l e = block-agrees (h .kind) (h .error) _ _ b l at _ e
+    at-agrees n at b o l e = block-agrees (h .kind) (h .error) _ _ b l at _ o e
 
-    pub chain-agrees : (f n at : ℕ) (c : Chain) → c .end ≤ k → chain s h maxima m f n at ≡ ok c → chain t h maxima m f n at ≡ ok c
-    chain-agrees zero n at c l e = chain-none t h maxima m n at ∙ sym (chain-none s h maxima m n at) ∙ e
-    chain-agrees (suc f) n at c l e =
+    pub chain-agrees : (f n at : ℕ) (c : Chain) → j ≤ at → c .end ≤ k → chain s h maxima m f n at ≡ ok c → chain t h maxima m f n at ≡ ok c
+    chain-agrees zero n at c o l e = chain-none t h maxima m n at ∙ sym (chain-none s h maxima m n at) ∙ e
+    chain-agrees (suc f) n at c o l e =
         let p = chain-parts s h maxima m f n at c e in
         let i = block-in s h maxima m n at (p .block) (p .first-is) in
-        let j = chain-in s h maxima m f (suc n) (p .block .next) (p .others) (i .1) (p .others-are) in
+        let y = chain-in s h maxima m f (suc n) (p .block .next) (p .others) (i .1) (p .others-are) in
         let z : c .end ≡ p .others .end = ap (λ (x : Chain). x .end) (p .whole) in
         rw (
           chain-front t h maxima m f n at,
-          at-agrees n at (p .block) (omega (arith, j .0, z)) (p .first-is),
-          chain-agrees f (suc n) (p .block .next) (p .others) (omega (arith, z)) (p .others-are),
+          at-agrees n at (p .block) o (omega (arith, y .0, z)) (p .first-is),
+          chain-agrees f (suc n) (p .block .next) (p .others) (omega (arith, i .0)) (omega (arith, z)) (p .others-are),
         ) (ap ok (sym (p .whole)))
 
   -- ---- the bytes in front of a body
 
-  mode-agrees : (at : ℕ) (w : Way) → placeOf w ≤ k → modeAt s at ≡ ok w → modeAt t at ≡ ok w
+  mode-agrees : (at : ℕ) (w : Way) → j ≤ at → placeOf w ≤ k → modeAt s at ≡ ok w → modeAt t at ≡ ok w
   unfolding modeAt
-  mode-agrees at w l e =
+  mode-agrees at w o l e =
       let (mode, p, e) = bind-is (wordAt 1 s at) _ e in
       let (_, q, e) = bind-is (require (ltb mode 3) 8) _ e in
       let (_, r, e) = bind-is (require (eqb mode 0) 10) _ e in
       let z : at + 1 ≡ placeOf w = ap placeOf (ok-is e) in
-      rw (word-agrees 1 at mode p (omega (arith, z)), require-is (ltb mode 3) 8 q, require-is (eqb mode 0) 10 r) e
+      rw (word-agrees 1 at mode p o (omega (arith, z)), require-is (ltb mode 3) 8 q, require-is (eqb mode 0) 10 r) e
 
-  pub sweep-agrees : (kind error at : ℕ) (w : Way) → placeOf w ≤ k → swept s kind error at ≡ ok w → swept t kind error at ≡ ok w
+  pub sweep-agrees : (kind error at : ℕ) (w : Way) → j ≤ at → placeOf w ≤ k → swept s kind error at ≡ ok w → swept t kind error at ≡ ok w
   unfolding swept moded
-  sweep-agrees kind error at w l e =
+  sweep-agrees kind error at w o l e =
       let d = swept-in s kind error at w e in
       let (sweep, p, e) = bind-is (wordAt 1 s at) _ e in
       let (_, q, e) = bind-is (require (ltb sweep 2) 8) _ e in
-      rw (word-agrees 1 at sweep p (omega (arith, d .0)), require-is (ltb sweep 2) 8 q) (go (eqb sweep 1) (hasModeByte kind error) e)
+      rw (word-agrees 1 at sweep p o (omega (arith, d .0)), require-is (ltb sweep 2) 8 q) (go (eqb sweep 1) (hasModeByte kind error) e)
     where
       go : (x y : Bool) → cond x (ok (rawFrom (at + 1))) (cond y (modeAt s (at + 1)) (ok (blocksFrom (at + 1)))) ≡ ok w
           → cond x (ok (rawFrom (at + 1))) (cond y (modeAt t (at + 1)) (ok (blocksFrom (at + 1)))) ≡ ok w
       go true y e = e
-      go false true e = mode-agrees (at + 1) w l e
+      go false true e = mode-agrees (at + 1) w (omega arith) l e
       go false false e = e
 
-  -- ---- ranges
+-- ---- ranges, and the body
 
+module _ {s t : List ℕ} {k : ℕ} (a : Agree s t 0 k) where
   module _ (h : Header) where
     depth-agrees : (at d : ℕ) → at + h .depth * typeSize (h .kind) ≤ k → byDepth (h .depth) (numberAt (h .kind) s at) d ≡ byDepth (h .depth) (numberAt (h .kind) t at) d
     unfolding byDepth numberAt
@@ -206,7 +212,7 @@ module _ {s t : List ℕ} {k : ℕ} (a : Agree s t k) where
             let z = typeSize (h .kind) in
             let m : suc i * z ≤ h .depth * z = mul-le-mul-right z (ltb-true i (h .depth) e) in
             let y : at + i * z + z ≤ k = omega (arith, m, suc-mul i z) in
-            ap (valueOf (h .kind)) (little-agrees z (at + i * z) y)
+            ap (valueOf (h .kind)) (little-agrees a z (at + i * z) (omega arith) y)
 
     coded-agrees : rangesEnd h ≤ k → codedRanges s h ≡ codedRanges t h
     unfolding codedRanges
@@ -242,12 +248,12 @@ module _ {s t : List ℕ} {k : ℕ} (a : Agree s t k) where
       from-agrees r (rawFrom at) o e =
           let (b, p, e) = bind-is (rawWords s at (h .kind) (h .valid * h .depth)) _ e in
           let z : b .next ≡ endOf y = ap endOf (ok-is e) in
-          (omega (arith, raw-next at (h .kind) (h .valid * h .depth) b p, z), rw (raw-agrees at (h .kind) (h .valid * h .depth) b p (omega (arith, z))) e)
+          (omega (arith, raw-next a at (h .kind) (h .valid * h .depth) b p, z), rw (raw-agrees a at (h .kind) (h .valid * h .depth) b p (omega arith) (omega (arith, z))) e)
       from-agrees r (blocksFrom at) o e =
           let (c, p, e) = bind-is (allBlocks s h (r .max) m at) _ e in
           let z : c .end ≡ endOf y = ap endOf (ok-is e) in
           let i = chain-in s h (r .max) m (blockCount (shapeOf h)) 0 at c o p in
-          (omega (arith, i .0, z), rw (chain-agrees h (r .max) m (blockCount (shapeOf h)) 0 at c (omega (arith, z)) p) e)
+          (omega (arith, i .0, z), rw (chain-agrees a h (r .max) m (blockCount (shapeOf h)) 0 at c (omega arith) (omega (arith, z)) p) e)
 
       swept-agrees : (r : Ranges) → sweptBody s h r m ≡ ok y → (r .at ≤ k) × (sweptBody t h r m ≡ ok y)
       unfolding sweptBody
@@ -255,7 +261,7 @@ module _ {s t : List ℕ} {k : ℕ} (a : Agree s t k) where
           let (w, p, e) = bind-is (swept s (h .kind) (h .error) (r .at)) _ e in
           let d = swept-in s (h .kind) (h .error) (r .at) w p in
           let (z, e) = from-agrees r w (d .1) e in
-          (omega (arith, z, d .0), rw (sweep-agrees (h .kind) (h .error) (r .at) w z p) e)
+          (omega (arith, z, d .0), rw (sweep-agrees a (h .kind) (h .error) (r .at) w (omega arith) z p) e)
 
       behind : (r : Ranges) (x : Bool) → cond x (constantBody h r) (sweptBody s h r m) ≡ ok y → (r .at ≤ k) × (cond x (constantBody h r) (sweptBody t h r m) ≡ ok y)
       behind r true e = (constant-agrees r e, e)
@@ -280,10 +286,10 @@ take-drop zero m l = rw (zero-add)
 take-drop (suc n) m [] = rw (take-nil m, take-nil (suc n + m))
 take-drop (suc n) m (x ∷ xs) = rw (suc-add n m) (take-drop n m xs)
 
-module _ {s t : List ℕ} {k : ℕ} (a : Agree s t k) where
+module _ (s t : List ℕ) (k : ℕ) (front : take k s ≡ take k t) where
   section-agrees : (n m : ℕ) → n + m ≤ k → take m (drop n s) ≡ take m (drop n t)
   section-agrees n m l =
-      take-drop n m s ∙ ap (drop n) (sym (take-take (n + m) k s l) ∙ ap (take (n + m)) (a .front) ∙ take-take (n + m) k t l) ∙ sym (take-drop n m t)
+      take-drop n m s ∙ ap (drop n) (sym (take-take (n + m) k s l) ∙ ap (take (n + m)) front ∙ take-take (n + m) k t l) ∙ sym (take-drop n m t)
 
   -- where there is no valid pixel it is not looked at
   pub mask-agrees : (h : Header) (reuse : Bool) (old : List ℕ) → ((h .valid ≡ 0 → ⊥) → rangesAt h ≤ k) → maskSays s h reuse old ≡ maskSays t h reuse old

@@ -19,7 +19,10 @@ pub mod Meanings
 pub mod Front
 pub mod Nine
 pub mod Fills
-pub mod DemandThree
+pub mod OpenedFills
+pub mod Unread
 pub mod DemandTwo
+pub mod FromCalls
+pub mod DemandThree
 pub mod Example
 pub mod Claims

@@ -1,7 +1,7 @@
 -- The meaning of a blob: its parts, which bytes it depends on, and that a whole read with room is it.
 -- Assumes nothing.
 use mathlib.Core.Path.{_≡_, _∙_, sym, ap, refl}
-use mathlib.Core.Bool.{Bool, true}
+use mathlib.Core.Bool.{Bool, true, false}
 use mathlib.Core.List.{List}
 use Prim.Native.Nat.{ℕ, _+_, _≤_, _<_, min}
 use native.Mathlib.Decide.{decLt}
@@ -20,12 +20,12 @@ use Rattle.lerc_ranges.specs.declared.Ranges.{Ranges}
 use Rattle.lerc_ranges.specs.Ranges.{rangesSays}
 use Rattle.lerc_ranges.proofs.Judged.{RangesKept, ranges-kept}
 use Rattle.lerc_validity.proofs.Prepared.{Right, mask-told}
-use Rattle.lerc_validity.specs.Validity.{MaskInForce, bytesOf, maskSays}
+use Rattle.lerc_validity.specs.Validity.{MaskInForce, bytesOf, kept as keptMask, maskSays}
 use Rattle.lerc.specs.Meaning.{Meaning, endOf, bodySays, meaningFrom, meaning}
 use Rattle.lerc.specs.Read.{Lent, room, Masked, masked, readSays}
 use Rattle.lerc_theorems.specs.DemandTwo.{Roomy}
 use Rattle.lerc_theorems.proofs.Bodies.{body-ends, body-behind}
-use Rattle.lerc_theorems.proofs.Front.{Agree, body-agrees, mask-agrees}
+use Rattle.lerc_theorems.proofs.Front.{Agree, front-agrees, body-agrees, mask-agrees}
 
 -- ---- its parts
 
@@ -72,6 +72,13 @@ module _ (b : List ℕ) (reuse : Bool) (kept : List ℕ) (m : Meaning) (k : Mean
       let l : headerBytes ≤ length (take (m .header .size) b) = rw (declared) (omega (arith, size .0)) in
       let i = body-ends (take (m .header .size) b) (m .header) (bytesOf (m .mask)) (m .body) pairs-kept l (k .body) in
       (i .0, rw (declared) at (i .1), size .1)
+
+-- ---- without reuse
+
+-- the kept mask is not looked at
+pub kept-unread : (b kept other : List ℕ) → meaning b false kept ≡ meaning b false other
+unfolding meaning maskSays keptMask
+kept-unread b kept other = refl
 
 -- ---- a whole read with room
 
@@ -131,7 +138,7 @@ module _ (b : List ℕ) (k : ℕ) where
   key-front l = rw (little-front 6 0 (omega arith), little-front 4 6 (omega arith))
 
 -- a header is held alike by any two slices that are long enough
-held-any : (h : Header) (n m : ℕ) → h .size ≤ n → h .size ≤ m → held h n ≡ held h m
+pub held-any : (h : Header) (n m : ℕ) → h .size ≤ n → h .size ≤ m → held h n ≡ held h m
 unfolding held
 held-any h n m p q = rw (le-leb _ _ p, le-leb _ _ q)
 
@@ -142,7 +149,7 @@ module _ (b c : List ℕ) (n : ℕ) (few : headerBytes ≤ n) (same : take n b �
   key-same : keyRight b ≡ keyRight c
   key-same = key-front b n few ∙ ap keyRight same ∙ sym (key-front c n few)
 
-  part-same : (k : ℕ) → k ≤ n → take k b ≡ take k c
+  pub part-same : (k : ℕ) → k ≤ n → take k b ≡ take k c
   part-same k l = sym (take-take k n b l) ∙ ap (take k) same ∙ take-take k n c l
 
   long-same : min n (length b) ≡ min n (length c)
@@ -159,6 +166,17 @@ module _ (b c : List ℕ) (n : ℕ) (few : headerBytes ≤ n) (same : take n b �
         header-same,
       )
 
+  pub header-alike : headerOf b .size ≤ n → headerSays b ≡ headerSays c
+  header-alike size = go (decLt (length b) n)
+    where
+      go : Dec (length b < n) → headerSays b ≡ headerSays c
+      go (yes l) =
+          let z : b ≡ c = sym (take-all n b (omega arith)) ∙ same ∙ take-all n c (omega (arith, long-same)) in
+          ap headerSays z
+      go (no l) =
+          let q : n ≤ length c = omega (arith, long-same) in
+          says-same (omega arith) (omega arith) (omega arith) (omega arith)
+
   module _ (size : headerOf b .size ≤ n) (reuse : Bool) (kept : List ℕ) where
     from-header : (x : Res Header) → headerSays b ≡ x → headerSays c ≡ x → meaning b reuse kept ≡ meaning c reuse kept
     unfolding meaning meaningFrom
@@ -169,15 +187,7 @@ module _ (b c : List ℕ) (n : ℕ) (few : headerBytes ≤ n) (same : take n b �
     from-header (fail r) e d = rw (e, d)
 
     pub meaning-same : meaning b reuse kept ≡ meaning c reuse kept
-    meaning-same = go (decLt (length b) n)
-      where
-        go : Dec (length b < n) → meaning b reuse kept ≡ meaning c reuse kept
-        go (yes l) =
-            let z : b ≡ c = sym (take-all n b (omega arith)) ∙ same ∙ take-all n c (omega (arith, long-same)) in
-            ap (λ (x : List ℕ). meaning x reuse kept) z
-        go (no l) =
-            let q : n ≤ length c = omega (arith, long-same) in
-            from-header (headerSays c) (says-same (omega arith) (omega arith) (omega arith) (omega arith)) refl
+    meaning-same = from-header (headerSays c) (header-alike size) refl
 
 -- ---- and the bytes behind the end, which it does not depend on
 
@@ -192,14 +202,14 @@ module _ (b : List ℕ) (reuse : Bool) (kept : List ℕ) (m : Meaning) (k : Mean
     end : (headerBytes ≤ endOf (m .body)) × (endOf (m .body) ≤ m .header .size) × (m .header .size ≤ length b)
     end = ends b reuse kept m k
 
-    agree : Agree s t (endOf (m .body))
-    agree =
+    front : take (endOf (m .body)) s ≡ take (endOf (m .body)) t
+    front =
         let e = endOf (m .body) in
         let n = m .header .size in
-        record {
-          front = take-take e n b (end .1) ∙ same ∙ sym (take-take e n c (end .1));
-          room = rw (length-take n c) (omega (arith, end .1));
-        }
+        take-take e n b (end .1) ∙ same ∙ sym (take-take e n c (end .1))
+
+    agree : Agree s t 0 (endOf (m .body))
+    agree = front-agrees s t (endOf (m .body)) front (rw (length-take (m .header .size) c) (omega (arith, end .1)))
 
     header-as : headerSays c ≡ ok (m .header)
     header-as =
@@ -209,6 +219,6 @@ module _ (b : List ℕ) (reuse : Bool) (kept : List ℕ) (m : Meaning) (k : Mean
     pub means-front : Means c reuse kept m
     means-front = record {
       header = header-as;
-      mask = sym (mask-agrees agree (m .header) reuse kept (λ v. body-behind s (m .header) (bytesOf (m .mask)) (m .body) (pairs-kept b reuse kept m k) v (k .body))) ∙ k .mask;
+      mask = sym (mask-agrees s t (endOf (m .body)) front (m .header) reuse kept (λ v. body-behind s (m .header) (bytesOf (m .mask)) (m .body) (pairs-kept b reuse kept m k) v (k .body))) ∙ k .mask;
       body = body-agrees agree (m .header) (bytesOf (m .mask)) (m .body) (omega arith) (k .body);
     }

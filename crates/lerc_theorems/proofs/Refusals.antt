@@ -2,10 +2,12 @@
 -- Assumes nothing.
 use mathlib.Core.Path.{_≡_, _∙_, sym, ap, refl}
 use mathlib.Core.Bool.{Bool, true}
-use mathlib.Core.List.{List, []}
-use Prim.Native.Nat.{ℕ}
+use mathlib.Core.List.{List, [], _∷_, _++_}
+use Prim.Native.Nat.{ℕ, _+_}
+use native.Mathlib.Nat.{zero-add}
 use native.Mathlib.Omega.{arith}
 use lib.ListN.{length, take, replicate}
+use borrow.Author.Tests.{le-leb}
 use Rattle.lerc_words.specs.declared.Refusal.{Refusal}
 use Rattle.lerc_words.specs.Res.{Res, ok, fail, _>>=_, require, after}
 use Rattle.lerc_words.proofs.Binding.{bind-is, require-is, ok-is, bind-fail}
@@ -37,7 +39,12 @@ use Rattle.lerc_ranges.specs.Ranges.{noRanges, rangesSaid, rangesInSays, readRa
 use Rattle.lerc_validity.proofs.Prepared.{mask-told}
 use Rattle.lerc.specs.declared.ReadAnswer.the-variants as read
 use Rattle.lerc.specs.Read.{Lent, room, Masked, masked, readSays, refusedAfter, WholeRead}
+use Rattle.lerc_fills.specs.Each.{filledOf, fillEach}
+use Rattle.lerc_fills.proofs.Turns.{length-fill}
+use Rattle.lerc_theorems.specs.Promises.{HandedBack}
+use Rattle.lerc_theorems.specs.Calls.{FillCall}
 use Rattle.lerc_theorems.specs.Refusals.{RefusalsKeep, RefusalsEmpty, NewMask, WholeKeeps}
+use Rattle.lerc_theorems.proofs.Calls.{fill-call, each-call}
 use Rattle.lerc_theorems.proofs.Meanings.{rooms}
 
 -- ---- slices that are lent
@@ -71,6 +78,37 @@ filled-keeps b h g m list n {old = old} p = let e = bind-fail (fillSays b h g m 
 tiled-keeps : (c : Res Chain) {h : Header} {m : List ℕ} {why : Refusal} {list l image x : List ℕ} → Tiled c h m (walked.Refused why) list l image x → (l ≡ list) × (x ≡ image)
 tiled-keeps c p = let e = bind-fail c _ (sym (p .says)) in (p .list ∙ rw (e), p .image ∙ rw (e))
 
+-- ---- a list of fills
+
+module _ (b : List ℕ) (h : Header) (r : Ranges) (m list : List ℕ) where
+  refused-says : (n : ℕ) {why : Refusal} {image any : List ℕ} → FillCall b h r m list n (filled.Refused why) image any → fillSays b h r m list n (length image) ≡ fail why
+  refused-says n {image = image} f = bind-fail (fillSays b h r m list n (length image)) _ (sym (fill-call f .says))
+
+  skipped : (n : ℕ) (image : List ℕ) {why : Refusal} → fillSays b h r m list n (length image) ≡ fail why → fillImage b h r m list n image ≡ image
+  unfolding fillImage
+  skipped n image e = rw (e)
+
+  -- a refused number is as good as left out
+  each-skips : (ms : List ℕ) (n : ℕ) (ns image : List ℕ) (why : Refusal) → fillSays b h r m list n (length image) ≡ fail why → fillEach b h r m list (ms ++ n ∷ ns) image ≡ fillEach b h r m list (ms ++ ns) image
+  unfolding fillEach
+  each-skips [] n ns image why e = ap (fillEach b h r m list ns) (skipped n image e)
+  each-skips (i ∷ ms) n ns image why e = each-skips ms n ns (fillImage b h r m list i image) why (rw (length-fill b h r m list i image) e)
+
+  count-skips : (room : ℕ) (ms : List ℕ) (n : ℕ) (ns : List ℕ) {why : Refusal} → fillSays b h r m list n room ≡ fail why → filledOf b h r m list room (ms ++ n ∷ ns) ≡ filledOf b h r m list room (ms ++ ns)
+  unfolding filledOf
+  count-skips room [] n ns e = rw (e) (zero-add (filledOf b h r m list room ns))
+  count-skips room (i ∷ ms) n ns e = rw (count-skips room ms n ns e)
+
+  -- none was filled
+  none-left : (ns image : List ℕ) → filledOf b h r m list (length image) ns ≡ 0 → fillEach b h r m list ns image ≡ image
+  unfolding filledOf fillEach
+  none-left [] image z = refl
+  none-left (n ∷ ns) image z = go (fillSays b h r m list n (length image)) refl (none-left ns image)
+    where
+      go : (x : Res Block) → fillSays b h r m list n (length image) ≡ x → (filledOf b h r m list (length image) ns ≡ 0 → fillEach b h r m list ns image ≡ image) → fillEach b h r m list ns (fillImage b h r m list n image) ≡ image
+      go (ok k) e left = absurd (let y : 1 + filledOf b h r m list (length image) ns ≡ 0 = rw (e) at z in omega arith)
+      go (fail why) e left = rw (skipped n image e) (left (sym (count-skips (length image) [] n ns e) ∙ z))
+
 pub refusals-keep : RefusalsKeep
 refusals-keep = record {
   decode-plan = λ k a x why p. decoded-keeps _ p;
@@ -82,6 +120,12 @@ refusals-keep = record {
   walk = λ k a x why p. walked-keeps _ _ _ _ p;
   fill = λ k a x why p. filled-keeps _ _ _ _ _ _ p;
   tiles-list = λ k a x why p. tiled-keeps _ p .0;
+  fill-each = λ b h r m list ms n ns why image any f said told new other p q.
+      let e = refused-says b h r m list n f in (
+        each-call p .says ∙ count-skips b h r m list (length image) ms n ns e ∙ sym (each-call q .says),
+        each-call p .image ∙ each-skips b h r m list ms n ns image why e ∙ sym (each-call q .image),
+      );
+  none-filled = λ k a x p. p .image ∙ none-left _ _ _ _ _ _ _ (sym (p .says));
   tiles-image = λ k a x why p. tiled-keeps _ p .1;
 }
 
@@ -104,7 +148,16 @@ refusals-empty = record {
   ranges = λ k a r x why p. no-ranges (readRangesSays (a .0 .now) (a .1 .0)) p;
   ranges-found = λ k a r x why p. no-ranges (rangesInSays (a .0 .now) (a .1 .0)) p;
   constants = λ k a r x why p. no-words (constantWords (a .1 .0) (a .1 .1 .0) (a .0)) p;
-  mask = λ k a r x why p. no-mask _ _ _ p;
+  mask = λ k a r x why p. no-mask _ _ _ (p .0);
+}
+
+-- ---- the mask that is handed back
+
+pub handed-back : HandedBack
+unfolding inForce
+handed-back = record {
+  kept = λ k a r x n p e l. (p .1 ∙ rw (e), p .0 ∙ rw (e, le-leb n (length (a .0 .now)) l));
+  spare = λ k a r x n p e l. (p .1 ∙ rw (e), p .0 ∙ rw (e, le-leb n (length (a .1 .0 .now)) l));
 }
 
 -- ---- whole read

@@ -89,7 +89,8 @@ TilesCall b h m maxima at said old-list new-list old-image new-image =
 abbrev pub ReadCall : List ℕ → Bool → ReadAnswer → Lent → Lent → Type 0
 ReadCall b reuse said old new = Call {S = List ℕ × Bool × Lent} read.Post (λ a. (a .0 .now, a .1 .0, lent a)) (λ r. r) lent (b, reuse, old) said new
 
--- calls of fill, one for each number, each on the image that the one before it left
-pub data FillCalls (b : List ℕ) (h : Header) (r : Ranges) (m list : List ℕ) : List ℕ → List ℕ → List ℕ → Type 0 where
-  none : (image : List ℕ) → FillCalls b h r m list [] image image
-  more : (n : ℕ) (ns old mid new : List ℕ) (said : FillAnswer) → FillCall b h r m list n said old mid → FillCalls b h r m list ns mid new → FillCalls b h r m list (n ∷ ns) old new
+-- calls of fill, one for each number, each on the image that the one before it left; and what each answered
+pub data FillCalls (b : List ℕ) (h : Header) (r : Ranges) (m list : List ℕ) : List ℕ → List FillAnswer → List ℕ → List ℕ → Type 0 where
+  none : (image : List ℕ) → FillCalls b h r m list [] [] image image
+  more : (n : ℕ) (ns : List ℕ) (said : FillAnswer) (answers : List FillAnswer) (old mid new : List ℕ) → FillCall b h r m list n said old mid → FillCalls b h r m list ns answers mid new
+      → FillCalls b h r m list (n ∷ ns) (said ∷ answers) old new

@@ -4,7 +4,7 @@ use Rattle.lerc_words.specs.declared.Refusal.{Refusal}
 use Rattle.lerc.specs.declared.ReadAnswer.the-variants as answer
 use Rattle.lerc.proofs.read.Reads as read
 use Prim.Native.Nat.{ℕ}
-use Rattle.lerc_theorems.specs.Promises.{lent, NoRoom, NoRoomInC}
+use Rattle.lerc_theorems.specs.Promises.{lent, HandedBack, NoRoom, NoRoomInC}
 use Rattle.lerc_theorems.specs.Refusals.{RefusalsKeep, RefusalsEmpty, WholeKeeps}
 use Rattle.lerc_theorems.specs.InC.{RefusalsKeepInC}
 use Rattle.lerc_theorems.specs.Numbers.{NumbersExactly, NumbersOnly}
@@ -27,6 +27,8 @@ pub record DemandOne : Type 0 where
   pub keeps-in-c : RefusalsKeepInC
   -- "A refusal carries its number, and 0 for each count and offset; a part to be handed back is then empty."
   pub refusal-empty : RefusalsEmpty
+  -- "handed back as a part of the kept mask (reuse) or of the spare (otherwise)"
+  pub handed-back : HandedBack
   -- "Success writes only the mask's length, the list's first count entries and valid cells."
   pub writes-only : WritesOnly
   -- the same of whole read

@@ -3,12 +3,13 @@
 use Prim.Native.Nat.{ℕ, _+_, _*_, _≤_, _<_}
 use mathlib.Core.Path.{_≡_}
 use mathlib.Core.Bool.{Bool, true, cond, _&&_}
-use mathlib.Core.List.{List, [], _∷_}
+use mathlib.Core.List.{List, [], _∷_, map}
 use lib.ListN.{length, getD, take}
 use lib.Dec.{ltb}
 use Rattle.lerc_words.specs.Res.{ok, refuse}
-use Rattle.lerc_words.specs.Lists.{over, total}
+use Rattle.lerc_words.specs.Lists.{over, count, total}
 use Rattle.lerc_header.specs.declared.Header.{Header}
+use Rattle.lerc_header.specs.declared.HeaderAnswer.the-variants as header-answer
 use Rattle.lerc_header.specs.declared.Shape.{Shape}
 use Rattle.lerc_header.specs.Shape.{cells, maskLength, blockCount}
 use Rattle.lerc_header.specs.Header.{shapeOf}
@@ -20,13 +21,14 @@ use Rattle.lerc_image.specs.declared.WalkAnswer.the-variants as walk-answer
 use Rattle.lerc_image.specs.declared.FillAnswer.{FillAnswer}
 use Rattle.lerc_image.specs.declared.FillAnswer.the-variants as fill-answer
 use Rattle.lerc_image.specs.Geometry.{blockOf, tileOf, validInTile, isValidCell}
-use Rattle.lerc_image.specs.Paint.{among}
+use Rattle.lerc_image.specs.Paint.{inBlock, among}
 use Rattle.lerc_image.specs.Blocks.{Chain}
 use Rattle.lerc_image.specs.Walk.{walkSays}
 use Rattle.lerc.specs.declared.ReadAnswer.{ReadAnswer}
+use Rattle.lerc.specs.declared.ReadAnswer.the-variants as read-answer
 use Rattle.lerc.specs.Meaning.{blocks, cellWord, meaning}
 use Rattle.lerc.specs.Read.{Lent, room}
-use Rattle.lerc_theorems.specs.Calls.{PrepareCall, HandedCall, ReadRanges, WalkCall, FillCall, FillCalls, EachCall, TilesCall, ReadCall}
+use Rattle.lerc_theorems.specs.Calls.{HeaderCall, PrepareCall, HandedCall, ReadRanges, WalkCall, FillCall, FillCalls, EachCall, TilesCall, ReadCall}
 
 -- a blob in blocks, what it means, and what fills are lent: header, ranges, mask, list and image
 pub record Case : Type 0 where
@@ -67,8 +69,24 @@ pub record Opened (x : Case) : Type 0 where
 abbrev pub CaseFill : Case → ℕ → FillAnswer → List ℕ → List ℕ → Type 0
 CaseFill x n said old new = FillCall (x .blob) (x .header) (x .ranges) (x .mask) (x .list) n said old new
 
-abbrev pub CaseFills : Case → List ℕ → List ℕ → Type 0
-CaseFills x ns new = FillCalls (x .blob) (x .header) (x .ranges) (x .mask) (x .list) ns (x .image) new
+abbrev pub CaseFills : Case → List ℕ → List FillAnswer → List ℕ → Type 0
+CaseFills x ns said new = FillCalls (x .blob) (x .header) (x .ranges) (x .mask) (x .list) ns said (x .image) new
+
+-- the answer to a number: its tile's valid pixels, or 11
+abbrev pub answerTo : Shape → List ℕ → ℕ → FillAnswer
+answerTo s m n = cond (ltb n (blockCount s)) (fill-answer.Filled (validInTile s m (tileOf s n))) (fill-answer.Refused (refuse 11))
+
+-- A whole read that may be compared with: room for all, and the same start. Only where reuse is allowed must the kept masks be the same.
+pub record ReadAlike (b : List ℕ) (reuse : Bool) (kept : List ℕ) (h : Header) (image : List ℕ) (left : Lent) : Type 0 where
+  pub answer : ReadAnswer
+  pub lent : Lent
+  pub read : ReadCall b reuse answer lent left
+  pub room : room h lent ≡ true
+  pub same-mask : reuse ≡ true → lent .kept ≡ kept
+  pub same-start : lent .image ≡ image
+
+abbrev pub CaseRead : Case → Lent → Type 0
+CaseRead x left = ReadAlike (x .blob) (x .reuse) (x .kept) (x .header) (x .image) left
 
 -- the words that an answer reports; a refusal reports 0
 abbrev pub reported : FillAnswer → ℕ
@@ -80,7 +98,93 @@ abbrev pub below : ℕ → List ℕ → ℕ
 below k [] = 0
 below k (n ∷ ns) = cond (ltb n k) 1 0 + below k ns
 
+-- ---- from calls alone
+
+-- what a caller has in hand before it fills: the blob, whether a mask may be reused and which, what it was told (header, ranges, count of blocks, end), and what it lends
+pub record InHand : Type 0 where
+  pub blob : List ℕ
+  pub reuse : Bool
+  pub kept : List ℕ
+  pub header : Header
+  pub ranges : Ranges
+  pub count : ℕ
+  pub end : ℕ
+  pub mask : List ℕ
+  pub list : List ℕ
+  pub image : List ℕ
+
+-- read header, prepare mask, mask in force, read ranges and walk, each accepted. The mask that walk and fills are lent begins with the one that was handed back.
+pub record ByWalk (x : InHand) : Type 0 where
+  pub said : MaskAnswer
+  pub spare : List ℕ
+  pub prepared : List ℕ
+  pub part : List ℕ
+  pub unlisted : List ℕ
+  pub header : HeaderCall (x .blob) (header-answer.Read (x .header))
+  pub prepare : PrepareCall (x .blob) (x .header) (x .reuse) (x .kept) said spare prepared
+  pub handed : HandedCall (x .kept) prepared said part
+  pub ranges : ReadRanges (x .blob) (x .header) (x .ranges)
+  pub mask : take (maskLength (shapeOf (x .header))) (x .mask) ≡ part
+  pub walk : WalkCall (x .blob) (x .header) (x .ranges) (x .mask) (walk-answer.Walked (x .count) (x .end)) unlisted (x .list)
+  pub room : cells (shapeOf (x .header)) ≤ length (x .image)
+
+-- a whole read that found blocks, and the ranges read; list and mask are as it left them
+pub record ByRead (x : InHand) : Type 0 where
+  pub old : Lent
+  pub new : Lent
+  pub read : ReadCall (x .blob) (x .reuse) (read-answer.Whole (x .header) (x .count) (x .end)) old new
+  pub kept : old .kept ≡ x .kept
+  pub found : 0 < x .count
+  pub ranges : ReadRanges (x .blob) (x .header) (x .ranges)
+  pub mask : x .mask ≡ new .kept
+  pub list : x .list ≡ new .list
+  pub room : cells (shapeOf (x .header)) ≤ length (x .image)
+
+pub data Surveyed (x : InHand) : Type 0 where
+  by-walk : ByWalk x → Surveyed x
+  by-read : ByRead x → Surveyed x
+
+abbrev pub caseOf : InHand → MaskInForce → Chain → Case
+caseOf x f c = record {
+  blob = x .blob;
+  reuse = x .reuse;
+  kept = x .kept;
+  header = x .header;
+  means = f;
+  chain = c;
+  ranges = x .ranges;
+  mask = x .mask;
+  list = x .list;
+  image = x .image;
+}
+
+-- what such calls tell: a meaning in blocks, with the count and the end that they answered
+pub record Found (x : InHand) : Type 0 where
+  pub means : MaskInForce
+  pub chain : Chain
+  pub opened : Opened (caseOf x means chain)
+  pub count : x .count ≡ blockCount (shapeOf (x .header))
+  pub end : x .end ≡ chain .end
+
+-- After fills by any list of numbers: what each answered, and every cell, by an image that a whole read from the same start left. All that is named here a caller has in hand.
+pub record AnyOrder (x : InHand) (ns : List ℕ) (said : List FillAnswer) (new : List ℕ) : Type 0 where
+  -- at every place of the list, a number below the count is filled and the answer is its tile's valid pixels; each other is refused 11
+  pub answers : said ≡ map (answerTo (shapeOf (x .header)) (x .mask)) ns
+  -- "each valid cell of a filled block holds its Lerc2 word and every other cell is as at the start"
+  pub long : length new ≡ length (x .image)
+  pub cells : (left : Lent) → ReadAlike (x .blob) (x .reuse) (x .kept) (x .header) (x .image) left → (c : ℕ) → c < length (x .image)
+      → getD new c 0 ≡ cond (isValidCell (shapeOf (x .header)) (x .mask) c && among ns (blockOf (shapeOf (x .header)) c)) (getD (left .image) c 0) (getD (x .image) c 0)
+  -- "every order that names each block ends in the whole read's image"
+  pub complete : ((n : ℕ) → n < x .count → among ns n ≡ true) → (left : Lent) → ReadAlike (x .blob) (x .reuse) (x .kept) (x .header) (x .image) left → new ≡ left .image
+
 pub record DemandThree : Type 0 where
+  -- calls of read header, prepare mask, mask in force, read ranges and walk open a blob for fills
+  pub opened-by-walk : (x : InHand) → ByWalk x → Found x
+  -- and so does a whole read, with the list and the mask as it left them
+  pub opened-by-read : (x : InHand) → ByRead x → Found x
+  -- "Fills in any order", of calls alone
+  pub any-order : (x : InHand) → Surveyed x → (ns : List ℕ) (said : List FillAnswer) (new : List ℕ) → FillCalls (x .blob) (x .header) (x .ranges) (x .mask) (x .list) ns said (x .image) new
+      → AnyOrder x ns said new
   -- what is handed back after preparing is the mask in force
   pub mask-handed : (b : List ℕ) (h : Header) (reuse : Bool) (kept spare new m : List ℕ) (f : MaskInForce) (said : MaskAnswer)
       → PrepareCall b h reuse kept said spare new → HandedCall kept new said m → prepareSays b h reuse kept (length spare) ≡ ok f → m ≡ bytesOf f
@@ -93,18 +197,22 @@ pub record DemandThree : Type 0 where
   -- a number at or above the count is refused 11, and leaves the image
   pub fill-refuses : (x : Case) → Opened x → (n : ℕ) (said : FillAnswer) (new : List ℕ) → CaseFill x n said (x .image) new → blocksOf x ≤ n
       → (said ≡ fill-answer.Refused (refuse 11)) × (new ≡ x .image)
+  -- the words reported are as many as the cells that the block may write
+  pub fill-reports : (x : Case) → Opened x → (n : ℕ) → n < blocksOf x → validInTile (shape x) (inMask x) (tileOf (shape x) n) ≡ count (cells (shape x)) (inBlock (shape x) (inMask x) n)
+  -- at every place of a list of numbers the answer is that of its number
+  pub fills-answer : (x : Case) → Opened x → (ns : List ℕ) (said : List FillAnswer) (new : List ℕ) → CaseFills x ns said new → said ≡ map (answerTo (shape x) (inMask x)) ns
   -- after any list of numbers the image has its length, and a cell holds its Lerc2 word if it is valid and its block is named; else it is as at the start
-  pub fills-long : (x : Case) → Opened x → (ns new : List ℕ) → CaseFills x ns new → length new ≡ length (x .image)
-  pub fills-exact : (x : Case) → Opened x → (ns new : List ℕ) → CaseFills x ns new → (c : ℕ) → c < length (x .image)
+  pub fills-long : (x : Case) → Opened x → (ns : List ℕ) (said : List FillAnswer) (new : List ℕ) → CaseFills x ns said new → length new ≡ length (x .image)
+  pub fills-exact : (x : Case) → Opened x → (ns : List ℕ) (said : List FillAnswer) (new : List ℕ) → CaseFills x ns said new → (c : ℕ) → c < length (x .image)
       → getD new c 0 ≡ cond (isValidCell (shape x) (inMask x) c && among ns (blockOf (shape x) c)) (cellWord (x .header) (inMask x) (blocks (x .chain)) c) (getD (x .image) c 0)
   -- order and repeats do not matter: only which numbers below the count are named
-  pub fills-order : (x : Case) → Opened x → (ns ms new other : List ℕ) → CaseFills x ns new → CaseFills x ms other → ((n : ℕ) → n < blocksOf x → among ns n ≡ among ms n) → new ≡ other
+  pub fills-order : (x : Case) → Opened x → (ns ms : List ℕ) (said told : List FillAnswer) (new other : List ℕ) → CaseFills x ns said new → CaseFills x ms told other → ((n : ℕ) → n < blocksOf x → among ns n ≡ among ms n) → new ≡ other
   -- one call with a list of numbers is as many calls: as many of them are filled as are below the count, and the image is the same
-  pub fills-each : (x : Case) → Opened x → (ns new : List ℕ) → CaseFills x ns new → (other : List ℕ) (filled : ℕ) → EachCall (x .blob) (x .header) (x .ranges) (x .mask) (x .list) ns filled (x .image) other
+  pub fills-each : (x : Case) → Opened x → (ns : List ℕ) (said : List FillAnswer) (new : List ℕ) → CaseFills x ns said new → (other : List ℕ) (filled : ℕ) → EachCall (x .blob) (x .header) (x .ranges) (x .mask) (x .list) ns filled (x .image) other
       → (filled ≡ below (blocksOf x) ns) × (other ≡ new)
   -- every number named: the image is that of a whole read from the same start
-  pub fills-complete : (x : Case) → Opened x → (ns new : List ℕ) → CaseFills x ns new → ((n : ℕ) → n < blocksOf x → among ns n ≡ true)
-      → (said : ReadAnswer) (l left : Lent) → ReadCall (x .blob) (x .reuse) said l left → room (x .header) l ≡ true → l .kept ≡ x .kept → l .image ≡ x .image → new ≡ left .image
+  pub fills-complete : (x : Case) → Opened x → (ns : List ℕ) (said : List FillAnswer) (new : List ℕ) → CaseFills x ns said new → ((n : ℕ) → n < blocksOf x → among ns n ≡ true)
+      → (left : Lent) → CaseRead x left → new ≡ left .image
   -- all blocks at once, from the first start on: the count and the end, the starts, each valid cell's word; every other cell is as it was
   pub tiles-exact : (x : Case) → Opened x → (said : WalkAnswer) (list image : List ℕ)
       → TilesCall (x .blob) (x .header) (x .mask) (x .ranges .max) (getD (x .list) 0 0) said (x .list) list (x .image) image

@@ -24,6 +24,7 @@ use Rattle.lerc_validity.specs.declared.MaskAnswer.{MaskAnswer}
 use Rattle.lerc_validity.specs.Validity.{MaskInForce, bytesOf, maskSays, spareWith}
 use Rattle.lerc_image.specs.declared.WalkAnswer.{WalkAnswer}
 use Rattle.lerc_image.specs.declared.WalkAnswer.the-variants as walk-answer
+use Rattle.lerc_image.specs.declared.FillAnswer.{FillAnswer}
 use Rattle.lerc_image.specs.Geometry.{tileSize, tileOf, tileHere, cellOf, blockOf, placeIn, rank, isValidCell, positionOf, nextOf}
 use Rattle.lerc_image.specs.Blocks.{Chain}
 use Rattle.lerc.specs.declared.ReadAnswer.{ReadAnswer}
@@ -33,6 +34,7 @@ use Rattle.lerc.specs.Read.{Lent, room, readSaid}
 use Rattle.lerc.proofs.read.Reads as read
 use Rattle.lerc_theorems.specs.Promises.{lent}
 use Rattle.lerc_theorems.specs.Calls.{HeaderCall, PrepareCall, HandedCall, RangesCall, ReadRanges, WalkCall, FillCalls, ReadCall}
+use Rattle.lerc_theorems.specs.Unread.{Unread}
 
 -- the slices have the room that an accepted header asks for
 abbrev pub Roomy : List ℕ → Lent → Type 0
@@ -61,8 +63,8 @@ pub record WalkAndFills (b : List ℕ) (reuse : Bool) (old new : Lent) (h : Head
   pub ranges : (said : RangesRead) → RangesCall b h said → said .answer ≡ ranges-answer.Read
   pub walk : (r : Ranges) → ReadRanges b h r → (said : WalkAnswer) (list : List ℕ) → WalkCall b h r (bytesOf f) said (old .list) list
       → (said ≡ walk-answer.Walked (blockCount (shapeOf h)) (c .end)) × (list ≡ new .list)
-  pub fills : (r : Ranges) → ReadRanges b h r → (image : List ℕ)
-      → FillCalls b h r (bytesOf f) (new .list) (tabulate (blockCount (shapeOf h)) (λ n. n)) (old .image) image → image ≡ new .image
+  pub fills : (r : Ranges) → ReadRanges b h r → (answers : List FillAnswer) (image : List ℕ)
+      → FillCalls b h r (bytesOf f) (new .list) (tabulate (blockCount (shapeOf h)) (λ n. n)) answers (old .image) image → image ≡ new .image
 
 -- what accepted calls of read header, prepare mask, mask in force, read ranges and walk tell: a meaning in blocks. m is the mask handed back, n and end the walk's answer.
 pub record WalkMeans (b : List ℕ) (reuse : Bool) (kept : List ℕ) (h : Header) (m : List ℕ) (n end : ℕ) (old new : List ℕ) : Type 0 where
@@ -101,6 +103,10 @@ pub record DemandTwo : Type 0 where
   -- the meaning, or its refusal, depends on the bytes below the declared size alone
   pub below-size : (b c : List ℕ) (reuse : Bool) (kept : List ℕ) (n : ℕ) → headerBytes ≤ n → headerOf b .size ≤ n → take n b ≡ take n c
       → meaning b reuse kept ≡ meaning c reuse kept
+  -- and so do the outcomes of each operation; what walk and fill accept depends on the blocks' own bytes alone
+  pub unread : Unread
+  -- without reuse it does not depend on the kept mask
+  pub kept-unread : (b kept other : List ℕ) → meaning b false kept ≡ meaning b false other
   -- nor are bytes between the body's end and the size looked at: a slice that is long enough and agrees below the end has the same meaning
   pub behind-end : (b c : List ℕ) (reuse : Bool) (kept : List ℕ) (m : Meaning) → meaning b reuse kept ≡ ok m → take (endOf (m .body)) b ≡ take (endOf (m .body)) c → m .header .size ≤ length c
       → meaning c reuse kept ≡ ok m

@@ -2,6 +2,7 @@ pub mod Cases
 pub mod Witness
 pub mod Promises
 pub mod Calls
+pub mod Unread
 pub mod Refusals
 pub mod InC
 pub mod Writes

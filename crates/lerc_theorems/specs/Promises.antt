@@ -4,7 +4,8 @@
 use mathlib.Core.Path.{_≡_}
 use mathlib.Core.Bool.{Bool}
 use mathlib.Core.List.{List}
-use Prim.Native.Nat.{ℕ}
+use Prim.Native.Nat.{ℕ, _≤_}
+use lib.ListN.{length, take}
 use denote.Ref.{RefT}
 use Rattle.lerc_words.proofs.WordAnswer.refusal.Reads as word-refusal
 use Rattle.lerc_words.proofs.peek.Reads as peek
@@ -55,6 +56,7 @@ use Rattle.lerc_ranges.proofs.PairsAnswer.refusal.Reads as pairs-refusal
 use Rattle.lerc_ranges.proofs.ConstantsAnswer.refusal.Reads as constants-refusal
 use Rattle.lerc_validity.proofs.prepare_mask.Reads as prepare-mask
 use Rattle.lerc_validity.proofs.find_mask.Reads as find-mask
+use Rattle.lerc_validity.specs.declared.MaskAnswer.the-variants as mask
 use Rattle.lerc_validity.proofs.mask_in_force.Reads as mask-in-force
 use Rattle.lerc_ranges.proofs.pairs.Reads as pairs
 use Rattle.lerc_ranges.proofs.ranges_in.Reads as ranges-in
@@ -110,6 +112,11 @@ Answers Pre Post = Fixed {S = Unit {0}} Pre Post (λ r. r) (λ o. tt)
 -- a function that writes to slices
 abbrev pub Writes : {K A R O S : Type 0} → (K → A → Type 0) → (K → A → R → O → Type 0) → (O → S) → Type 0
 Writes Pre Post left = Fixed Pre Post (λ r. r) left
+
+-- "handed back as a part of the kept mask (reuse) or of the spare (otherwise)": which, and how long
+pub record HandedBack : Type 0 where
+  pub kept : (k : _) (a : _) (r : _) (x : _) (n : ℕ) → mask-in-force.Post k a r x → a .1 .1 .0 ≡ mask.Kept n → n ≤ length (a .0 .now) → (r .ptr ≡ a .0 .ptr) × (r .now ≡ take n (a .0 .now))
+  pub spare : (k : _) (a : _) (r : _) (x : _) (n : ℕ) → mask-in-force.Post k a r x → a .1 .1 .0 ≡ mask.Spare n → n ≤ length (a .1 .0 .now) → (r .ptr ≡ a .1 .0 .ptr) × (r .now ≡ take n (a .1 .0 .now))
 
 -- the slices that a whole read is lent, among its inputs or its outputs
 abbrev pub Read : Type 0
@@ -177,7 +184,8 @@ pub record NoRoom : Type 0 where
   pub constants-refusal : Answers constants-refusal.Pre constants-refusal.Post
   pub prepare-mask : Writes prepare-mask.Pre prepare-mask.Post (λ o. o .1 .1 .1 .1 .0 .now)
   pub find-mask : Writes find-mask.Pre find-mask.Post (λ o. o .1 .1 .1 .1 .0 .now)
-  pub mask-in-force : Fixed {S = Unit {0}} mask-in-force.Pre mask-in-force.Post (λ r. r .now) (λ o. tt)
+  -- a part of a slice: what it holds, and where it stands
+  pub mask-in-force : Fixed {B = List ℕ × (ℕ × ℕ)} {S = Unit {0}} mask-in-force.Pre mask-in-force.Post (λ r. (r .now, r .ptr)) (λ o. tt)
   pub pairs : Answers pairs.Pre pairs.Post
   pub ranges-in : Answers ranges-in.Pre ranges-in.Post
   pub read-ranges : Answers read-ranges.Pre read-ranges.Post

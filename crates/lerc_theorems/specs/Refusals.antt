@@ -3,7 +3,7 @@
 -- Assumes nothing.
 use mathlib.Core.Path.{_≡_}
 use mathlib.Core.Bool.{Bool, true}
-use mathlib.Core.List.{List, []}
+use mathlib.Core.List.{List, [], _∷_, _++_}
 use Prim.Native.Nat.{ℕ}
 use lib.ListN.{length, take, replicate}
 use Rattle.lerc_words.specs.declared.Refusal.{Refusal}
@@ -19,6 +19,7 @@ use Rattle.lerc_header.specs.Shape.{maskLength}
 use Rattle.lerc_mask.specs.declared.RunsAnswer.the-variants as runs
 use Rattle.lerc_mask.proofs.decode.Reads as decode-mask
 use Rattle.lerc_validity.specs.declared.MaskAnswer.the-variants as mask
+use Rattle.lerc_ranges.specs.declared.Ranges.{Ranges}
 use Rattle.lerc_ranges.specs.declared.RangesAnswer.the-variants as ranges
 use Rattle.lerc_ranges.specs.declared.ConstantsAnswer.the-variants as constants
 use Rattle.lerc_validity.specs.Validity.{new, maskSays}
@@ -36,7 +37,9 @@ use Rattle.lerc_image.specs.declared.FillAnswer.the-variants as filled
 use Rattle.lerc_image.proofs.walk.Reads as walk
 use Rattle.lerc_image.proofs.fill.Reads as fill
 use Rattle.lerc_image.proofs.decode_tiles.Reads as decode-tiles
+use Rattle.lerc_fills.proofs.fill_each.Reads as each
 use Rattle.lerc.specs.Read.{Lent, room}
+use Rattle.lerc_theorems.specs.Calls.{FillCall, EachCall}
 
 -- a promise by which a refusal leaves what was lent: `before` of the inputs is `left` of the outputs
 abbrev pub RefusalKeeps : {K A R O S : Type 0} → (K → A → R → O → Type 0) → (Refusal → R) → (A → S) → (O → S) → Type 0
@@ -52,6 +55,11 @@ pub record RefusalsKeep : Type 0 where
   pub read-block : RefusalKeeps read-block.Post block.Refused (λ a. a .1 .1 .1 .1 .1 .1 .1 .0 .now) (λ o. o .1 .1 .1 .1 .1 .1 .1 .0 .now)
   pub walk : RefusalKeeps walk.Post walked.Refused (λ a. a .1 .1 .1 .1 .0 .now) (λ o. o .1 .1 .1 .1 .0 .now)
   pub fill : RefusalKeeps fill.Post filled.Refused (λ a. a .1 .1 .1 .1 .1 .1 .0 .now) (λ o. o .1 .1 .1 .1 .1 .1 .0 .now)
+  -- of a list of fills a refused number, wherever it stands in the list, is as good as left out
+  pub fill-each : (b : List ℕ) (h : Header) (r : Ranges) (m list ms : List ℕ) (n : ℕ) (ns : List ℕ) (why : Refusal) (image any : List ℕ) → FillCall b h r m list n (filled.Refused why) image any
+      → (said told : ℕ) (new other : List ℕ) → EachCall b h r m list (ms ++ n ∷ ns) said image new → EachCall b h r m list (ms ++ ns) told image other → (said ≡ told) × (new ≡ other)
+  -- and where none was filled, the image is as it was
+  pub none-filled : (k : _) (a : _) (x : _) → each.Post k a 0 x → x .1 .1 .1 .1 .1 .1 .0 .now ≡ a .1 .1 .1 .1 .1 .1 .0 .now
   -- the list, and the image
   pub tiles-list : RefusalKeeps decode-tiles.Post walked.Refused (λ a. a .1 .1 .1 .1 .1 .0 .now) (λ o. o .1 .1 .1 .1 .1 .0 .now)
   pub tiles-image : RefusalKeeps decode-tiles.Post walked.Refused (λ a. a .1 .1 .1 .1 .1 .1 .0 .now) (λ o. o .1 .1 .1 .1 .1 .1 .0 .now)

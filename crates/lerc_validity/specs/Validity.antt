@@ -102,3 +102,9 @@ unfoldable pub inForce : MaskAnswer → List ℕ → List ℕ → List ℕ
 inForce (Kept n) old spare = firstOf n old
 inForce (Spare n) old spare = firstOf n spare
 inForce (Refused r) old spare = []
+
+-- the place of the slice that it is the front of; nothing, after a refusal, stands at the kept mask's
+abbrev pub standsIn : {P : Type 0} → MaskAnswer → P → P → P
+standsIn (Kept n) old spare = old
+standsIn (Spare n) old spare = spare
+standsIn (Refused r) old spare = old

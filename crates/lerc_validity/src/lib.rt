@@ -135,14 +135,14 @@ pub fn prepare_mask(
 
 // the first n bytes, or nothing where there are fewer
 fn first_of<'a>(s: &'a [u8], n: usize) -> &'a [u8]
-    ensures { λ r. ⌜ now r ≡ Mask.firstOf n (now (s .entry)) ⌝ }
+    ensures { λ r. ⌜ (now r ≡ Mask.firstOf n (now (s .entry))) × (r .ptr ≡ s .entry .ptr) ⌝ }
 {
     if n <= s.len() { &s[..n] } else { &s[..0] }
 }
 
-// The mask that `prepare_mask` said: a part of one of the two slices; after a refusal nothing.
+// The mask that `prepare_mask` said: the front of one of the two slices, and which; after a refusal nothing.
 pub fn mask_in_force<'a>(kept: &'a [u8], spare: &'a [u8], said: MaskAnswer) -> &'a [u8]
-    ensures { λ r. ⌜ now r ≡ Mask.inForce said (now (kept .entry)) (now (spare .entry)) ⌝ }
+    ensures { λ r. ⌜ (now r ≡ Mask.inForce said (now (kept .entry)) (now (spare .entry))) × (r .ptr ≡ Mask.standsIn said (kept .entry .ptr) (spare .entry .ptr)) ⌝ }
 {
     match said {
         MaskAnswer::Kept(n) => first_of(kept, n),

@@ -6,19 +6,19 @@ use Rattle.lerc.proofs.read_behind.Statement.{statement}
 use Rattle.lerc.proofs.read_behind.Tie as tie
 
 check-body-requires : tie.Need-check-body-requires
-check-body-requires c κs = rw (c .mask-in-force .ensures) (c .before .before .before .before .before .before .before .pre .ready)
+check-body-requires c κs = rw (c .mask-in-force .ensures .0) (c .before .before .before .before .before .before .before .pre .ready)
 
 returns : tie.Need-returns
 returns c =
     let told = c .enum-told .given .1 in
-    let t = rw (c .before .before .before .before .mask-in-force .ensures) at (c .before .before .before .check-body .ensures) in
+    let t = rw (c .before .before .before .before .mask-in-force .ensures .0) at (c .before .before .before .check-body .ensures) in
     rw (told) (kept-no (body-no (checked-no t (sym (c .before .before .answer .ensures) ∙ told))))
 
 write-body-requires : tie.Need-write-body-requires
 write-body-requires c κs =
     let m = c .before .before .before .before .before .before .before in
     let s = m .before .before .before .before .before .before .before in
-    (to-write (c .before .before .before .before .before .before .check-body .ensures) (sym (c .before .before .before .before .before .answer .ensures) ∙ c .before .before .before .answer2 .given .1) (rw (m .mask-in-force .ensures) (s .pre .ready)), s .pre .blocks, s .pre .room)
+    (to-write (c .before .before .before .before .before .before .check-body .ensures) (sym (c .before .before .before .before .before .answer .ensures) ∙ c .before .before .before .answer2 .given .1) (rw (m .mask-in-force .ensures .0) (s .pre .ready)), s .pre .blocks, s .pre .room)
 
 keep-requires : tie.Need-keep-requires
 keep-requires c κs =
@@ -32,7 +32,7 @@ returns-2 c =
     let k = w .before .before .before .before .before .before .before .before in
     let e = sym (w .before .before .before .before .before .before .answer .ensures) ∙ w .before .before .before .before .answer2 .given .1 in
     let b = body-written (w .before .before .before .before .before .before .before .check-body .ensures) e (w .write-body .ensures) in
-    kept-yes (rw (k .mask-in-force .ensures) at b) (c .before .before .keep .ensures)
+    kept-yes (rw (k .mask-in-force .ensures .0) at b) (c .before .before .keep .ensures)
 
 pub read-behind-spec : {M : Type 1} → statement M
 read-behind-spec =

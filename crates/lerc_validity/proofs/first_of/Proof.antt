@@ -1,3 +1,4 @@
+use mathlib.Core.Path.{refl}
 use denote.Ref.{now}
 use lib.ListN.{length, length-take}
 use borrow.Author.Needs.{needs}
@@ -10,10 +11,10 @@ slice-aggregate-result : tie.Need-slice-aggregate-result
 slice-aggregate-result c = simp length-take (omega arith)
 
 returns : tie.Need-returns
-returns c = let a = c .before .before .args in rw (le-leb (a .n) (length (now (a .s))) (omega arith))
+returns c = (let a = c .before .before .args in rw (le-leb (a .n) (length (now (a .s))) (omega arith)), refl)
 
 returns-2 : tie.Need-returns-2
-returns-2 c = let a = c .before .before .args in rw (lt-leb (a .n) (length (now (a .s))) (omega arith))
+returns-2 c = (let a = c .before .before .args in rw (lt-leb (a .n) (length (now (a .s))) (omega arith)), refl)
 
 pub first-of-spec : {M : Type 1} → statement M
 first-of-spec =

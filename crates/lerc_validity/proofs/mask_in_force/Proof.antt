@@ -1,4 +1,5 @@
 use borrow.Author.Needs.{needs}
+use mathlib.Core.Path.{refl}
 use Rattle.lerc_validity.specs.Validity.{inForce}
 use Rattle.lerc_validity.proofs.mask_in_force.Statement.{statement}
 use Rattle.lerc_validity.proofs.mask_in_force.Tie as tie
@@ -13,7 +14,7 @@ returns-2 c = rw (c .before .before .said2 .given .1) (c .first-of2 .ensures)
 
 returns-3 : tie.Need-returns-3
 unfolding inForce
-returns-3 c = rw (c .before .before .said3 .given .1)
+returns-3 c = rw (c .before .before .said3 .given .1) (refl, refl)
 
 pub mask-in-force-spec : {M : Type 1} → statement M
 mask-in-force-spec =

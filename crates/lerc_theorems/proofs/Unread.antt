@@ -1,0 +1,246 @@
+-- What is not looked at, proved.
+-- Assumes nothing.
+use mathlib.Core.Path.{_≡_, _∙_, sym, ap, refl}
+use mathlib.Core.Bool.{Bool}
+use mathlib.Core.List.{List, [], _∷_}
+use Prim.Native.Nat.{ℕ, _+_, _≤_, _<_, min}
+use native.Mathlib.Decide.{decLe}
+use native.Mathlib.Omega.{arith}
+use lib.ListN.{length, getD, take, length-take}
+use lib.Seq.{getD-take}
+use lib.Dec.{leb}
+use borrow.Author.Tests.{le-leb, lt-leb}
+use Rattle.lerc_words.specs.declared.Refusal.{Refusal}
+use Rattle.lerc_words.specs.Res.{Res, ok, fail, _>>=_, require, after}
+use Rattle.lerc_words.specs.Lists.{over}
+use Rattle.lerc_words.proofs.Binding.{bind-is, bind-counts, ok-is}
+use Rattle.lerc_header.specs.declared.Header.{Header}
+use Rattle.lerc_header.specs.Header.{shapeOf, headerOf, headerSays, held, extentOf}
+use Rattle.lerc_header.specs.Shape.{blockCount}
+use Rattle.lerc_header.proofs.Kept.{header-held, held-is, held-size}
+use Rattle.lerc_ranges.specs.declared.Ranges.{Ranges}
+use Rattle.lerc_ranges.specs.Ranges.{readRangesSays, rangesSaid}
+use Rattle.lerc_validity.specs.Validity.{MaskInForce, maskSays, prepareSays, spareWith, which}
+use Rattle.lerc_block.specs.Block.{Block}
+use Rattle.lerc_sweep.specs.Sweep.{blocksFrom}
+use Rattle.lerc_image.specs.declared.WalkAnswer.{WalkAnswer}
+use Rattle.lerc_image.specs.declared.WalkAnswer.the-variants as walk-answer
+use Rattle.lerc_image.specs.declared.FillAnswer.{FillAnswer}
+use Rattle.lerc_image.specs.declared.FillAnswer.the-variants as fill-answer
+use Rattle.lerc_image.specs.Blocks.{Chain, blockAt}
+use Rattle.lerc_image.specs.Paint.{scattered}
+use Rattle.lerc_image.specs.Walk.{Walk, walkSays, walkCount, walkList}
+use Rattle.lerc_image.specs.Fill.{fillSays, fillCount, fillImage}
+use Rattle.lerc_image.specs.Tiles.{tilesSays, tilesImage}
+use Rattle.lerc_fills.specs.Each.{filledOf, fillEach}
+use Rattle.lerc.specs.Meaning.{Meaning, meaningFrom}
+use Rattle.lerc.specs.Read.{Lent, room, Masked, masked, readSays, readCount}
+use Rattle.lerc_theorems.specs.Calls.{WalkCall, FillCall}
+use Rattle.lerc_theorems.specs.Unread.{declared, SameDeclared, SameBelow, SameWithin, Unread}
+use Rattle.lerc_theorems.proofs.SameAnswers.{header-same, mask-same, walk-same, fill-same, read-same}
+use Rattle.lerc_theorems.proofs.Calls.{header-call, prepare-call, ranges-call, walk-call, fill-call, each-call, tiles-call, read-call}
+use Rattle.lerc_theorems.proofs.Bodies.{swept-in, block-in, chain-in}
+use Rattle.lerc_theorems.proofs.Front.{Agree, at-agrees, chain-agrees, sweep-agrees}
+use Rattle.lerc_theorems.proofs.Meanings.{held-any, part-same, header-alike}
+use Rattle.lerc_theorems.proofs.Refusals.{masked-is}
+use Rattle.lerc_theorems.proofs.Fills.{Walking, walk-is, walking-says}
+
+-- ---- a blob with its header
+
+module _ (b c : List ℕ) (same : SameDeclared b c) where
+  header-as : headerSays b ≡ headerSays c
+  header-as = header-alike b c (declared b) (omega arith) same (omega arith)
+
+  -- an accepted header has the declared size
+  below-as : {h : Header} → headerSays b ≡ ok h → SameBelow h b c
+  below-as {h} e = let z : h ≡ headerOf b = header-held b h e .0 in part-same b c (declared b) (omega arith) same (h .size) (rw (z) (omega arith))
+
+  module _ (reuse : Bool) (l : Lent) where
+    abbrev behind : List ℕ → Header → Res Masked
+    behind s h = require (room h l) 5 >>= λ _. maskSays (take (h .size) s) h reuse (l .kept) >>= λ m. ok (record { header = h; mask = m })
+
+    masked-as : masked b reuse l ≡ masked c reuse l
+    unfolding masked
+    masked-as = rw (← header-as) (go (headerSays b) refl)
+      where
+        go : (x : Res Header) → headerSays b ≡ x → (x >>= behind b) ≡ (x >>= behind c)
+        go (ok h) e = rw (below-as e)
+        go (fail r) e = refl
+
+    read-as : readSays b reuse l ≡ readSays c reuse l
+    unfolding readSays meaningFrom
+    read-as = rw (← masked-as) (go (masked b reuse l) refl)
+      where
+        go : (x : Res Masked) → masked b reuse l ≡ x → (x >>= λ (m : Masked). meaningFrom b (m .header) (m .mask)) ≡ (x >>= λ (m : Masked). meaningFrom c (m .header) (m .mask))
+        go (ok m) e = rw (below-as (masked-is b reuse l m e .header))
+        go (fail r) e = refl
+
+-- ---- a blob with a header by value
+
+module _ (b c : List ℕ) (h : Header) (same : SameBelow h b c) where
+  held-as : held h (length b) ≡ held h (length c)
+  unfolding held
+  held-as =
+      let long : min (h .size) (length b) ≡ min (h .size) (length c) = sym (length-take (h .size) b) ∙ ap length same ∙ length-take (h .size) c in
+      rw (go (decLe (h .size) (length b)) long)
+    where
+      go : Dec (h .size ≤ length b) → min (h .size) (length b) ≡ min (h .size) (length c) → leb (h .size) (length b) ≡ leb (h .size) (length c)
+      go (yes l) e = rw (le-leb _ _ l, le-leb (h .size) (length c) (omega arith))
+      go (no l) e = rw (lt-leb (h .size) (length b) (omega arith), lt-leb (h .size) (length c) (omega arith))
+
+  prepare-as : (reuse : Bool) (kept : List ℕ) (room : ℕ) → prepareSays b h reuse kept room ≡ prepareSays c h reuse kept room
+  unfolding prepareSays
+  prepare-as reuse kept room = rw (held-as, same)
+
+  ranges-as : readRangesSays b h ≡ readRangesSays c h
+  unfolding readRangesSays
+  ranges-as = rw (held-as, same)
+
+  walk-as : (r : Ranges) (m : List ℕ) (room : ℕ) → walkSays b h r m room ≡ walkSays c h r m room
+  unfolding walkSays
+  walk-as r m room = rw (held-as, same)
+
+  list-as : (r : Ranges) (m list : List ℕ) → walkList b h r m list ≡ walkList c h r m list
+  unfolding walkList
+  list-as r m list = rw (walk-as r m (length list))
+
+  fill-as : (r : Ranges) (m list : List ℕ) (n room : ℕ) → fillSays b h r m list n room ≡ fillSays c h r m list n room
+  unfolding fillSays
+  fill-as r m list n room = rw (held-as, same)
+
+  image-as : (r : Ranges) (m list : List ℕ) (n : ℕ) (image : List ℕ) → fillImage b h r m list n image ≡ fillImage c h r m list n image
+  unfolding fillImage
+  image-as r m list n image = rw (fill-as r m list n (length image))
+
+  each-as : (r : Ranges) (m list ns image : List ℕ) → fillEach b h r m list ns image ≡ fillEach c h r m list ns image
+  unfolding fillEach
+  each-as r m list [] image = refl
+  each-as r m list (n ∷ ns) image = each-as r m list ns (fillImage b h r m list n image) ∙ ap (fillEach c h r m list ns) (image-as r m list n image)
+
+  count-as : (r : Ranges) (m list : List ℕ) (room : ℕ) (ns : List ℕ) → filledOf b h r m list room ns ≡ filledOf c h r m list room ns
+  unfolding filledOf
+  count-as r m list room [] = refl
+  count-as r m list room (n ∷ ns) = rw (fill-as r m list n room, count-as r m list room ns)
+
+  tiles-as : (m maxima : List ℕ) (at entries room : ℕ) → tilesSays b h m maxima at entries room ≡ tilesSays c h m maxima at entries room
+  unfolding tilesSays
+  tiles-as m maxima at entries room = rw (held-as, same)
+
+-- ---- the blocks' own bytes
+
+module _ (b c : List ℕ) (h : Header) (long : h .size ≤ length c) (held-b : held h (length b) ≡ ok (extentOf h)) where
+  long-b : h .size ≤ length b
+  long-b = held-size h (length b) held-b .1
+
+  held-c : held h (length c) ≡ ok (extentOf h)
+  held-c = sym (held-any h (length b) (length c) long-b long) ∙ held-b
+
+  size-b : length (take (h .size) b) ≡ h .size
+  size-b = length-take (h .size) b ∙ (let z : min (h .size) (length b) ≡ h .size = omega (arith, long-b) in z)
+
+  agree : (from to : ℕ) → to ≤ h .size → SameWithin from to b c → Agree (take (h .size) b) (take (h .size) c) from to
+  agree from to l same = record {
+    bytes = λ i o k. let z : i < h .size = omega arith in getD-take (h .size) b i 0 z ∙ same i o k ∙ sym (getD-take (h .size) c i 0 z);
+    room = rw (length-take (h .size) c) (omega (arith, long));
+  }
+
+module _ (b c : List ℕ) (h : Header) (r : Ranges) (m : List ℕ) (entries : ℕ) (k : Chain) (w : Walking b h r m entries k) (long : h .size ≤ length c) (same : SameWithin (r .at) (k .end) b c) where
+  abbrev s : List ℕ
+  s = take (h .size) b
+
+  -- the body's place, where its blocks begin, and its end
+  inside : (r .at ≤ w .from) × (w .from ≤ k .end) × (k .end ≤ h .size)
+  inside =
+      let p = swept-in s (h .kind) (h .error) (r .at) (blocksFrom (w .from)) (w .sweep) in
+      let q = chain-in s h (r .max) m (blockCount (shapeOf h)) 0 (w .from) k (p .1) (w .blocks) in
+      let z = size-b b c h long (w .kept) in
+      (omega (arith, p .0), q .0, omega (arith, q .1, z))
+
+  walk-other : walkSays c h r m entries ≡ ok k
+  walk-other =
+      let a = agree b c h long (w .kept) (r .at) (k .end) (inside .2) same in
+      walking-says c h r m entries k
+      (record {
+        kept = held-c b c h long (w .kept);
+        mask = w .mask;
+        list = w .list;
+        pairs = w .pairs;
+        some = w .some;
+        coded = w .coded;
+        from = w .from;
+        sweep = sweep-agrees a (h .kind) (h .error) (r .at) (blocksFrom (w .from)) (omega arith) (inside .1) (w .sweep);
+        blocks = chain-agrees a h (r .max) m (blockCount (shapeOf h)) 0 (w .from) k (inside .0) (omega arith) (w .blocks);
+      })
+
+walk-own : (b c : List ℕ) (h : Header) (r : Ranges) (m : List ℕ) (n end : ℕ) (told : WalkAnswer) (old new other : List ℕ) → h .size ≤ length c → SameWithin (r .at) end b c
+    → WalkCall b h r m (walk-answer.Walked n end) old new → WalkCall c h r m told old other → (told ≡ walk-answer.Walked n end) × (other ≡ new)
+unfolding walkList
+walk-own b c h r m n end told old new other long same p q =
+    let (k, e, d) = bind-counts (walkSays b h r m (length old)) _ (sym (walk-call p .says)) in
+    let z : end ≡ k .end = ap (λ (x : Walk). x .end) d in
+    let f : walkSays c h r m (length old) ≡ ok k = walk-other b c h r m (length old) k (walk-is b h r m (length old) k e) long (rw (z) at same) in (
+      walk-same told (walk-answer.Walked n end) (walk-call q .says ∙ ap (λ (x : Res Chain). x >>= walkCount h) (f ∙ sym e) ∙ sym (walk-call p .says)),
+      walk-call q .list ∙ ap (λ (x : Res Chain). after x old (λ y. over (y .starts) old)) (f ∙ sym e) ∙ sym (walk-call p .list),
+    )
+
+module _ (b c : List ℕ) (h : Header) (r : Ranges) (m list : List ℕ) (n room : ℕ) (k x : Block) (is : blockAt (take (h .size) b) h (r .max) m n (getD list n 0) ≡ ok k)
+    (long : h .size ≤ length c) (same : SameWithin (getD list n 0) (k .next) b c) where
+  fill-other : fillSays b h r m list n room ≡ ok x → fillSays c h r m list n room ≡ ok x
+  unfolding fillSays
+  fill-other e =
+      let (y, p, _) = bind-is (held h (length b)) _ e in
+      let i : y ≡ extentOf h = held-is h (length b) p in
+      let held-b : held h (length b) ≡ ok (extentOf h) = rw (i) at p in
+      let z = block-in (take (h .size) b) h (r .max) m n (getD list n 0) k is in
+      let l : k .next ≤ h .size = omega (arith, z .1, size-b b c h long held-b) in
+      let a = agree b c h long held-b (getD list n 0) (k .next) l same in
+      let f : blockAt (take (h .size) c) h (r .max) m n (getD list n 0) ≡ ok k = at-agrees a h (r .max) m n (getD list n 0) k (omega arith) (omega arith) is in
+      rw (held-c b c h long held-b, f) (rw (held-b, is) at e)
+
+fill-own : (b c : List ℕ) (h : Header) (r : Ranges) (m list : List ℕ) (n words : ℕ) (told : FillAnswer) (old new other : List ℕ) (k : Block)
+    → blockAt (take (h .size) b) h (r .max) m n (getD list n 0) ≡ ok k → h .size ≤ length c → SameWithin (getD list n 0) (k .next) b c
+    → FillCall b h r m list n (fill-answer.Filled words) old new → FillCall c h r m list n told old other → (told ≡ fill-answer.Filled words) × (other ≡ new)
+unfolding fillImage
+fill-own b c h r m list n words told old new other k is long same p q =
+    let (x, e, _) = bind-counts (fillSays b h r m list n (length old)) _ (sym (fill-call p .says)) in
+    let f : fillSays c h r m list n (length old) ≡ ok x = fill-other b c h r m list n (length old) k x is long same e in (
+      fill-same told (fill-answer.Filled words) (fill-call q .says ∙ ap (λ (y : Res Block). y >>= fillCount h m n) (f ∙ sym e) ∙ sym (fill-call p .says)),
+      fill-call q .image ∙ ap (λ (y : Res Block). after y old (λ u. scattered (shapeOf h) m n (u .words) old)) (f ∙ sym e) ∙ sym (fill-call p .image),
+    )
+
+-- ---- each operation
+
+pub unread : Unread
+unread = record {
+  header = λ b c said told s p q. header-same said told (header-call p ∙ header-as b c s ∙ sym (header-call q));
+  read = λ b c reuse said told old new other s p q. (
+    read-same said told (read-call p .says ∙ ap (λ (x : Res Meaning). x >>= readCount) (read-as b c s reuse old) ∙ sym (read-call q .says)),
+    read-call p .lent ∙ rw (read-as b c s reuse old, masked-as b c s reuse old) (sym (read-call q .lent)),
+  );
+  prepare = λ b c h reuse kept said told old new other s p q.
+      let e = prepare-as b c h s reuse kept (length old) in (
+        mask-same said told (prepare-call p .says ∙ ap (λ (x : Res MaskInForce). x >>= which) e ∙ sym (prepare-call q .says)),
+        prepare-call p .spare ∙ ap (λ (x : Res MaskInForce). after x old (λ f. spareWith f old)) e ∙ sym (prepare-call q .spare),
+      );
+  ranges = λ b c h said told s p q. ranges-call p ∙ ap rangesSaid (ranges-as b c h s) ∙ sym (ranges-call q);
+  walk = λ b c h r m said told old new other s p q. (
+    walk-same said told (walk-call p .says ∙ ap (λ (x : Res Chain). x >>= walkCount h) (walk-as b c h s r m (length old)) ∙ sym (walk-call q .says)),
+    walk-call p .list ∙ list-as b c h s r m old ∙ sym (walk-call q .list),
+  );
+  fill = λ b c h r m list n said told old new other s p q. (
+    fill-same said told (fill-call p .says ∙ ap (λ (x : Res Block). x >>= fillCount h m n) (fill-as b c h s r m list n (length old)) ∙ sym (fill-call q .says)),
+    fill-call p .image ∙ image-as b c h s r m list n old ∙ sym (fill-call q .image),
+  );
+  fill-each = λ b c h r m list ns said told old new other s p q. (
+    each-call p .says ∙ count-as b c h s r m list (length old) ns ∙ sym (each-call q .says),
+    each-call p .image ∙ each-as b c h s r m list ns old ∙ sym (each-call q .image),
+  );
+  tiles = λ b c h m maxima at said told list new-list other-list image new-image other-image s p q.
+      let e = tiles-as b c h s m maxima at (length list) (length image) in (
+        walk-same said told (tiles-call p .says ∙ ap (λ (x : Res Chain). x >>= walkCount h) e ∙ sym (tiles-call q .says)),
+        tiles-call p .list ∙ ap (λ (x : Res Chain). after x list (λ y. over (y .starts) list)) e ∙ sym (tiles-call q .list),
+        tiles-call p .image ∙ ap (λ (x : Res Chain). after x image (tilesImage h m image)) e ∙ sym (tiles-call q .image),
+      );
+  walk-own = walk-own;
+  fill-own = fill-own;
+}

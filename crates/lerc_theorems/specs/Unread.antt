@@ -1,0 +1,64 @@
+-- What is not looked at: "Bytes after size, or between the body's end and size, are never looked at." Two calls on blobs that differ there alone have one outcome.
+-- Assumes nothing.
+use Prim.Native.Nat.{ℕ, _≤_, _<_, max}
+use mathlib.Core.Path.{_≡_}
+use mathlib.Core.Bool.{Bool}
+use mathlib.Core.List.{List}
+use lib.ListN.{length, getD, take}
+use Rattle.lerc_words.specs.Res.{ok}
+use Rattle.lerc_header.specs.declared.Header.{Header}
+use Rattle.lerc_header.specs.declared.HeaderAnswer.{HeaderAnswer}
+use Rattle.lerc_header.specs.Header.{headerBytes, headerOf}
+use Rattle.lerc_ranges.specs.declared.Ranges.{Ranges}
+use Rattle.lerc_ranges.specs.declared.RangesRead.{RangesRead}
+use Rattle.lerc_validity.specs.declared.MaskAnswer.{MaskAnswer}
+use Rattle.lerc_block.specs.Block.{Block}
+use Rattle.lerc_image.specs.declared.WalkAnswer.{WalkAnswer}
+use Rattle.lerc_image.specs.declared.WalkAnswer.the-variants as walk-answer
+use Rattle.lerc_image.specs.declared.FillAnswer.{FillAnswer}
+use Rattle.lerc_image.specs.declared.FillAnswer.the-variants as fill-answer
+use Rattle.lerc_image.specs.Blocks.{blockAt}
+use Rattle.lerc.specs.declared.ReadAnswer.{ReadAnswer}
+use Rattle.lerc.specs.Read.{Lent}
+use Rattle.lerc_theorems.specs.Calls.{HeaderCall, PrepareCall, RangesCall, WalkCall, FillCall, EachCall, TilesCall, ReadCall}
+
+-- the size that a blob declares, and at least its header
+abbrev pub declared : List ℕ → ℕ
+declared b = max headerBytes (headerOf b .size)
+
+-- the blobs agree below the size that the first one declares
+abbrev pub SameDeclared : List ℕ → List ℕ → Type 0
+SameDeclared b c = take (declared b) b ≡ take (declared b) c
+
+-- they agree below the size of a header by value
+abbrev pub SameBelow : Header → List ℕ → List ℕ → Type 0
+SameBelow h b c = take (h .size) b ≡ take (h .size) c
+
+-- they agree from one place up to another
+abbrev pub SameWithin : ℕ → ℕ → List ℕ → List ℕ → Type 0
+SameWithin from to b c = (i : ℕ) → from ≤ i → i < to → getD b i 0 ≡ getD c i 0
+
+pub record Unread : Type 0 where
+  -- "Bytes after size .. are never looked at", by each operation
+  pub header : (b c : List ℕ) (said told : HeaderAnswer) → SameDeclared b c → HeaderCall b said → HeaderCall c told → said ≡ told
+  pub read : (b c : List ℕ) (reuse : Bool) (said told : ReadAnswer) (old new other : Lent) → SameDeclared b c → ReadCall b reuse said old new → ReadCall c reuse told old other
+      → (said ≡ told) × (new ≡ other)
+  pub prepare : (b c : List ℕ) (h : Header) (reuse : Bool) (kept : List ℕ) (said told : MaskAnswer) (old new other : List ℕ) → SameBelow h b c
+      → PrepareCall b h reuse kept said old new → PrepareCall c h reuse kept told old other → (said ≡ told) × (new ≡ other)
+  pub ranges : (b c : List ℕ) (h : Header) (said told : RangesRead) → SameBelow h b c → RangesCall b h said → RangesCall c h told → said ≡ told
+  pub walk : (b c : List ℕ) (h : Header) (r : Ranges) (m : List ℕ) (said told : WalkAnswer) (old new other : List ℕ) → SameBelow h b c
+      → WalkCall b h r m said old new → WalkCall c h r m told old other → (said ≡ told) × (new ≡ other)
+  pub fill : (b c : List ℕ) (h : Header) (r : Ranges) (m list : List ℕ) (n : ℕ) (said told : FillAnswer) (old new other : List ℕ) → SameBelow h b c
+      → FillCall b h r m list n said old new → FillCall c h r m list n told old other → (said ≡ told) × (new ≡ other)
+  pub fill-each : (b c : List ℕ) (h : Header) (r : Ranges) (m list ns : List ℕ) (said told : ℕ) (old new other : List ℕ) → SameBelow h b c
+      → EachCall b h r m list ns said old new → EachCall c h r m list ns told old other → (said ≡ told) × (new ≡ other)
+  pub tiles : (b c : List ℕ) (h : Header) (m maxima : List ℕ) (at : ℕ) (said told : WalkAnswer) (list new-list other-list image new-image other-image : List ℕ) → SameBelow h b c
+      → TilesCall b h m maxima at said list new-list image new-image → TilesCall c h m maxima at told list other-list image other-image
+      → (said ≡ told) × (new-list ≡ other-list) × (new-image ≡ other-image)
+  -- an accepted walk looks at the bytes from the body's place up to its end alone: the sweep and mode bytes, and the blocks
+  pub walk-own : (b c : List ℕ) (h : Header) (r : Ranges) (m : List ℕ) (n end : ℕ) (told : WalkAnswer) (old new other : List ℕ) → h .size ≤ length c → SameWithin (r .at) end b c
+      → WalkCall b h r m (walk-answer.Walked n end) old new → WalkCall c h r m told old other → (told ≡ walk-answer.Walked n end) × (other ≡ new)
+  -- an accepted fill looks at the bytes of its block alone: from the listed start up to where the block ends
+  pub fill-own : (b c : List ℕ) (h : Header) (r : Ranges) (m list : List ℕ) (n words : ℕ) (told : FillAnswer) (old new other : List ℕ) (k : Block)
+      → blockAt (take (h .size) b) h (r .max) m n (getD list n 0) ≡ ok k → h .size ≤ length c → SameWithin (getD list n 0) (k .next) b c
+      → FillCall b h r m list n (fill-answer.Filled words) old new → FillCall c h r m list n told old other → (told ≡ fill-answer.Filled words) × (other ≡ new)
