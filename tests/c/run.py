@@ -3,8 +3,8 @@
 
     python3 tests/c/run.py FOLDER [EMULATOR AND ITS WORDS]      FOLDER has the programs read and blocks (target/examples)
 
-In data blob i is file 2i and what Esri's decoder gave for it file 2i + 1 (its form is in tests/fill/make.py). Ends with
-status 1 if anything differs.
+In data blob i is file 2i and what Esri's decoder gave for it file 2i + 1 (its form is in tests/fill/make.py). What data/names
+calls planted has a wrong expectation, and must differ. Ends with status 1 if anything else differs, or a planted one does not.
 """
 import glob
 import os
@@ -52,20 +52,23 @@ def fits(e, lines):
 def main():
     folder, emulator = sys.argv[1], sys.argv[2:]
     files = sorted(glob.glob(os.path.join(DATA, '[0-9][0-9][0-9]')))
-    differ = cells = 0
-    for blob, expect in zip(files[0::2], files[1::2]):
+    planted = [' planted: ' in name for name in open(os.path.join(DATA, 'names'))]
+    differ = cells = found = 0
+    for wrong, blob, expect in zip(planted, files[0::2], files[1::2]):
         e = Expected(expect)
         said = {}
         for name in ('read', 'blocks'):
             ran = subprocess.run(emulator + [os.path.join(folder, name)], stdin=open(blob, 'rb'), stdout=subprocess.PIPE, text=True)
             said[name] = ran.stdout.splitlines() if ran.returncode == 0 else []
         for name, same in (('read', said['read'] == e.read()), ('blocks', fits(e, said['blocks']))):
-            if not same:
+            if same == wrong:
                 differ += 1
-                print('%s: %s differs' % (os.path.basename(blob), name))
-        cells += e.valid * e.depth
-    print('%d blobs, %d valid cells, by read and by blocks: %d differ' % (len(files) // 2, cells, differ))
-    return 1 if differ or not files else 0
+                print('%s: %s %s' % (os.path.basename(blob), name, 'does not find what was planted' if wrong else 'differs'))
+        found += wrong
+        cells += 0 if wrong else e.valid * e.depth
+    print('%d blobs, %d valid cells, by read and by blocks: %d differ' % (len(planted) - found, cells, differ))
+    print('%d planted expectations that must differ' % found)
+    return 1 if differ or not found or len(files) != 2 * len(planted) else 0
 
 
 if __name__ == '__main__':

@@ -105,7 +105,7 @@ unpacked s p = do
   vs ← valuesOf s p
   ok (record { values = vs; next = p .next })
 
--- whether a plan keeps to its bounds in a slice of `len` bytes (what it says: Kept)
+-- whether a plan keeps to its bounds in a slice of `len` bytes (what it says: PlanKept)
 unfoldable pub keeps : ℕ → Plan → Bool
 keeps len p =
     (leb (p .n) 256 && leb (p .bits) 31 && leb (p .width) 31 && leb (p .entries) 255)

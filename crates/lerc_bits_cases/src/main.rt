@@ -1,5 +1,5 @@
 // Stored packed counts: of each record of standard input, the plan and the counts, or why they are refused.
-// A record is its size (2 bytes), the start (1 byte) and the bytes. make.py wrote them, and what is to be said of them.
+// A record is its size (2 bytes), the start (1 byte) and the bytes. tests/bits/make.py wrote them, and what is to be said of them.
 ghost use Prim.Native.Nat.{_+_, _<_, _≤_};
 ghost use lib.ListN.{length};
 use lerc_bits::CountsAnswer;
@@ -52,6 +52,15 @@ fn say_entries(out: &[u32; 256], n: usize) {
         }
     }
     say_kept(kept);
+}
+
+// planted: an entry behind the first two is not kept, and must be missing in the count
+fn say_planted() {
+    let mut out = [4000000000u32; 256];
+    out[200] = 7;
+    io::write_all(STDOUT_FILENO, b"planted");
+    say_entries(&out, 2);
+    io::write_all(STDOUT_FILENO, b"\n");
 }
 
 fn say_counts(s: &[u8], start: usize) {
@@ -114,6 +123,7 @@ fn say_all(s: &[u8]) {
 }
 
 fn main() {
+    say_planted();
     let mut input = [0u8; 65536];
     let n = io::read_full(STDIN_FILENO, &mut input);
     say_all(&input[..n]);

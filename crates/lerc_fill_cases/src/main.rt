@@ -1,7 +1,8 @@
 // Blobs in blocks that Esri's encoder (liblerc 4.0.0) wrote, or made by hand for its decoder, and the cells its decoder gave.
 // File 2i of data is blob i and file 2i + 1 its expected cells; data/names says where each came from, tests/fill/make.py its form.
 // Every block is filled in a scattered order, with repeats and refused numbers between, into an image of marked words.
-// The valid cells must then hold Esri's words, and all others the mark.
+// The valid cells must then hold Esri's words, and all others the mark. The last blobs are planted: beside each is an expectation
+// that is wrong, and the line must say so.
 ghost use Prim.Native.Nat.{_≤_, _<_};
 ghost use lib.ListN.{length};
 use lerc_header::Header;
@@ -15,7 +16,7 @@ use lerc_words::Refusal;
 use lerc_words::bytes;
 use libc::STDOUT_FILENO;
 
-const BLOBS: usize = 105;
+const BLOBS: usize = 108;
 
 const BYTES: usize = 16384;
 
@@ -154,28 +155,30 @@ fn scattered(k: usize, count: usize) -> usize
     (k * STRIDE + 7) % count
 }
 
-// The k-th number, between refused numbers and one that came before.
+// The k-th number, between one that came before and two that Esri's count of blocks is to refuse.
 fn fill_step(
     blob: &[u8],
     h: Header,
     ranges: Ranges,
     mask: &[u8],
     list: &[usize],
+    expect: &[u8],
     k: usize,
     count: usize,
     image: &mut [u64],
 ) -> Said
     requires { ⌜ (k < count) × (count ≤ 4096) ⌝ }
 {
-    let at = lerc_image::fill(blob, h, ranges, mask, list, count, &mut image[..]);
+    let past = field(expect, 32);
+    let at = lerc_image::fill(blob, h, ranges, mask, list, past, &mut image[..]);
     let number = scattered(k, count);
     let said = lerc_image::fill(blob, h, ranges, mask, list, number, &mut image[..]);
     let again = scattered(k / 2, count);
     let _same = lerc_image::fill(blob, h, ranges, mask, list, again, &mut image[..]);
-    let past = lerc_image::fill(blob, h, ranges, mask, list, count + 5, &mut image[..]);
+    let later = lerc_image::fill(blob, h, ranges, mask, list, past + 5, &mut image[..]);
     Said {
         words: words_of(said),
-        refused: is_refused(at) & is_refused(past),
+        refused: is_refused(at) & is_refused(later),
     }
 }
 
@@ -185,6 +188,7 @@ fn fill_all(
     ranges: Ranges,
     mask: &[u8],
     list: &[usize],
+    expect: &[u8],
     count: usize,
     image: &mut [u64],
 ) -> Said
@@ -194,7 +198,17 @@ fn fill_all(
     let mut refused = true;
     let mut k = 0;
     while k < count {
-        let said = fill_step(blob, h, ranges, mask, list, k, count, &mut image[..]);
+        let said = fill_step(
+            blob,
+            h,
+            ranges,
+            mask,
+            list,
+            expect,
+            k,
+            count,
+            &mut image[..],
+        );
         words = add(words, said.words);
         refused = refused & said.refused;
         k += 1;
@@ -229,7 +243,7 @@ fn fill_masked(blob: &[u8], h: Header, ranges: Ranges, mask: &[u8], expect: &[u8
         return Tally::none();
     }
     let mut image = [MARK; ROOM];
-    let said = fill_all(blob, h, ranges, mask, &list, blocks, &mut image[..]);
+    let said = fill_all(blob, h, ranges, mask, &list, expect, blocks, &mut image[..]);
     print(b" words ", said.words);
     Tally {
         blocks,
@@ -277,7 +291,7 @@ fn load(i: usize, into: &mut [u8; BYTES]) -> usize
 }
 
 fn one(i: usize) -> Tally
-    requires { ⌜ i < 105 ⌝ }
+    requires { ⌜ i < 108 ⌝ }
 {
     io::print_decimal(STDOUT_FILENO, i as u64);
     let mut blob = [0u8; BYTES];

@@ -1,6 +1,6 @@
 // Heads of blobs, header and mask section, made by Esri's encoder (liblerc 4.0.0) or by hand: data/names says which.
 // Prints for each the mask in force: reused or new, its length, how many pixels are valid, and a sum over these.
-// `stdout` has the same of the mask that Esri's decoder gives, and of those by hand what the rules give.
+// `stdout` has the same of the mask that Esri's decoder gives, and of those by hand what the rules give: tests/mask/make.py wrote it.
 ghost use Prim.Native.Nat.{_≤_};
 use lerc_header::Header;
 use lerc_header::HeaderAnswer;

@@ -1,7 +1,8 @@
 // Whole reads: blobs that Esri's encoder (liblerc 4.0.0) wrote, or made by hand for its decoder, with the cells its decoder gave,
 // and blobs that the rules refuse, with their numbers. data/names lists them; tests/read/make.py has the form of the other files.
 // Each slice is filled with its mark before the call. After it every entry is looked at: it must hold what the case says, or still
-// its mark. The line of a case has the answer, and then "same" or the first entry of each slice that differs.
+// its mark. The line of a case has the answer, and then "same" or the first entry of each slice that differs. The cases called
+// "planted" have expectations that are wrong, and their lines must say so.
 ghost use Prim.Native.Nat.{_≤_, _<_};
 ghost use lib.ListN.{length};
 use lerc::ReadAnswer;
@@ -469,5 +470,6 @@ fn main() {
     all = all.plus(file(b"rules", 41));
     all = all.plus(file(b"refused", 312));
     all = all.plus(file(b"damaged", 67));
+    all = all.plus(file(b"planted", 10));
     print_tally(b"all", all);
 }

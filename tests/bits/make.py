@@ -1,8 +1,11 @@
 #!/usr/bin/env python3
-"""Stored cases of packed counts: writes `stdin`, the records, and `stdout`, what the program must say of them.
+"""Writes the cases of lerc_bits_cases, and what the program must write for them.
+
+    python3 tests/bits/make.py            in the repository's root: writes crates/lerc_bits_cases/{stdin,stdout}
 
 A record is its size (2 bytes), the start (1 byte) and the bytes. The reader below goes bit by bit and was written from
-the paper alone. Run it in this folder; the same files come out each time.
+the rules alone; the same files come out each time. The first line is planted: it is of no record, but of an array in which an
+entry was changed, and shows that the program would see an entry that is not kept.
 """
 import random
 
@@ -163,8 +166,10 @@ for _ in range(100):                                        # anything
     data = bytes(random.randrange(256) for _ in range(random.randrange(1, 60)))
     add(bytes([data[0] & 0xBF | random.choice((0, 128))]) + bytes([random.randrange(20)]) + data[1:])
 
+PLANTED = 'planted 4000000000 4000000000 kept 253\n'
 records = b''.join(len(d).to_bytes(2, 'little') + bytes([s]) + d for d, s in cases)
 assert len(records) < 65536
-open('stdin', 'wb').write(records)
-open('stdout', 'w').write(''.join(said(d, s) for d, s in cases))
+folder = 'crates/lerc_bits_cases/'
+open(folder + 'stdin', 'wb').write(records)
+open(folder + 'stdout', 'w').write(PLANTED + ''.join(said(d, s) for d, s in cases))
 print(len(cases), 'cases,', len(records), 'bytes')
