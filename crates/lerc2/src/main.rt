@@ -1,115 +1,34 @@
 // One blob from standard input, its cells as text to standard output; a refusal is one line with its number.
-// No mask is reused. `answer` makes the whole text; `main` reads what it is made from, and writes it.
-ghost use Prim.Native.Nat.{ℕ, _≤_};
-ghost use Rattle.lerc_header.specs.Header.{shapeOf};
-ghost use Rattle.lerc_header.specs.Shape.{cells};
-ghost use Rattle.lerc_text.specs.Text.{Put, validIn, wordIn};
-ghost use Rattle.lerc2.specs.Program.{cellsMost, imageText, refusalText, programText, Answered};
-ghost use Rattle.lerc2.specs.Parts.{Ready};
-use lerc::ReadAnswer;
-use lerc_header::Header;
-use lerc_words::Refusal;
+// `lerc_program::answer` makes the text; `main` reads what it is made from, and writes it.
+ghost use Prim.Native.Nat.{_≤_, _<_};
+ghost use mathlib.Core.Path.{_≡_};
+ghost use lib.ListN.{length};
+ghost use Rattle.lerc_program.specs.Program.{bytesMost, programText, Answered};
+ghost use Rattle.lerc2.specs.Input.{OfEachInput};
+use lerc_program::BYTES;
+use lerc_program::TEXT;
 use libc::STDIN_FILENO;
 use libc::STDOUT_FILENO;
 
-// the largest blob that is read
-const BYTES: usize = 16384;
-
-// the largest image; it has no more blocks, and its mask an eighth of that
-const CELLS: usize = 4096;
-
-const MASK: usize = 512;
-
-// the longest text is shorter: 31 bytes for a cell, and four lines more
-const TEXT: usize = 131072;
-
-fn refuse(why: Refusal, out: &mut [u8]) -> usize
-    ensures { λ r. ⌜ Put (now (out .entry)) 0 (refusalText why) r (now (out .exit)) ⌝ }
+// The text of the whole input, of which the buffer's first n bytes are all that it has room for.
+fn answer_read(buffer: &[u8], n: usize, out: &mut [u8; TEXT]) -> usize
+    requires { ⌜ (bytesMost < length (now buffer)) × (n ≤ length (now buffer)) ⌝ }
+    ensures { λ r. ⌜ OfEachInput (now (buffer .entry)) n (λ input. Answered input (now (out .entry)) r (now (out .exit))) ⌝ }
 {
-    lerc_text::put_line(&mut out[..], 0, b"refused ", why.number as u64)
+    lerc_program::answer(&buffer[..n], out)
 }
 
-fn put_image(
-    h: Header,
-    blocks: usize,
-    end: usize,
-    mask: &[u8],
-    image: &[u64],
-    out: &mut [u8],
-) -> usize
-    requires { ⌜ cells (shapeOf h) ≤ cellsMost ⌝ }
-    ensures { λ r. ⌜ Put (now (out .entry)) 0 (imageText h blocks end (validIn (h .depth) (now (mask .entry))) (wordIn (now (image .entry)))) r (now (out .exit)) ⌝ }
+// What was read is lent only to say whose text is written.
+fn write_text(buffer: &[u8], n: usize, text: &[u8])
+    requires { ⌜ OfEachInput (now buffer) n (λ input. now text ≡ programText input) ⌝ }
 {
-    let cells = h.rows as usize * h.columns as usize * h.depth as usize;
-    let p = lerc_text::put_shape(&mut out[..], 0, h.columns, h.rows, h.depth, h.kind, h.valid);
-    let p = lerc_text::put_line(&mut out[..], p, b"blocks ", blocks as u64);
-    let p = lerc_text::put_cells(&mut out[..], p, cells, h.depth as usize, mask, image);
-    lerc_text::put_line(&mut out[..], p, b"end ", end as u64)
-}
-
-// A whole read into lent zeros, which have room for as many cells as the program takes: more are refused by it (5).
-fn decode(
-    blob: &[u8],
-    kept: &mut [u8],
-    spare: &mut [u8],
-    list: &mut [usize],
-    image: &mut [u64],
-    out: &mut [u8],
-) -> usize
-    requires { ⌜ Ready (now blob) (record { kept = now kept; spare = now spare; list = now list; image = now image }) ⌝ }
-    ensures { λ r. ⌜ Put (now (out .entry)) 0 (programText (now (blob .entry))) r (now (out .exit)) ⌝ }
-{
-    let answer = lerc::read(
-        blob,
-        false,
-        &mut kept[..],
-        &mut spare[..],
-        &mut list[..],
-        &mut image[..],
-    );
-    let ReadAnswer::Whole {
-        header,
-        blocks,
-        end,
-    } = answer
-    else {
-        return refuse(answer.refusal(), &mut out[..]);
-    };
-    put_image(header, blocks, end, &kept[..], &image[..], &mut out[..])
-}
-
-// the text at the start of `out`, as much as there is room for
-fn put_answer(input: &[u8], out: &mut [u8]) -> usize
-    ensures { λ r. ⌜ Put (now (out .entry)) 0 (programText (now (input .entry))) r (now (out .exit)) ⌝ }
-{
-    if BYTES < input.len() {
-        return refuse(Refusal { number: 4 }, &mut out[..]);
-    }
-    let mut kept = [0u8; MASK];
-    let mut spare = [0u8; MASK];
-    let mut list = [0usize; CELLS];
-    let mut image = [0u64; CELLS];
-    decode(
-        input,
-        &mut kept,
-        &mut spare,
-        &mut list,
-        &mut image,
-        &mut out[..],
-    )
-}
-
-// The text that the rules give for an input: its first bytes and its length; every byte behind it is as it was.
-fn answer(input: &[u8], out: &mut [u8; TEXT]) -> usize
-    ensures { λ r. ⌜ Answered (now (input .entry)) (now (out .entry)) r (now (out .exit)) ⌝ }
-{
-    put_answer(input, &mut out[..])
+    io::write_all(STDOUT_FILENO, text);
 }
 
 fn main() {
-    let mut blob = [0u8; BYTES + 1];
-    let n = io::read_full(STDIN_FILENO, &mut blob);
+    let mut buffer = [0u8; BYTES + 1];
+    let n = io::read_full(STDIN_FILENO, &mut buffer);
     let mut out = [0u8; TEXT];
-    let r = answer(&blob[..n], &mut out);
-    io::write_all(STDOUT_FILENO, &out[..r]);
+    let r = answer_read(&buffer, n, &mut out);
+    write_text(&buffer, n, &out[..r]);
 }

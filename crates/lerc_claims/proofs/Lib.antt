@@ -1,1 +1,2 @@
 pub mod Arithmetic
+pub mod Program
