@@ -1,8 +1,14 @@
 #!/usr/bin/env bash
 # Measures packed counts and the word arithmetic natively on x86-64: the crates are copied to a folder of their own
-# with one that exports their functions, proved there, and linked into the two C drivers beside this script.
+# with one that exports their functions, proved there, which takes some minutes, and linked into the two C drivers beside
+# this script.
 set -eu
-root=$(cd "$(dirname "$0")/.." && pwd)
+usage=bench/measure.sh
+root=$(cd "$(dirname "$(readlink -f "$0")")/.." && pwd)
+. "$root/bench/words.sh"
+[ $# -eq 0 ] || wrong "unknown word $1"
+[ "$(uname -m)" = x86_64 ] || { echo "measure.sh: the kit's archives are for x86-64, and this is $(uname -m)" >&2; exit 2; }
+needed rt cc
 dir=$(mktemp -d)
 trap 'rm -rf "$dir"' EXIT
 mkdir -p "$dir/crates/measured/src"

@@ -3,22 +3,35 @@
 # The kit compiles for x86-64 alone. So the kit's own `rt staticlib NAME` is run through a view of the kit whose clang first
 # keeps the LLVM module that it is handed; the same clang then compiles the same module at the same level for arm64. The kit
 # is not touched, and nothing is proved of what comes out.
-# Leaves target/staticlib/libNAME.a (x86-64, as always), target/native/libNAME.a (arm64) and target/native/NAME.ll.
+# Leaves target/staticlib/libNAME.a (x86-64, as always), target/native/libNAME.a (arm64) with a record of the sources that
+# it is made from (tools/proved.sh), and target/native/NAME.ll.
 set -eu
 if [ $# -lt 1 ]; then
     echo "native: bench/native.sh NAME [clang's words]" >&2
     exit 2
 fi
-name=$1
+crate=$1
 shift
 machine=$(uname -m)
-cd "$(dirname "$0")/.."
-kit=${RATTLE_KIT:-$(dirname "$(dirname "$(readlink -f "$(command -v rt)")")")}
-tools=$kit/on/$machine/toolchain
-if [ ! -x "$tools/bin/clang" ]; then
-    echo "native: the kit has no clang for $machine in $tools" >&2
+cd "$(dirname "$(readlink -f "$0")")/.."
+name=native root=$PWD
+. tools/proved.sh
+if [ ! -f "crates/$crate/src/lib.rt" ]; then
+    say "there is no library $crate in crates/"
     exit 2
 fi
+if ! rt=$(command -v rt); then
+    say "the command 'rt' of the Rattle kit is not on the path"
+    exit 2
+fi
+kit=${RATTLE_KIT:-$(dirname "$(dirname "$(readlink -f "$rt")")")}
+tools=$kit/on/$machine/toolchain
+if [ ! -x "$tools/bin/clang" ]; then
+    say "the kit has no clang for $machine in $tools"
+    exit 2
+fi
+take_lock
+sum=$(sources_sum "$crate")
 view=$(mktemp -d)
 trap 'rm -rf "$view"' EXIT
 
@@ -45,7 +58,7 @@ done
 exec $tools/bin/clang "\$@"
 C
 chmod +x "$view/on/$machine/toolchain/bin/clang"
-RATTLE_HOME=$view "$kit/bin/rt" staticlib "$name"
+RATTLE_HOME=$view "$kit/bin/rt" staticlib "$crate"
 
 # the module as text, its target changed, compiled again
 mkdir -p target/native
@@ -54,10 +67,11 @@ mkdir -p target/native
 layout=$(echo 'int x;' | "$tools/bin/clang" --target=aarch64-unknown-linux-gnu -x c -S -emit-llvm - -o - | grep '^target datalayout')
 sed -e "s/^target datalayout = .*/$layout/" \
     -e 's/^target triple = .*/target triple = "aarch64-unknown-linux-gnu"/' \
-    -e '/^attributes/s/ "target-cpu"="x86-64"//' "$view/module.ll" >"target/native/$name.ll"
+    -e '/^attributes/s/ "target-cpu"="x86-64"//' "$view/module.ll" >"target/native/$crate.ll"
 "$tools/bin/clang" --target=aarch64-unknown-linux-gnu -ffunction-sections -fdata-sections -mllvm -trap-unreachable \
-    -mllvm -no-trap-after-noreturn --no-default-config -fintegrated-cc1 -Werror -c -x ir "target/native/$name.ll" \
-    -o "target/native/$name.o" -fPIC -O3 "$@"
-rm -f "target/native/lib$name.a"
-"$view/on/$machine/toolchain/bin/llvm-ar" rcs "target/native/lib$name.a" "target/native/$name.o"
-echo "native: target/native/lib$name.a"
+    -mllvm -no-trap-after-noreturn --no-default-config -fintegrated-cc1 -Werror -c -x ir "target/native/$crate.ll" \
+    -o "target/native/$crate.o" -fPIC -O3 "$@"
+rm -f "target/native/lib$crate.a"
+"$view/on/$machine/toolchain/bin/llvm-ar" rcs "target/native/lib$crate.a" "target/native/$crate.o"
+mark "$root/target/native/lib$crate.a" "$crate" "$sum"
+echo "native: target/native/lib$crate.a"

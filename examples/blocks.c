@@ -1,5 +1,6 @@
 /* One blob from standard input, block by block: header, mask, ranges, walk, then each block from the last to the first.
- * Writes what each step said; the first refusal is one line with the step and its number. */
+ * Writes what each step said and the cells, '-' for one that is not valid; the first refusal is one line with the step and
+ * its number. Exit status: 0 decoded, 1 refused, 3 the output was lost. */
 #include "../include/lerc2.h"
 
 #include <inttypes.h>
@@ -14,10 +15,25 @@ static uint8_t blob[BYTES], kept[MASK], spare[MASK];
 static uint64_t header[LERC2_HEADER], ranges[LERC2_RANGES], image[CELLS], said[2];
 static size_t list[CELLS];
 
+/* what was written counts once it is out */
+static int status_of(int status) { return fflush(stdout) == 0 && !ferror(stdout) ? status : 3; }
+
 static void step(const char *name, uint32_t refused) {
     if (refused != 0) {
         printf("%s refused %" PRIu32 "\n", name, refused);
-        exit(1);
+        exit(status_of(1));
+    }
+}
+
+/* the image holds words of valid pixels alone; the others were never written */
+static void print_cells(const uint8_t *mask) {
+    for (size_t c = 0; c < header[LERC2_ROWS] * header[LERC2_COLUMNS] * header[LERC2_DEPTH]; c++) {
+        size_t p = c / header[LERC2_DEPTH];
+        if (mask[p / 8] >> (7 - p % 8) & 1) {
+            printf("cell %zu %" PRIu64 "\n", c, image[c]);
+        } else {
+            printf("cell %zu -\n", c);
+        }
     }
 }
 
@@ -38,8 +54,6 @@ int main(void) {
                                 image, CELLS, said, 2));
         printf("block %zu at %zu words %" PRIu64 "\n", n - 1, list[n - 1], said[0]);
     }
-    for (size_t c = 0; c < header[LERC2_ROWS] * header[LERC2_COLUMNS] * header[LERC2_DEPTH]; c++) {
-        printf("cell %zu %" PRIu64 "\n", c, image[c]);
-    }
-    return 0;
+    print_cells(mask);
+    return status_of(0);
 }

@@ -1,11 +1,18 @@
 #!/bin/sh
 # Builds the C examples against the proved library: examples/build.sh, then target/examples/read < tile.lerc2
-# The library is proved and written first where it is not there yet (rt staticlib lerc_c, some minutes).
+# The library is proved and written first where it is not made from the sources as they are (tools/archive.sh, some minutes).
 set -eu
-cd "$(dirname "$0")/.."
-lib=target/staticlib/liblerc_c.a
-[ -f "$lib" ] || rt staticlib lerc_c
+if [ $# -gt 0 ]; then
+    echo "build: examples/build.sh takes no words" >&2
+    exit 2
+fi
+cd "$(dirname "$(readlink -f "$0")")/.."
+if ! command -v gcc >/dev/null; then
+    echo "build: gcc is not there" >&2
+    exit 2
+fi
+tools/archive.sh
 mkdir -p target/examples
 for name in read blocks; do
-    gcc -std=c11 -O2 -Wall -Wextra -Werror -pedantic "examples/$name.c" "$lib" -o "target/examples/$name"
+    gcc -std=c11 -O2 -Wall -Wextra -Werror -pedantic "examples/$name.c" target/staticlib/liblerc_c.a -o "target/examples/$name"
 done

@@ -1,4 +1,5 @@
 /* One blob from standard input, its cells as text to standard output; a refusal is one line with its number.
+ * Exit status: 0 decoded, 1 refused, 2 no memory, 3 the output was lost.
  *
  * The blob is read into staged buffers. The tile is changed only when the blob was accepted, so that a caller that
  * holds an older tile keeps it whole whatever comes in. */
@@ -76,6 +77,9 @@ static void print_tile(const struct tile *t) {
     printf("end %" PRIu64 "\n", h[LERC2_READ_END]);
 }
 
+/* what was written counts once it is out */
+static int status_of(int status) { return fflush(stdout) == 0 && !ferror(stdout) ? status : 3; }
+
 int main(void) {
     enum { MOST = 16777216 };
     uint8_t *blob = room(MOST, 1);
@@ -85,10 +89,10 @@ int main(void) {
     free(blob);
     if (refused != 0) {
         printf("refused %" PRIu32 "\n", refused);
-        return 1;
+        return status_of(1);
     }
     print_tile(&tile);
     free(tile.mask);
     free(tile.image);
-    return 0;
+    return status_of(0);
 }

@@ -1,7 +1,7 @@
 /* Lerc2 version 4 blobs, read by functions that are proved (crates/lerc_c).
  *
- * Link target/staticlib/liblerc_c.a, which `rt staticlib lerc_c` writes; x86-64 only. It needs memcpy and memset and
- * nothing else: no allocation, no input or output, no state between calls.
+ * Link target/staticlib/liblerc_c.a, which tools/archive.sh proves and writes; x86-64 only. It needs memcpy and memset and
+ * nothing else: no allocation, no input or output, no state between calls. docs/API.md says how much stack a call needs.
  *
  * Answers. Every function that can refuse returns 0 where it accepts, else the number of the refusal:
  *    1  a field, number or packed run passes the declared size, or the blob is shorter than it or than 70 bytes

@@ -6,6 +6,10 @@
 set -eu
 folders=()
 for folder in "$@"; do
+    if [ ! -d "$folder" ]; then
+        echo "arm64.sh: $folder is no folder; usage: tests/arm64.sh [FOLDER..]" >&2
+        exit 2
+    fi
     folders+=("$(cd "$folder" && pwd)")
 done
 cd "$(dirname "$0")/.."

@@ -88,10 +88,7 @@ esri() {
 
 # the proved reader, target/native/liblerc_c.a
 archive() {
-    lib=target/native/liblerc_c.a
-    if [ ! -e "$lib" ] || [ -n "$(find crates/*/src -newer "$lib" -print -quit)" ]; then
-        bench/native.sh lerc_c
-    fi
+    tools/archive.sh --check target/native/liblerc_c.a || bench/native.sh lerc_c
 }
 
 rust

@@ -20,53 +20,98 @@ compare folder FOLDER..
 compare esri [--blobs N] [--seed S]
 compare esri FOLDER..
     accepted images against Esri's library (cargo feature esri)
+
+Exit status: 0 no disagreement, 1 some, 2 wrong words, or it could not be run.
 ";
 
 fn main() -> ExitCode {
     let arguments: Vec<String> = std::env::args().skip(1).collect();
     let words: Vec<&str> = arguments.iter().map(String::as_str).collect();
     let answer = match words.as_slice() {
+        ["-h" | "--help"] => {
+            print!("{HELP}");
+            Ok(true)
+        }
         ["run", rest @ ..] => run(rest),
         ["replay", file] => replay(file),
         ["folder", folders @ ..] if !folders.is_empty() => folders_compared(folders),
         ["esri", rest @ ..] => esri(rest),
-        _ => {
-            print!("{HELP}");
-            Ok(words == ["--help"])
-        }
+        ["replay", ..] => Err("replay takes one file".into()),
+        ["folder"] => Err("folder takes one folder or more".into()),
+        [] => Err("run, replay, folder or esri? `compare --help` says what they do".into()),
+        [word, ..] => Err(format!("unknown word {word}; `compare --help` has all").into()),
     };
     match answer {
         Ok(true) => ExitCode::SUCCESS,
         Ok(false) => ExitCode::FAILURE,
         Err(error) => {
             eprintln!("compare: {error}");
-            ExitCode::FAILURE
+            ExitCode::from(2)
         }
     }
 }
 
-/// The value after a name.
-fn option<'a>(rest: &[&'a str], name: &str) -> Option<&'a str> {
-    let at = rest.iter().position(|&word| word == name)?;
-    rest.get(at + 1).copied()
+/// Names with the value behind each; no other word is taken.
+struct Options<'a>(Vec<(&'a str, &'a str)>);
+
+impl<'a> Options<'a> {
+    fn of(rest: &[&'a str], names: &[&str]) -> Result<Options<'a>, Box<dyn Error>> {
+        let mut options = Vec::new();
+        for pair in rest.chunks(2) {
+            match pair {
+                [name, ..] if !names.contains(name) => {
+                    return Err(
+                        format!("unknown word {name}; known are {}", names.join(", ")).into(),
+                    );
+                }
+                [name, value] => options.push((*name, *value)),
+                _ => return Err(format!("{} needs a value", pair[0]).into()),
+            }
+        }
+        Ok(Options(options))
+    }
+
+    fn word(&self, name: &str) -> Option<&'a str> {
+        self.0
+            .iter()
+            .find(|option| option.0 == name)
+            .map(|option| option.1)
+    }
+
+    fn number(&self, name: &str, otherwise: u64) -> Result<u64, Box<dyn Error>> {
+        Ok(match self.word(name) {
+            Some(word) => word
+                .parse()
+                .map_err(|_| format!("{name} {word}: not a number"))?,
+            None => otherwise,
+        })
+    }
 }
 
-fn number(rest: &[&str], name: &str, otherwise: u64) -> Result<u64, Box<dyn Error>> {
-    Ok(match option(rest, name) {
-        Some(word) => word.parse()?,
-        None => otherwise,
-    })
+/// What the file has, or an error that names it.
+fn bytes(file: &Path) -> Result<Vec<u8>, Box<dyn Error>> {
+    Ok(fs::read(file).map_err(|error| format!("{}: {error}", file.display()))?)
+}
+
+/// The blobs of a folder, of which there must be one.
+fn blobs(folder: &str) -> Result<Vec<PathBuf>, Box<dyn Error>> {
+    let files = folder::files(Path::new(folder)).map_err(|error| format!("{folder}: {error}"))?;
+    if files.is_empty() {
+        return Err(format!("{folder}: there is no NAME.lerc2").into());
+    }
+    Ok(files)
 }
 
 fn run(rest: &[&str]) -> Result<bool, Box<dyn Error>> {
     let now = SystemTime::now().duration_since(UNIX_EPOCH)?.as_nanos() as u64;
+    let options = Options::of(rest, &["--calls", "--seed", "--from", "--out"])?;
     let run = Run {
-        seed: number(rest, "--seed", now)?,
-        from: number(rest, "--from", 0)?,
-        calls: number(rest, "--calls", 1_000_000)?,
+        seed: options.number("--seed", now)?,
+        from: options.number("--from", 0)?,
+        calls: options.number("--calls", 1_000_000)?,
         failures: 10,
     };
-    let out = PathBuf::from(option(rest, "--out").unwrap_or("failed"));
+    let out = PathBuf::from(options.word("--out").unwrap_or("failed"));
     println!("seed {}, blobs from {}", run.seed, run.from);
     let begun = Instant::now();
     let report = run.go(proved, plain);
@@ -99,7 +144,9 @@ fn save(out: &Path, name: &str, failure: &Failure) -> Result<(), Box<dyn Error>>
 }
 
 fn replay(file: &str) -> Result<bool, Box<dyn Error>> {
-    let case = store::case(&fs::read_to_string(file)?)?;
+    let text =
+        String::from_utf8(bytes(Path::new(file))?).map_err(|_| format!("{file}: no saved call"))?;
+    let case = store::case(&text).map_err(|error| format!("{file}: {error}"))?;
     let (one, other) = (proved(&case), plain(&case));
     println!("operation {}", case.op.name());
     println!("proved: answer {}, word {:#x}", one.answer, one.word);
@@ -112,27 +159,30 @@ fn replay(file: &str) -> Result<bool, Box<dyn Error>> {
 }
 
 fn folders_compared(folders: &[&str]) -> Result<bool, Box<dyn Error>> {
-    let (mut table, mut blobs, mut right) = (Table::default(), 0, true);
+    let (mut table, mut count, mut disagreements) = (Table::default(), 0, 0);
     for folder in folders {
-        for file in folder::files(Path::new(folder))? {
-            blobs += 1;
-            if let Err(case) = folder::compare(&fs::read(&file)?, &mut table) {
+        for file in blobs(folder)? {
+            count += 1;
+            if let Err(case) = folder::compare(&bytes(&file)?, &mut table) {
                 println!("{}:", file.display());
                 let name = file.file_stem().unwrap_or_default().to_string_lossy();
                 let failure = Failure::new(0, *case, proved, plain);
                 save(Path::new("failed"), &name, &failure)?;
-                right = false;
+                disagreements += 1;
             }
         }
     }
     println!("\n{}", table.text());
-    println!("{} calls on {blobs} blobs", grouped(table.total()));
-    Ok(right)
+    println!(
+        "{} calls on {count} blobs, {disagreements} disagreements",
+        grouped(table.total())
+    );
+    Ok(disagreements == 0)
 }
 
 #[cfg(not(feature = "esri"))]
 fn esri(_: &[&str]) -> Result<bool, Box<dyn Error>> {
-    Err("built without the feature esri".into())
+    Err("built without Esri's library: cargo run --release --features esri -- esri".into())
 }
 
 #[cfg(feature = "esri")]
@@ -140,16 +190,17 @@ fn esri(rest: &[&str]) -> Result<bool, Box<dyn Error>> {
     use compare::esri;
     let mut tally = esri::Tally::default();
     if rest.is_empty() || rest[0].starts_with("--") {
-        let seed = number(rest, "--seed", 1)?;
+        let options = Options::of(rest, &["--blobs", "--seed"])?;
+        let seed = options.number("--seed", 1)?;
         println!("seed {seed}");
-        for blob in 0..number(rest, "--blobs", 100_000)? {
+        for blob in 0..options.number("--blobs", 100_000)? {
             let bytes = esri::made(seed, blob);
             tally.count(&format!("blob {blob}"), &bytes);
         }
     } else {
         for folder in rest {
-            for file in folder::files(Path::new(folder))? {
-                tally.count(&file.display().to_string(), &fs::read(&file)?);
+            for file in blobs(folder)? {
+                tally.count(&file.display().to_string(), &bytes(&file)?);
             }
         }
     }

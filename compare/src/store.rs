@@ -34,6 +34,9 @@ pub fn text(case: &Case) -> String {
 /// Lines that begin with `#` are comments.
 pub fn case(text: &str) -> Result<Case, String> {
     let mut case = Case::new(Op::Header);
+    if !text.lines().any(|line| line.starts_with("op ")) {
+        return Err("no line says which operation".into());
+    }
     for line in text.lines().filter(|line| !line.starts_with('#')) {
         let (name, value) = line.split_once(' ').unwrap_or((line, ""));
         match name {

@@ -4,10 +4,12 @@
     python3 tests/c/run.py FOLDER [EMULATOR AND ITS WORDS]      FOLDER has the programs read and blocks (target/examples)
 
 In data blob i is file 2i and what Esri's decoder gave for it file 2i + 1 (its form is in tests/fill/make.py). What data/names
-calls planted has a wrong expectation, and must differ. Ends with status 1 if anything else differs, or a planted one does not.
+calls planted has a wrong expectation, and must differ. Ends with status 1 if anything else differs or a planted one does
+not, 2 if it could not be run.
 """
 import glob
 import os
+import shutil
 import struct
 import subprocess
 import sys
@@ -29,16 +31,15 @@ class Expected:
         pixel = cell // self.depth
         return self.mask[pixel // 8] >> (7 - pixel % 8) & 1
 
+    def lines(self):
+        """The cells, as both programs write them."""
+        return ['cell %d %s' % (c, word if self.has(c) else '-') for c, word in enumerate(self.cells)]
+
     def read(self):
         """All that `read` writes."""
         head = (self.columns, self.rows, self.depth, self.kind, self.valid)
         lines = ['width %d height %d depth %d kind %d valid %d' % head, 'blocks %d' % self.blocks]
-        lines += ['cell %d %s' % (c, word if self.has(c) else '-') for c, word in enumerate(self.cells)]
-        return lines + ['end %d' % self.end]
-
-    def filled(self):
-        """The cells that `blocks` writes, where no valid pixel is 0."""
-        return ['cell %d %d' % (c, word if self.has(c) else 0) for c, word in enumerate(self.cells)]
+        return lines + self.lines() + ['end %d' % self.end]
 
 
 def fits(e, lines):
@@ -46,26 +47,40 @@ def fits(e, lines):
     fills = [line.split() for line in lines if line.startswith('block ')]
     numbers, words = [int(f[1]) for f in fills], sum(int(f[5]) for f in fills)
     return ('blocks %d end %d' % (e.blocks, e.end) in lines and numbers == list(reversed(range(e.blocks)))
-            and words == e.valid * e.depth and lines[-len(e.cells):] == e.filled())
+            and words == e.valid * e.depth and lines[-len(e.cells):] == e.lines())
+
+
+def wrong(why):
+    print('run.py: %s; usage: python3 tests/c/run.py FOLDER [EMULATOR AND ITS WORDS]' % why, file=sys.stderr)
+    return 2
 
 
 def main():
+    if len(sys.argv) < 2:
+        return wrong('no folder')
     folder, emulator = sys.argv[1], sys.argv[2:]
+    for name in ('read', 'blocks'):
+        if not os.access(os.path.join(folder, name), os.X_OK):
+            return wrong('there is no program %s in %s (examples/build.sh makes it)' % (name, folder))
+    if emulator and not shutil.which(emulator[0]):
+        return wrong('there is no emulator %s' % emulator[0])
     files = sorted(glob.glob(os.path.join(DATA, '[0-9][0-9][0-9]')))
+    if not files:
+        return wrong('there are no blobs in %s' % os.path.normpath(DATA))
     planted = [' planted: ' in name for name in open(os.path.join(DATA, 'names'))]
     differ = cells = found = 0
-    for wrong, blob, expect in zip(planted, files[0::2], files[1::2]):
+    for misled, blob, expect in zip(planted, files[0::2], files[1::2]):
         e = Expected(expect)
         said = {}
         for name in ('read', 'blocks'):
             ran = subprocess.run(emulator + [os.path.join(folder, name)], stdin=open(blob, 'rb'), stdout=subprocess.PIPE, text=True)
             said[name] = ran.stdout.splitlines() if ran.returncode == 0 else []
         for name, same in (('read', said['read'] == e.read()), ('blocks', fits(e, said['blocks']))):
-            if same == wrong:
+            if same == misled:
                 differ += 1
-                print('%s: %s %s' % (os.path.basename(blob), name, 'does not find what was planted' if wrong else 'differs'))
-        found += wrong
-        cells += 0 if wrong else e.valid * e.depth
+                print('%s: %s %s' % (os.path.basename(blob), name, 'does not find what was planted' if misled else 'differs'))
+        found += misled
+        cells += 0 if misled else e.valid * e.depth
     print('%d blobs, %d valid cells, by read and by blocks: %d differ' % (len(planted) - found, cells, differ))
     print('%d planted expectations that must differ' % found)
     return 1 if differ or not found or len(files) != 2 * len(planted) else 0

@@ -58,10 +58,14 @@ def chosen(folders):
 
 
 def copy(folders):
+    blobs = list(chosen(folders))
+    if not blobs:
+        print('make.py: no blob to choose in %s; nothing is changed' % ' '.join(folders), file=sys.stderr)
+        sys.exit(2)
     for old in glob.glob(os.path.join(DATA, '*')):
         os.remove(old)
     names = []
-    for i, (blob, expect) in enumerate(chosen(folders)):
+    for i, (blob, expect) in enumerate(blobs):
         for k, source in enumerate((blob, expect)):
             with open('%s/%03d' % (DATA, 2 * i + k), 'wb') as f:
                 f.write(open(source, 'rb').read())

@@ -8,6 +8,11 @@ magnitude. A record is its size (4 bytes), another length (4 bytes) and a blob. 
 then what follows from the fields by value beside a slice of the other length, then the ranges read with these fields.
 """
 import struct
+import sys
+
+if sys.argv[1:]:
+    print('make.py: no word is known; usage: python3 tests/header/make.py', file=sys.stderr)
+    sys.exit(2)
 
 SIGN, INF, NAN = 1 << 63, 2047 << 52, (2047 << 52) + 1
 LARGEST = INF - 1

@@ -9,6 +9,11 @@ one of two equally near. Where the operands are finite, the results are compared
 """
 import random
 import struct
+import sys
+
+if sys.argv[1:]:
+    print('make.py: no word is known; usage: python3 tests/numeric/make.py', file=sys.stderr)
+    sys.exit(2)
 
 random.seed(20261115)
 SIGN, INF, REFUSED = 1 << 63, 2047 << 52, None

@@ -3,15 +3,21 @@
 //! of interleaved rounds, and exact counts of instructions by callgrind or by
 //! an emulator, under which times are not taken.
 //!
-//!     whole [--folder FOLDER] [--only NAME] [--rounds N] [--svg FILE] [--no-counts]
+//!     whole [--folder FOLDER] [--only NAME] [--rounds N] [--plot FILE] [--no-counts]
 //!           [--counted-by 'EMULATOR AND ITS WORDS' --no-times]
 //!     whole one FILE WAY READER [CALLS]      for the counter; one call is usual
+//!
+//! What is not measured is named at the end, with the reason. Ends with status
+//! 2 where the words are wrong or nothing could be measured.
 
 mod clock;
+mod left;
 mod make;
 mod plot;
 mod task;
+mod words;
 
+use left::LeftOut;
 use make::{Body, Sort};
 use std::error::Error;
 use std::fs;
@@ -19,6 +25,7 @@ use std::path::{Path, PathBuf};
 use std::process::{Command, ExitCode};
 use std::time::Instant;
 use task::{Reader, Task, Way};
+use words::Words;
 
 /// What is asked of the proved reader, against the plain one.
 const INTEGERS: f64 = 3.0;
@@ -54,9 +61,10 @@ pub struct Line {
 }
 
 impl Line {
-    /// How many times the plain reader's the proved one's is.
+    /// How many times the plain reader's the proved one's is. None where the
+    /// clock saw nothing of the plain one.
     fn ratio(numbers: &[Option<f64>]) -> Option<f64> {
-        Some(numbers[0]? / numbers[1]?)
+        Some(numbers[0]? / numbers[1]?).filter(|ratio| ratio.is_finite())
     }
 }
 
@@ -70,14 +78,9 @@ fn main() -> ExitCode {
     };
     if let Err(error) = done {
         eprintln!("whole: {error}");
-        return ExitCode::FAILURE;
+        return ExitCode::from(2);
     }
     ExitCode::SUCCESS
-}
-
-fn option<'a>(words: &[&'a str], name: &str) -> Option<&'a str> {
-    let at = words.iter().position(|&word| word == name)?;
-    words.get(at + 1).copied()
 }
 
 fn one(file: &str, way: &str, reader: &str, calls: &str) -> Result<(), Box<dyn Error>> {
@@ -86,11 +89,11 @@ fn one(file: &str, way: &str, reader: &str, calls: &str) -> Result<(), Box<dyn E
     let (Some(way), Some(&reader)) = (way, reader) else {
         return Err("no such way or reader".into());
     };
-    let mut task = Task::new(&fs::read(file)?).ok_or("the header is refused")?;
+    let blob = fs::read(file).map_err(|error| format!("{file}: {error}"))?;
+    let mut task = Task::new(&blob).map_err(|number| format!("{file}: refused {number}"))?;
     for _ in 0..calls.parse::<u64>()? {
-        if !task.go(way, reader) {
-            return Err("refused".into());
-        }
+        task.go(way, reader)
+            .map_err(|number| format!("{file}: refused {number}"))?;
     }
     Ok(())
 }
@@ -106,49 +109,68 @@ struct How<'a> {
 }
 
 fn measure(words: &[&str]) -> Result<(), Box<dyn Error>> {
-    let rounds: usize = option(words, "--rounds").unwrap_or("15").parse()?;
+    let words = Words::of(words)?;
     let how = How {
-        rounds: (!words.contains(&"--no-times")).then_some(rounds),
-        counts: !words.contains(&"--no-counts"),
-        emulator: option(words, "--counted-by"),
+        rounds: words.times.then_some(words.rounds),
+        counts: words.counts,
+        emulator: words.counted_by,
         scratch: std::env::temp_dir().join(format!("whole-{}", std::process::id())),
     };
+    let images = images(&words)?;
+    fs::create_dir_all(&how.scratch)?;
+    let mut lines = Vec::new();
+    let mut left = LeftOut::default();
+    for image in &images {
+        for way in Way::ALL {
+            match line(image, way, &how)? {
+                Ok(line) => {
+                    eprintln!("{} {}", line.name, line.way.name());
+                    lines.push(line);
+                }
+                Err(why) => left.add(&image.name, way, why),
+            }
+        }
+    }
+    fs::remove_dir_all(&how.scratch)?;
+    if lines.is_empty() {
+        print!("{}", left.text());
+        return Err("nothing was measured".into());
+    }
+    print!("{}", table(&lines));
+    print!("{}", verdicts(&lines));
+    print!("{}", left.text());
+    if let Some(file) = words.plot {
+        fs::write(file, plot::svg(&lines)).map_err(|error| format!("{file}: {error}"))?;
+    }
+    Ok(())
+}
+
+/// Those of the folder, and those that are made.
+fn images(words: &Words) -> Result<Vec<Image>, Box<dyn Error>> {
     let mut images = Vec::new();
-    if let Some(folder) = option(words, "--folder") {
-        for file in compare::folder::files(Path::new(folder))? {
-            let name = file
-                .file_stem()
-                .unwrap_or_default()
-                .to_string_lossy()
-                .into_owned();
+    if let Some(folder) = words.folder {
+        let files = compare::folder::files(Path::new(folder))
+            .map_err(|error| format!("{folder}: {error}"))?;
+        if files.is_empty() {
+            return Err(format!("{folder}: there is no NAME.lerc2").into());
+        }
+        for file in files {
+            let name = file.file_stem().unwrap_or_default();
             images.push(Image {
-                name,
+                name: name.to_string_lossy().into_owned(),
                 blob: fs::read(&file)?,
                 sized: false,
             });
         }
     }
     images.extend(made());
-    if let Some(word) = option(words, "--only") {
+    if let Some(word) = words.only {
         images.retain(|image| image.name.contains(word));
-    }
-    fs::create_dir_all(&how.scratch)?;
-    let mut lines = Vec::new();
-    for image in &images {
-        for way in Way::ALL {
-            if let Some(line) = line(image, way, &how)? {
-                eprintln!("{} {}", line.name, line.way.name());
-                lines.push(line);
-            }
+        if images.is_empty() {
+            return Err(format!("no image has {word} in its name").into());
         }
     }
-    fs::remove_dir_all(&how.scratch)?;
-    print!("{}", table(&lines));
-    print!("{}", verdicts(&lines));
-    if let Some(file) = option(words, "--svg") {
-        fs::write(file, plot::svg(&lines))?;
-    }
-    Ok(())
+    Ok(images)
 }
 
 fn made() -> Vec<Image> {
@@ -180,82 +202,108 @@ fn made() -> Vec<Image> {
     images
 }
 
-/// Nothing for a blob that is refused, or has no blocks to walk, or of which
-/// nothing would be measured.
-fn line(image: &Image, way: Way, how: &How) -> Result<Option<Line>, Box<dyn Error>> {
-    let Some(mut task) = Task::new(&image.blob) else {
-        return Ok(None);
+/// One line of the table, or why there is none.
+fn line(image: &Image, way: Way, how: &How) -> Result<Result<Line, String>, Box<dyn Error>> {
+    let refused = |number: u32| format!("refused {number}");
+    let mut task = match Task::new(&image.blob) {
+        Ok(task) => task,
+        Err(number) => return Ok(Err(refused(number))),
     };
-    if !task.go(way, Reader::Proved) {
-        return Ok(None);
+    if let Err(number) = task.go(way, Reader::Proved) {
+        return Ok(Err(refused(number)));
     }
     let cells = task.image.clone();
     task.image.fill(0);
-    if !task.go(way, Reader::Plain) || task.image != cells {
+    if task.go(way, Reader::Plain).is_err() || task.image != cells {
         return Err(format!("{}: the readers differ", image.name).into());
     }
-    let constant = second::read_ranges(&image.blob, &task.header).is_ok_and(|r| r.constant);
-    let mut walked = true;
-    if way == Way::Read {
-        let mut probe = Task::new(&image.blob).expect("as above");
-        walked = probe.go(Way::Steps, Reader::Plain);
+    if task.header.valid == 0 {
+        return Ok(Err("no cell is valid".into()));
     }
-    let bar = match task.header.kind {
-        _ if constant || !walked => LINEAR,
-        0..=5 => INTEGERS,
-        _ => FLOATS,
-    };
     let count = cells.len();
     let counted = how.counts && count <= COUNTED;
     if how.rounds.is_none() && !counted {
-        return Ok(None);
+        return Ok(Err(format!("more than {COUNTED} cells are not counted")));
     }
+    // Esri's library may refuse what the rules accept.
+    let taking: Vec<Option<Reader>> = Reader::ALL
+        .iter()
+        .map(|&reader| (reader.has(way) && task.go(way, reader).is_ok()).then_some(reader))
+        .collect();
     let times = match how.rounds {
-        Some(rounds) => least_times(&mut task, way, rounds),
-        None => vec![None; Reader::ALL.len()],
+        Some(rounds) => least_times(&mut task, way, &taking, rounds),
+        None => vec![None; taking.len()],
     };
-    let mut line = Line {
+    let counts = if counted {
+        instructions_by(&taking, &image.blob, way, how)?
+    } else {
+        vec![None; taking.len()]
+    };
+    let a_cell = |numbers: Vec<Option<f64>>, unit: f64| -> Vec<Option<f64>> {
+        let shared = |number: f64| number * unit / count as f64;
+        numbers.into_iter().map(|n| n.map(shared)).collect()
+    };
+    Ok(Ok(Line {
         name: image.name.clone(),
         way,
         cells: count,
-        bar,
+        bar: bar(&task, &image.blob),
         sized: image.sized,
-        times: times
-            .iter()
-            .map(|t| t.map(|t| t * 1e9 / count as f64))
-            .collect(),
-        counts: vec![None; Reader::ALL.len()],
-    };
-    if counted {
-        let file = how.scratch.join("image.lerc2");
-        fs::write(&file, &image.blob)?;
-        for (n, &reader) in Reader::ALL.iter().enumerate() {
-            if reader.has(way) {
-                let found = match how.emulator {
-                    None => instructions(&file, way, reader)?,
-                    Some(words) => emulated(words, &file, way, reader)?,
-                };
-                line.counts[n] = Some(found as f64 / count as f64);
-            }
-        }
+        times: a_cell(times, 1e9),
+        counts: a_cell(counts, 1.0),
+    }))
+}
+
+/// Instructions of one call, by reader.
+fn instructions_by(
+    taking: &[Option<Reader>],
+    blob: &[u8],
+    way: Way,
+    how: &How,
+) -> Result<Vec<Option<f64>>, Box<dyn Error>> {
+    let file = how.scratch.join("image.lerc2");
+    fs::write(&file, blob)?;
+    let mut counts = Vec::new();
+    for &reader in taking {
+        counts.push(match (reader, how.emulator) {
+            (None, _) => None,
+            (Some(reader), None) => Some(instructions(&file, way, reader)? as f64),
+            (Some(reader), Some(words)) => Some(emulated(words, &file, way, reader)? as f64),
+        });
     }
-    Ok(Some(line))
+    Ok(counts)
+}
+
+/// By the kind of a body in blocks; raw and constant bodies have their own.
+fn bar(task: &Task, blob: &[u8]) -> f64 {
+    let constant = second::read_ranges(blob, &task.header).is_ok_and(|ranges| ranges.constant);
+    let mut probe = Task::new(blob).expect("it was accepted");
+    match task.header.kind {
+        _ if constant || probe.go(Way::Steps, Reader::Plain).is_err() => LINEAR,
+        0..=5 => INTEGERS,
+        _ => FLOATS,
+    }
 }
 
 /// Seconds that this thread runs in one call; the readers take turns. There are
 /// at least so many rounds, and more while there is time: on a shared machine
 /// many rounds are disturbed.
-fn least_times(task: &mut Task, way: Way, rounds: usize) -> Vec<Option<f64>> {
-    let mut least = vec![None::<f64>; Reader::ALL.len()];
+fn least_times(
+    task: &mut Task,
+    way: Way,
+    taking: &[Option<Reader>],
+    rounds: usize,
+) -> Vec<Option<f64>> {
+    let mut least = vec![None::<f64>; taking.len()];
     let begun = Instant::now();
     let mut round = 0;
     while round < rounds || begun.elapsed().as_secs_f64() < SECONDS {
-        for (n, &reader) in Reader::ALL.iter().enumerate() {
-            if !reader.has(way) {
+        for (n, &reader) in taking.iter().enumerate() {
+            let Some(reader) = reader else {
                 continue;
-            }
+            };
             let begun = clock::now();
-            task.go(way, reader);
+            let _ = task.go(way, reader);
             let time = clock::now() - begun;
             least[n] = Some(least[n].map_or(time, |before| before.min(time)));
         }
@@ -429,12 +477,16 @@ fn growths(lines: &[Line]) -> String {
                 .iter()
                 .filter(|line| line.sized && line.way == way && line.name.starts_with(kind))
                 .collect();
-            let (Some(first), Some(last)) = (rows.first(), rows.last()) else {
+            // One size says nothing of growth.
+            let [first, others @ ..] = rows.as_slice() else {
+                continue;
+            };
+            let Some(last) = others.last() else {
                 continue;
             };
             // The largest that was counted is not the largest that was timed.
             let growth = |numbers: &dyn Fn(&Line) -> Option<f64>| {
-                let last = rows.iter().rev().find_map(|line| numbers(line));
+                let last = others.iter().rev().find_map(|line| numbers(line));
                 Some(last? / numbers(first)?)
             };
             let time = timed(lines).then(|| {

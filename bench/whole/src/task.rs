@@ -69,9 +69,10 @@ pub struct Task {
 }
 
 impl Task {
-    pub fn new(blob: &[u8]) -> Option<Task> {
-        let header = second::read_header(blob).ok()?;
-        Some(Task {
+    /// The number of the refusal where the header has one.
+    pub fn new(blob: &[u8]) -> Result<Task, u32> {
+        let header = second::read_header(blob)?;
+        Ok(Task {
             blob: blob.to_vec(),
             kept: vec![0; header.mask_length()],
             spare: vec![0; header.mask_length()],
@@ -83,10 +84,10 @@ impl Task {
         })
     }
 
-    /// One call, or all calls of the steps; whether it was accepted. Callgrind
-    /// counts while it is in here.
+    /// One call, or all calls of the steps; the refusal's number where there is
+    /// one, or the library's own. Callgrind counts while it is in here.
     #[inline(never)]
-    pub fn go(&mut self, way: Way, reader: Reader) -> bool {
+    pub fn go(&mut self, way: Way, reader: Reader) -> Result<(), u32> {
         match (way, reader) {
             (Way::Read, Reader::Proved) => measured_proved_read(self),
             (Way::Read, Reader::Plain) => measured_plain_read(self),
@@ -98,11 +99,19 @@ impl Task {
     }
 }
 
+/// Of an answer in C, where 0 accepts.
+fn accepted(answer: u32) -> Result<(), u32> {
+    match answer {
+        0 => Ok(()),
+        number => Err(number),
+    }
+}
+
 // Names for callgrind, which begins to count where they begin.
 
 #[no_mangle]
 #[inline(never)]
-fn measured_proved_read(task: &mut Task) -> bool {
+fn measured_proved_read(task: &mut Task) -> Result<(), u32> {
     let mut said = [0; raw::READ];
     let Task {
         blob,
@@ -112,12 +121,12 @@ fn measured_proved_read(task: &mut Task) -> bool {
         image,
         ..
     } = task;
-    raw::read(blob, false, kept, spare, list, image, &mut said) == 0
+    accepted(raw::read(blob, false, kept, spare, list, image, &mut said))
 }
 
 #[no_mangle]
 #[inline(never)]
-fn measured_plain_read(task: &mut Task) -> bool {
+fn measured_plain_read(task: &mut Task) -> Result<(), u32> {
     let Task {
         blob,
         kept,
@@ -126,17 +135,16 @@ fn measured_plain_read(task: &mut Task) -> bool {
         image,
         ..
     } = task;
-    second::read(blob, false, kept, spare, list, image).is_ok()
+    second::read(blob, false, kept, spare, list, image).map(|_| ())
 }
 
 #[no_mangle]
 #[inline(never)]
-fn measured_proved_steps(task: &mut Task) -> bool {
-    proved_steps(task).is_some()
+fn measured_proved_steps(task: &mut Task) -> Result<(), u32> {
+    proved_steps(task)
 }
 
-fn proved_steps(task: &mut Task) -> Option<()> {
-    let accepted = |answer: u32| (answer == 0).then_some(());
+fn proved_steps(task: &mut Task) -> Result<(), u32> {
     let (mut header, mut ranges) = ([0; raw::HEADER], [0; raw::RANGES]);
     let (blob, list) = (&task.blob, &mut task.list);
     let mut said = [0; raw::WALK];
@@ -155,13 +163,13 @@ fn proved_steps(task: &mut Task) -> Option<()> {
         );
         accepted(filled)?;
     }
-    Some(())
+    Ok(())
 }
 
 #[no_mangle]
 #[inline(never)]
-fn measured_plain_steps(task: &mut Task) -> bool {
-    plain_steps(task).is_ok()
+fn measured_plain_steps(task: &mut Task) -> Result<(), u32> {
+    plain_steps(task)
 }
 
 fn plain_steps(task: &mut Task) -> Result<(), u32> {
@@ -180,7 +188,7 @@ fn plain_steps(task: &mut Task) -> Result<(), u32> {
 #[cfg(feature = "esri")]
 #[no_mangle]
 #[inline(never)]
-fn measured_esri_read(task: &mut Task) -> bool {
+fn measured_esri_read(task: &mut Task) -> Result<(), u32> {
     let size = task.header.size as usize;
-    task.decoded.decode(&task.blob[..size], &task.header) == 0
+    accepted(task.decoded.decode(&task.blob[..size], &task.header))
 }

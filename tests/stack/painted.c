@@ -1,0 +1,165 @@
+/* How much stack the functions of the C interface use: each is called on a stack of its own, painted before, and the
+ * lowest byte that has changed tells. Blobs are the files named; for each blob and function a line with name and bytes,
+ * the return address of the call included. For tests/stack/run.py. */
+#include "../../include/lerc2.h"
+
+#include <stdio.h>
+#include <stdlib.h>
+#include <string.h>
+#include <ucontext.h>
+
+enum { STACK = 1 << 18, PAINT = 0xA5, BYTES = 1 << 20, MASK = 1 << 14, CELLS = 1 << 16 };
+
+static uint8_t stack[STACK] __attribute__((aligned(16)));
+static uint8_t blob[BYTES], kept[MASK], spare[MASK];
+static uint64_t header[LERC2_HEADER], ranges[LERC2_RANGES], image[CELLS], said[LERC2_READ];
+static size_t size, list[CELLS], count, length;
+static const uint8_t *mask;
+
+/* where the return address of the last call stands: a stop in front of each function notes it */
+uintptr_t return_address;
+#define NOTED(function)                                                                                               \
+    extern __typeof__(function) noted_##function;                                                                     \
+    __asm__(".text\n.globl noted_" #function "\nnoted_" #function ":\n\tmov %rsp, return_address(%rip)\n\tjmp " #function "\n")
+
+NOTED(lerc2_read_header);
+NOTED(lerc2_read);
+NOTED(lerc2_prepare_mask);
+NOTED(lerc2_read_ranges);
+NOTED(lerc2_walk);
+NOTED(lerc2_fill);
+NOTED(lerc2_sum);
+NOTED(lerc2_scaled);
+NOTED(lerc2_narrow);
+NOTED(lerc2_number);
+NOTED(lerc2_stored);
+
+static uint32_t answer;
+
+static void call_read_header(void) { answer = noted_lerc2_read_header(blob, size, header, LERC2_HEADER); }
+
+static void call_prepare_mask(void) {
+    answer = noted_lerc2_prepare_mask(blob, size, header, LERC2_HEADER, false, kept, MASK, spare, MASK, said, 2);
+}
+
+static void call_read_ranges(void) {
+    answer = noted_lerc2_read_ranges(blob, size, header, LERC2_HEADER, ranges, LERC2_RANGES);
+}
+
+static void call_walk(void) {
+    answer = noted_lerc2_walk(blob, size, header, LERC2_HEADER, ranges, LERC2_RANGES, mask, length, list, CELLS, said, 2);
+}
+
+static void call_fill(void) {
+    for (size_t n = 0; n < count; n++) {
+        answer |= noted_lerc2_fill(blob, size, header, LERC2_HEADER, ranges, LERC2_RANGES, mask, length, list, CELLS, n, image,
+                                   CELLS, said, 1);
+    }
+}
+
+static void call_read(void) {
+    answer = noted_lerc2_read(blob, size, false, kept, MASK, spare, MASK, list, CELLS, image, CELLS, said, LERC2_READ);
+}
+
+/* operands that are far apart, that cancel, that are small and that are not finite */
+static const uint64_t operands[] = {0, 1, 0x3FF0000000000000, 0xBFF0000000000001, 0x4340000000000000, 0x7FE0000000000000,
+                                    0x7FF0000000000000, 0x8000000000000000, 0xC05FE00000000000, 0x3810000000000001};
+enum { OPERANDS = sizeof(operands) / sizeof(operands[0]) };
+static uint64_t result;
+
+static void call_sum(void) {
+    for (size_t n = 0; n < OPERANDS * OPERANDS; n++) {
+        result += noted_lerc2_sum(operands[n / OPERANDS], operands[n % OPERANDS]);
+    }
+}
+
+static void call_scaled(void) {
+    for (size_t n = 0; n < OPERANDS * OPERANDS; n++) {
+        result += noted_lerc2_scaled(operands[n / OPERANDS], (uint32_t)operands[n % OPERANDS] + 3 * (uint32_t)n);
+    }
+}
+
+static void call_narrow(void) {
+    for (size_t n = 0; n < OPERANDS; n++) {
+        result += noted_lerc2_narrow(operands[n]);
+    }
+}
+
+static void call_number(void) {
+    for (size_t n = 0; n < OPERANDS * 8; n++) {
+        result += noted_lerc2_number(operands[n / 8], (uint32_t)n % 8);
+    }
+}
+
+static void call_stored(void) {
+    for (size_t n = 0; n < OPERANDS * 8; n++) {
+        result += noted_lerc2_stored(operands[n / 8], (uint32_t)n % 8, said, 1);
+    }
+}
+
+static ucontext_t here, there;
+static void (*call)(void);
+
+/* Room above the call, so that what leads to it and away from it stays above what is measured. */
+static void aside(void) {
+    uint8_t above[4096];
+    __asm__ volatile("" : : "r"(above) : "memory");
+    call();
+    __asm__ volatile("" : : "r"(above) : "memory");
+}
+
+/* One call on the painted stack; 0 where it was refused, since the next one builds on it. */
+static int used(const char *name, void (*function)(void)) {
+    memset(stack, PAINT, STACK);
+    call = function;
+    answer = 0;
+    getcontext(&there);
+    there.uc_stack.ss_sp = stack;
+    there.uc_stack.ss_size = STACK;
+    there.uc_link = &here;
+    makecontext(&there, aside, 0);
+    swapcontext(&here, &there);
+    size_t lowest = 0;
+    while (stack[lowest] == PAINT) {
+        lowest++;
+    }
+    if (lowest == 0) {
+        fprintf(stderr, "painted: %s used all of the stack\n", name);
+        exit(1);
+    }
+    printf("%s %zu\n", name, (size_t)(return_address + 8 - (uintptr_t)(stack + lowest)));
+    return answer == 0;
+}
+
+static void use_blob(const char *path) {
+    FILE *file = fopen(path, "rb");
+    if (file == NULL) {
+        perror(path);
+        exit(1);
+    }
+    size = fread(blob, 1, BYTES, file);
+    fclose(file);
+    used("lerc2_read", call_read);
+    if (!used("lerc2_read_header", call_read_header) || !used("lerc2_prepare_mask", call_prepare_mask)) {
+        return;
+    }
+    mask = said[0] == LERC2_KEPT ? kept : spare;
+    length = said[1];
+    if (!used("lerc2_read_ranges", call_read_ranges) || !used("lerc2_walk", call_walk)) {
+        return;
+    }
+    count = said[0];
+    used("lerc2_fill", call_fill);
+}
+
+int main(int words, char **word) {
+    for (int n = 1; n < words; n++) {
+        use_blob(word[n]);
+    }
+    used("lerc2_sum", call_sum);
+    used("lerc2_scaled", call_scaled);
+    used("lerc2_narrow", call_narrow);
+    used("lerc2_number", call_number);
+    used("lerc2_stored", call_stored);
+    return 0;
+}

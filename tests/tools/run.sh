@@ -1,0 +1,439 @@
+#!/bin/sh
+# Tests the scripts and programs around the reader: ./lerc2, the archive and who links it, wrong words, lost outputs, the stack.
+#     tests/tools/run.sh       less than a minute; ends in 'N passed, M failed', with status 1 where M is not 0
+# Proving takes minutes, so a stand-in for the kit (tests/tools/rt) says what it is told to. What needs cargo, gcc or a proved
+# archive that is not there is named as not tried.
+set -u
+here=$(cd "$(dirname "$(readlink -f "$0")")/../.." && pwd)
+ROOM=$(mktemp -d) || exit 2
+export ROOM
+trap 'chmod -R u+w "$ROOM"; rm -rf "$ROOM"' EXIT
+chmod 755 "$ROOM"
+unset RATTLE_HOME LERC2_LIBDIR ESRI
+passed=0 failed=0
+out=$ROOM/out err=$ROOM/err
+
+# ---- what is expected
+pass() { passed=$((passed + 1)); }
+fail() { # WHAT
+    failed=$((failed + 1))
+    printf 'FAILED: %s\n' "$1"
+    sed 's/^/    | /' "$out" "$err" | head -n 12
+}
+not_tried() { printf 'not tried: %s\n' "$1"; }
+
+# runs COMMAND, keeps what it writes, and holds its status to STATUS
+gives() { # WHAT STATUS COMMAND...
+    what=$1 wanted=$2
+    shift 2
+    "$@" >"$out" 2>"$err"
+    found=$?
+    if [ "$found" -eq "$wanted" ]; then pass; else fail "$what: status $found, and not $wanted"; fi
+}
+holds() { # WHAT COMMAND...
+    what=$1
+    shift
+    if "$@" >/dev/null 2>&1; then pass; else fail "$what"; fi
+}
+says() { # WHAT WORDS: in what the last command wrote to standard error
+    if grep -qF -- "$2" "$err"; then pass; else fail "$1: does not say '$2'"; fi
+}
+is_silent() { if [ -s "$err" ]; then fail "$1: says something"; else pass; fi; } # WHAT
+writes() { if [ "$(cat "$out")" = "$2" ]; then pass; else fail "$1: writes something else"; fi; } # WHAT TEXT
+
+# ---- a repository of three small crates, and a kit
+kit=$ROOM/kit repo="$ROOM/a repository"
+lib=$kit/on/$(uname -m)/toolchain/lib
+mkdir -p "$kit/bin" "$lib" "$repo/crates/low/src" "$repo/crates/lerc2/src" "$repo/crates/lerc_c/src" "$repo/crates/lerc2/must-fail"
+cp "$here/tests/tools/rt" "$kit/bin/rt"
+printf '#!/bin/sh\nshift 2\nexec "$@"\n' >"$lib/ld-linux-x86-64.so.2"
+chmod +x "$lib/ld-linux-x86-64.so.2"
+plain_path=$PATH
+PATH=$kit/bin:$PATH
+echo 'kit 1' >"$ROOM/kit-id"
+echo good >"$ROOM/mode"
+: >"$ROOM/asked"
+cp -r "$here/lerc2" "$here/tools" "$repo"
+printf '# a comment\nlow:\nlerc2: low io\nlerc_c: low\n' >"$repo/crates.txt"
+echo 'one' >"$repo/crates/low/src/lib.rt"
+echo 'two' >"$repo/crates/lerc_c/src/lib.rt"
+decodes='width 1
+cell 0 7
+end 71'
+program() { printf '%s\n' "$@" >"$repo/crates/lerc2/src/main.rt"; } # LINE...
+right() { program 'cat >/dev/null' "printf 'width 1\\ncell 0 7\\nend 71\\n'"; }
+right
+echo blob >"$ROOM/blob"
+asked() { wc -l <"$ROOM/asked"; }
+call() { "$repo/lerc2" <"$ROOM/blob"; }
+tree() { (cd "$repo" && find . -exec ls -ld --time-style=full-iso {} + | sort; find . -type f -exec sha256sum {} + | sort); }
+
+# ---- ./lerc2: the first call, and those after it
+gives 'first call' 0 call
+writes 'first call' "$decodes"
+says 'first call' "lerc2: proving the program's 2 crates"
+says 'first call' 'lerc2: proved 1 of 2: low (3 s)'
+says 'first call' 'lerc2: proved 2 of 2: lerc2 (4 s)'
+before=$(tree) count=$(asked)
+gives 'fresh call' 0 call
+writes 'fresh call' "$decodes"
+is_silent 'fresh call'
+holds 'a fresh call asks rt for no check' [ "$(asked)" -eq "$count" ]
+holds 'a fresh call writes nothing' [ "$(tree)" = "$before" ]
+touch "$repo/crates/low/src/lib.rt"
+echo 'a wrong body' >"$repo/crates/lerc2/must-fail/bodies.edit"
+gives 'sources touched, none changed' 0 call
+is_silent 'sources touched, none changed'
+
+# ---- statuses
+lost() { "$repo/lerc2" "$@" <"$ROOM/blob" >/dev/full; }
+closed() { "$repo/lerc2" "$@" <"$ROOM/blob" >&-; }
+gives 'output to a full device' 3 lost
+says 'output to a full device' 'lerc2: the output could not be written'
+gives 'output closed' 3 closed
+gives 'help to a full device' 3 lost --help
+gives 'help' 0 "$repo/lerc2" --help
+for status in '0 decoded' '1 refused' '2 not run' '3 the output was lost'; do
+    holds "help names status $status" grep -q "$status" "$out"
+done
+gives 'unknown word' 2 "$repo/lerc2" tile.lerc2
+gives 'unknown word after --help' 2 "$repo/lerc2" --help more
+no_input() { "$repo/lerc2" <&-; }
+gives 'input closed' 2 no_input
+folder_in() { "$repo/lerc2" <"$ROOM"; }
+gives 'a folder as input' 2 folder_in
+mkdir "$ROOM/bare"
+for tool in sh awk basename cat cut dirname find grep mkdir readlink sed sha256sum sort uname wc; do
+    ln -s "$(command -v "$tool")" "$ROOM/bare/$tool"
+done
+without_kit() { PATH=$ROOM/bare "$repo/lerc2" <"$ROOM/blob"; }
+gives 'no kit on the path' 2 without_kit
+says 'no kit on the path' "'rt'"
+without_lock() { PATH=$ROOM/bare:$kit/bin "$repo/lerc2" <"$ROOM/blob"; }
+program "printf 'end 1\\n'"
+gives 'no lock to be had' 2 without_lock
+says 'no lock to be had' "'flock'"
+right
+
+# ---- links
+ln -s "$repo/lerc2" "$ROOM/lerc2"
+mkdir "$ROOM/bin"
+ln -s ../lerc2 "$ROOM/bin/lerc2"
+by_link() { (cd / && "$ROOM/bin/lerc2" <"$ROOM/blob"); }
+by_path() { (cd / && PATH=$ROOM/bin:$PATH && lerc2 <"$ROOM/blob"); }
+gives 'by a link to a link' 0 by_link
+writes 'by a link to a link' "$decodes"
+gives 'by the path' 0 by_path
+
+# ---- a check that fails: nothing is run, however often it is called
+count=$(asked)
+program "printf 'cell 0 8\\nend 71\\n'"
+echo fails >"$ROOM/mode"
+gives 'failed check' 2 call
+writes 'failed check' ''
+says 'failed check' 'crates/lerc2/src/main.rt:1:1: error: it is false'
+says 'failed check' "'rt check lerc2' failed"
+gives 'failed check, called again' 2 call
+writes 'failed check, called again' ''
+holds 'rt is asked each time' [ "$(asked)" -eq $((count + 2)) ]
+right
+gives 'the edit taken back' 0 call
+writes 'the edit taken back' "$decodes"
+echo good >"$ROOM/mode"
+rm "$repo/target/proved/lerc2"
+gives 'the kept program removed' 0 call
+writes 'the kept program removed' "$decodes"
+rm "$repo/target/proved/lerc2" "$repo/target/bin/lerc2"
+gives 'both programs removed, the stamp there' 0 call
+writes 'both programs removed, the stamp there' "$decodes"
+printf 'garbage' >>"$repo/target/proved/lerc2"
+gives 'the kept program changed' 0 call
+writes 'the kept program changed' "$decodes"
+count=$(asked)
+echo 'kit 2' >"$ROOM/kit-id"
+gives 'another kit' 0 call
+holds 'another kit is asked' [ "$(asked)" -gt "$count" ]
+echo edits >"$ROOM/mode"
+program 'cat >/dev/null' "printf 'width 1\\ncell 0 7\\nend 71\\n' # edits"
+gives 'sources changed while they are proved' 2 call
+says 'sources changed while they are proved' 'the sources were changed'
+echo good >"$ROOM/mode"
+gives 'and called again' 0 call
+
+# ---- broken off: nothing is left running, and the next call proves
+echo hangs >"$ROOM/mode"
+program 'cat >/dev/null' "printf 'width 1\\ncell 0 7\\nend 71\\n' # hangs"
+rm -f "$ROOM/prover"
+"$repo/lerc2" <"$ROOM/blob" >"$out" 2>"$err" &
+caller=$!
+for _ in 1 2 3 4 5 6 7 8 9 10 11 12 13 14 15 16 17 18 19 20; do
+    [ -s "$ROOM/prover" ] && break
+    sleep 0.2
+done
+kill -TERM "$caller"
+wait "$caller" 2>/dev/null
+broken=$?
+holds "broken off: status $broken" [ "$broken" -ne 0 ]
+says 'broken off' 'lerc2: broken off'
+sleep 0.2
+# one that has ended may stand in the list until its new parent looks
+case $(cut -d ' ' -f 3 "/proc/$(cat "$ROOM/prover")/stat" 2>/dev/null) in
+'' | Z) pass ;;
+*) fail 'broken off: the prover goes on' ;;
+esac
+count=$(asked)
+echo good >"$ROOM/mode"
+gives 'after one that was broken off' 0 call
+writes 'after one that was broken off' "$decodes"
+holds 'after one that was broken off rt is asked' [ "$(asked)" -gt "$count" ]
+
+# ---- two at once: one proves, both run
+echo late >"$ROOM/mode"
+program 'cat >/dev/null' "printf 'width 1\\ncell 0 7\\nend 71\\n' # late"
+count=$(asked)
+call >"$ROOM/out1" 2>"$ROOM/err1" &
+one=$!
+call >"$out" 2>"$err" &
+other=$!
+wait "$one"
+holds 'two at once, one' [ $? -eq 0 ]
+wait "$other"
+holds 'two at once, the other' [ $? -eq 0 ]
+writes 'two at once' "$decodes"
+holds 'two at once, the same text' cmp -s "$out" "$ROOM/out1"
+holds 'two at once, one proof' [ "$(asked)" -eq $((count + 1)) ]
+echo good >"$ROOM/mode"
+
+# ---- a repository that cannot be written: what was proved runs, nothing else
+chmod -R a-w "$repo"
+as_other=''
+if [ "$(id -u)" -eq 0 ]; then as_other='setpriv --reuid=65534 --regid=65534 --clear-groups'; fi
+# shellcheck disable=SC2086
+read_only() { $as_other "$repo/lerc2" <"$ROOM/blob"; }
+if [ "$(id -u)" -ne 0 ] || $as_other true 2>/dev/null; then
+    gives 'read-only and proved' 0 read_only
+    writes 'read-only and proved' "$decodes"
+    echo 'kit 3' >"$ROOM/kit-id"
+    gives 'read-only and not proved' 2 read_only
+    says 'read-only and not proved' 'cannot be written'
+    echo 'kit 2' >"$ROOM/kit-id"
+else
+    not_tried 'a repository that cannot be written (root without setpriv)'
+fi
+chmod -R u+w "$repo"
+
+# ---- texts that have no end, and programs that fail
+program "printf 'width 1\\ncell 0 7\\n'"
+gives 'a text without an end' 2 call
+writes 'a text without an end' ''
+program 'exit 3'
+gives 'a program that fails' 2 call
+program "printf 'refused 8\\n'"
+gives 'a refusal' 1 call
+writes 'a refusal' 'refused 8'
+gives 'a refusal to a full device' 3 lost
+right
+
+# ---- the archive, and who links it
+archive=$repo/target/staticlib/liblerc_c.a
+gives 'no archive' 1 "$repo/tools/archive.sh" --check
+says 'no archive' 'is not there'
+gives 'the archive is made' 0 "$repo/tools/archive.sh"
+says 'the archive is made' 'archive: proved 1 of 2: low (3 s)'
+gives 'the archive is of the sources' 0 "$repo/tools/archive.sh" --check
+is_silent 'the archive is of the sources'
+count=$(asked)
+gives 'the archive is not made twice' 0 "$repo/tools/archive.sh"
+holds 'no second proof' [ "$(asked)" -eq "$count" ]
+echo 'edited' >>"$repo/crates/low/src/lib.rt"
+gives 'a stale archive' 1 "$repo/tools/archive.sh" --check
+says 'a stale archive' 'is not made from the sources as they are'
+sed -i '/^edited$/d' "$repo/crates/low/src/lib.rt"
+gives 'the edit taken back, the archive' 0 "$repo/tools/archive.sh" --check
+cp "$archive" "$ROOM/kept.a"
+echo more >>"$archive"
+gives 'another archive in its place' 1 "$repo/tools/archive.sh" --check
+cp "$ROOM/kept.a" "$archive"
+gives 'and back' 0 "$repo/tools/archive.sh" --check
+gives 'an unknown word, the archive' 2 "$repo/tools/archive.sh" --chek
+echo fails >"$ROOM/mode"
+echo 'edited' >>"$repo/crates/lerc_c/src/lib.rt"
+gives 'the archive cannot be proved' 2 "$repo/tools/archive.sh"
+gives 'and is not taken' 1 "$repo/tools/archive.sh" --check
+if command -v gcc >/dev/null; then
+    cp -r "$here/examples" "$here/include" "$repo"
+    gives 'examples over an archive that cannot be proved' 2 "$repo/examples/build.sh"
+    holds 'are not built' [ ! -e "$repo/target/examples/read" ]
+    gives 'an unknown word, the examples' 2 "$repo/examples/build.sh" all
+fi
+if command -v cargo >/dev/null; then
+    mkdir -p "$repo/rust"
+    cp -r "$here/rust/lerc2" "$repo/rust" && rm -rf "$repo/rust/lerc2/target"
+    build() { cargo build --offline --quiet --manifest-path "$repo/rust/lerc2/Cargo.toml"; }
+    if [ "$(uname -m)" = x86_64 ]; then
+        gives 'rust over a stale archive' 101 build
+        says 'rust over a stale archive' 'is not made from the sources as they are'
+        says 'rust over a stale archive' 'tools/archive.sh'
+        echo good >"$ROOM/mode"
+        "$repo/tools/archive.sh" 2>/dev/null
+        gives 'rust over the archive of these sources' 0 build
+        echo 'edited' >>"$repo/crates/low/src/lib.rt"
+        gives 'rust after an edit' 101 build
+        named() { LERC2_LIBDIR=$ROOM/named cargo build --offline --manifest-path "$repo/rust/lerc2/Cargo.toml"; }
+        gives 'rust, a folder that is not there' 101 named
+        mkdir "$ROOM/named" && cp "$ROOM/kept.a" "$ROOM/named/liblerc_c.a"
+        gives 'rust, another archive by name' 0 named
+        says 'rust, another archive by name' 'not compared with the sources'
+    fi
+else
+    not_tried 'rust/lerc2 over a stale archive (no cargo)'
+fi
+
+# ---- wrong words, before anything is built or measured
+cd "$here" || exit 2
+PATH=$plain_path
+wrong_words() { # WORDS IN WHAT IT SAYS, COMMAND...
+    say_so=$1
+    shift
+    gives "$*" 2 "$@"
+    says "$*" "$say_so"
+}
+pictures=$(cat docs/*.svg | sha256sum)
+wrong_words 'usage: bench/whole.sh' bench/whole.sh nosuch
+wrong_words 'usage: bench/whole.sh' bench/whole.sh --svg "$ROOM/x.svg"
+wrong_words 'usage: bench/whole.sh' bench/whole.sh --rounds many
+wrong_words 'usage: bench/whole.sh' bench/whole.sh --plot "$ROOM/nosuch/x.svg"
+wrong_words 'usage: bench/arm64.sh' bench/arm64.sh nosuch
+wrong_words 'usage: bench/arm64.sh' bench/arm64.sh one nosuch
+wrong_words 'usage: bench/measure.sh' bench/measure.sh nosuch
+wrong_words 'usage: bench/profile.sh' bench/profile.sh
+wrong_words 'usage: bench/profile.sh' bench/profile.sh nosuch
+wrong_words 'usage: bench/profile.sh' bench/profile.sh README.md sideways
+wrong_words 'bench/native.sh NAME' bench/native.sh
+wrong_words 'no library nosuch' bench/native.sh nosuch
+wrong_words 'nosuch is no folder' tests/arm64.sh nosuch
+ln -s "$(command -v bash)" "$ROOM/bare/bash"
+missing() { PATH=$ROOM/bare "$@"; }
+gives 'whole.sh without cargo' 2 missing bench/whole.sh
+says 'whole.sh without cargo' 'cargo is not there'
+gives 'profile.sh without cargo' 2 missing bench/profile.sh README.md
+says 'profile.sh without cargo' 'cargo is not there'
+gives 'native.sh without the kit' 2 missing bench/native.sh lerc_c
+says 'native.sh without the kit' "'rt'"
+if command -v python3 >/dev/null; then
+    wrong_words 'no folder' python3 tests/c/run.py
+    wrong_words 'no program read in nosuch' python3 tests/c/run.py nosuch
+    mkdir "$ROOM/nothing"
+    for program in read blocks; do printf '#!/bin/sh\n' >"$ROOM/nothing/$program" && chmod +x "$ROOM/nothing/$program"; done
+    gives 'programs that write nothing differ' 1 python3 tests/c/run.py "$ROOM/nothing"
+    wrong_words 'usage: ' python3 tests/stack/run.py nosuch
+    # scripts that write stored cases: in a copy, since a wrong word must not change one
+    mkdir "$ROOM/stored"
+    cp -r tests "$ROOM/stored"
+    for part in header numeric fill read; do
+        mkdir -p "$ROOM/stored/crates" && cp -r "crates/lerc_${part}_cases" "$ROOM/stored/crates"
+    done
+    stored() { (cd "$ROOM/stored/crates" && find . -type f -exec sha256sum {} + | sort); }
+    stored_before=$(stored)
+    for part in header numeric fill read; do
+        make_cases() { (cd "$ROOM/stored" && python3 "tests/$part/make.py" "$@"); }
+        gives "tests/$part/make.py, an unknown word" 2 make_cases --help
+        holds "tests/$part/make.py changes nothing" [ "$(stored)" = "$stored_before" ]
+        gives "tests/$part/make.py" 0 make_cases
+        holds "tests/$part/make.py makes what is stored" [ "$(stored)" = "$stored_before" ]
+    done
+else
+    not_tried 'tests/c/run.py and tests/stack/run.py (no python3)'
+fi
+
+# ---- the stack: what is read off small pieces of code, and what is given up
+code() { # TEXT OF C, GCC'S WORDS...: an archive of it
+    printf '%s\n' "$1" >"$ROOM/code.c"
+    shift
+    rm -f "$ROOM/code.a"
+    gcc -fno-inline -ffunction-sections -fstack-usage "$@" -c "$ROOM/code.c" -o "$ROOM/code.o" && ar rcs "$ROOM/code.a" "$ROOM/code.o"
+}
+frame() { awk -v name="$1" '$1 ~ ":" name "$" { print $2 }' "$ROOM/frames"; } # NAME
+given_up() { # WORDS TEXT OF C
+    code "$2" -O1
+    gives "stack: $1" 2 python3 tests/stack/run.py "$ROOM/code.a"
+    says "stack: $1" "$1"
+}
+need_of() { # NAME: what is read off
+    (cd tests/stack && python3 -c "import run, sys; print(run.needs(sys.argv[1])[sys.argv[2]][0])" "$ROOM/code.a" "$1")
+}
+if command -v python3 >/dev/null && command -v gcc >/dev/null && command -v objdump >/dev/null && [ "$(uname -m)" = x86_64 ]; then
+    PYTHONDONTWRITEBYTECODE=1
+    export PYTHONDONTWRITEBYTECODE
+    given_up 'a call whose goal is not known' 'int lerc2_a(int (*f)(int)) { return f(1) + f(2); }'
+    given_up 'calls itself' 'int lerc2_a(int n) { return n < 2 ? n : lerc2_a(n - 1) + lerc2_a(n - 2); }'
+    given_up 'changes the stack' 'void *memset(void *, int, unsigned long); char lerc2_a(unsigned n) { char *p = __builtin_alloca(n); memset(p, 1, n); return p[n / 2]; }'
+    given_up 'other is not in the archive' 'int other(int); int lerc2_a(int n) { return other(n) + other(n + 1); }'
+    given_up 'has no function lerc2_*' 'int a(int n) { return n; }'
+    # frames as gcc counts them add up along the calls, in the red zone or not; a jump to another function adds nothing
+    for zone in -mno-red-zone -mred-zone; do
+        code 'int low(volatile char *p) { volatile char a[1000]; a[0] = p[0]; return a[0] + a[1]; }
+int lerc2_deep(int n) { volatile char b[500]; b[0] = (char)n; return low(b) + n; }
+int lerc2_jump(volatile char *p) { return low(p); }' -O2 "$zone"
+        [ "$zone" = -mred-zone ] || cp "$ROOM/code.su" "$ROOM/frames"
+        low=$(frame low) deep=$(frame lerc2_deep)
+        holds "stack: frames add up, $zone" [ "$(need_of lerc2_deep)" -eq $((low + deep)) ]
+        holds "stack: a jump to another function, $zone" [ "$(need_of lerc2_jump)" -eq "$low" ]
+    done
+    if tools/archive.sh --check 2>/dev/null; then
+        gives 'the stack of the proved reader' 0 python3 tests/stack/run.py
+    else
+        not_tried 'the stack of the proved reader (tools/archive.sh makes the archive)'
+    fi
+else
+    not_tried 'the stack (python3, gcc or objdump is missing, or this is not x86-64)'
+fi
+
+# ---- programs over the proved archive
+if command -v cargo >/dev/null && command -v gcc >/dev/null && tools/archive.sh --check 2>/dev/null; then
+    compare() { cargo run --offline --quiet --release -j1 --manifest-path compare/Cargo.toml -- "$@"; }
+    wrong_words 'compare: ' compare
+    wrong_words 'unknown word nosuch' compare nosuch
+    wrong_words 'unknown word --call' compare run --call 5
+    wrong_words 'there is no NAME.lerc2' compare folder "$ROOM/bin"
+    wrong_words 'nosuch: ' compare folder nosuch
+    wrong_words 'no line says which operation' compare replay /dev/null
+    mkdir "$ROOM/blobs"
+    cp crates/lerc2/stdin "$ROOM/blobs/rules.lerc2"
+    gives 'compare folder' 0 compare folder "$ROOM/blobs"
+    holds 'compare folder counts disagreements' grep -q ' calls on 1 blobs, 0 disagreements$' "$out"
+    gives 'the examples' 0 examples/build.sh
+    for program in read blocks; do
+        lost_by() { "target/examples/$program" <crates/lerc2/stdin >/dev/full; }
+        gives "examples/$program.c to a full device" 3 lost_by
+    done
+    cargo build --offline --quiet --release -j1 --manifest-path second/Cargo.toml
+    plain() { second/target/release/second <crates/lerc2/stdin; }
+    plain_lost() { plain >/dev/full; }
+    gives 'the plain reader' 0 plain
+    gives 'the plain reader, an unknown word' 2 second/target/release/second nosuch
+    gives 'the plain reader to a full device' 3 plain_lost
+    # blobs that are refused and images without a valid cell are named; no picture is drawn unasked
+    printf 'Lerc2' >"$ROOM/blobs/small-cut.lerc2"
+    cp crates/lerc2/stdin "$ROOM/blobs/small-rules.lerc2"
+    # the header of the same blob with valid 0 and size 70
+    {
+        head -c 26 crates/lerc2/stdin
+        printf '\000\000\000\000'
+        tail -c +31 crates/lerc2/stdin | head -c 4
+        printf '\106\000\000\000'
+        tail -c +39 crates/lerc2/stdin | head -c 32
+    } >"$ROOM/blobs/small-empty.lerc2"
+    gives 'measuring' 0 bench/whole.sh "$ROOM/blobs" --only small --rounds 1 --no-counts
+    holds 'what is left out is named' grep -q '^Left out, read (refused 1): small-cut$' "$out"
+    holds 'an image without a valid cell is named' grep -q '^Left out, read (no cell is valid): small-empty$' "$out"
+    holds 'no number is infinite' test -z "$(grep -i 'inf\|nan' "$out")"
+    gives 'measuring with a picture' 0 bench/whole.sh "$ROOM/blobs" --only small-rules --rounds 1 --no-counts --plot "$ROOM/x.svg"
+    holds 'the picture is where it was asked for' [ -s "$ROOM/x.svg" ]
+else
+    not_tried 'compare, the examples, the plain reader and measuring (cargo, gcc or the archive is missing)'
+fi
+holds 'the pictures of docs/ are as they were' [ "$(cat docs/*.svg | sha256sum)" = "$pictures" ]
+
+echo "$passed passed, $failed failed"
+[ "$failed" -eq 0 ]
