@@ -9,6 +9,7 @@ demand-three = record {
   opened-by-walk = calls.opened-by-walk;
   opened-by-read = calls.opened-by-read;
   any-order = calls.any-order;
+  fill-own = calls.fill-own;
   mask-handed = fills.mask-handed;
   walk-lists = fills.listed;
   fill-accepts = λ x o. fills.accepts x o (x .image) (o .room);
@@ -19,7 +20,9 @@ demand-three = record {
   fills-exact = fills.exact;
   fills-order = fills.order;
   fills-each = fills.by-each;
+  each-as-calls = fills.as-calls;
   fills-complete = fills.complete;
   tiles-exact = fills.by-tiles;
   words-sum = fills.words-add;
+  words-once = fills.words-once;
 }

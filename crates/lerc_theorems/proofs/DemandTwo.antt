@@ -54,7 +54,7 @@ use Rattle.lerc_theorems.proofs.SameAnswers.{header-same, mask-same, wa
 use Rattle.lerc_theorems.proofs.Calls.{header-call, prepare-call, handed-call, ranges-call, ranges-from, walk-call, read-call}
 use Rattle.lerc_theorems.proofs.Longer.{alike-take, walk-same as longer-walk}
 use Rattle.lerc_theorems.proofs.Bodies.{BlocksCoded, coded-is, starts-up, starts-end}
-use Rattle.lerc_theorems.proofs.Meanings.{Means, meaning-is, means-is, keeps, mask-kept, ends, Rooms, rooms, read-is, kept-unread, meaning-same, means-front}
+use Rattle.lerc_theorems.proofs.Meanings.{Means, meaning-is, means-is, keeps, mask-kept, ends, Rooms, rooms, read-is, kept-front, kept-unread, meaning-same, means-front}
 use Rattle.lerc_theorems.proofs.Unread.{unread}
 use Rattle.lerc_theorems.proofs.Nine.{nine-flat, flat-nine}
 use Rattle.lerc_theorems.proofs.Fills.{walk-is, walked-body, means-walking, walking-says, left-is, left-long, left-starts}
@@ -313,6 +313,7 @@ demand-two = record {
   below-size = λ b c reuse kept n p q e. meaning-same b c n p e q reuse kept;
   behind-end = λ b c reuse kept m e q l. means-is c reuse kept m (means-front b reuse kept m (meaning-is b reuse kept m e) c q l);
   unread = unread;
+  kept-front = kept-front;
   kept-unread = kept-unread;
   end-bounds = λ b reuse kept m e. ends b reuse kept m (meaning-is b reuse kept m e);
   starts-rise = rise;

@@ -3,13 +3,13 @@
 use mathlib.Core.Path.{_≡_, _∙_, sym, ap, refl}
 use mathlib.Core.Bool.{Bool, true, false, not, cond, _&&_}
 use mathlib.Core.List.{List, [], _∷_}
-use Prim.Native.Nat.{ℕ, zero, suc, _+_, _≤_, _<_}
+use Prim.Native.Nat.{ℕ, zero, suc, _+_, _*_, _≤_, _<_}
 use native.Mathlib.Decide.{decLt}
-use native.Mathlib.Nat.{zero-add}
+use native.Mathlib.Nat.{zero-add, add-zero, zero-mul, one-mul}
 use native.Mathlib.Omega.{arith}
 use lib.ListN.{length, getD, take, drop, List·getD-append, length-append}
-use lib.Dec.{leb, ltb}
-use borrow.Author.Tests.{le-leb, lt-ltb, le-ltb, leb-true, ltb-true}
+use lib.Dec.{leb, ltb, eqb}
+use borrow.Author.Tests.{le-leb, lt-ltb, le-ltb, leb-true, ltb-true, eq-eqb, ne-eqb}
 use Rattle.lerc_words.specs.Res.{ok, fail, refuse, require}
 use Rattle.lerc_words.specs.Lists.{over, total}
 use Rattle.lerc_words.proofs.Binding.{bind-is, require-is, and-is, ok-is}
@@ -139,7 +139,7 @@ module _ (b : List ℕ) (h : Header) (r : Ranges) (m : List ℕ) (entries : ℕ)
 
   module _ (list : List ℕ) (long : blockCount (shapeOf h) ≤ length list) (starts : (n : ℕ) → n < blockCount (shapeOf h) → getD list n 0 ≡ getD (c .starts) n 0) where
     module _ (n room : ℕ) (l : n < blockCount (shapeOf h)) (q : cells (shapeOf h) ≤ room) where
-      here : blockAt (take (h .size) b) h (r .max) m n (getD list n 0) ≡ ok (record { words = wordsOf n; next = getD (c .starts) (suc n) (c .end) })
+      pub here : blockAt (take (h .size) b) h (r .max) m n (getD list n 0) ≡ ok (record { words = wordsOf n; next = getD (c .starts) (suc n) (c .end) })
       here =
           let s = take (h .size) b in
           let k = blockCount (shapeOf h) in
@@ -206,3 +206,33 @@ pub total-same : (n : ℕ) (f g : ℕ → ℕ) → ((i : ℕ) → i < n → f i 
 unfolding total
 total-same zero f g p = refl
 total-same (suc n) f g p = rw (total-same n f g (λ i l. p i (omega arith)), p n (omega arith))
+
+pub total-plus : (n : ℕ) (f g : ℕ → ℕ) → total n f + total n g ≡ total n (λ i. f i + g i)
+unfolding total
+total-plus zero f g = refl
+total-plus (suc n) f g = rw (← total-plus n f g) (omega arith)
+
+pub total-none : (n : ℕ) (f : ℕ → ℕ) → ((i : ℕ) → i < n → f i ≡ 0) → total n f ≡ 0
+unfolding total
+total-none zero f p = refl
+total-none (suc n) f p = rw (total-none n f (λ i l. p i (omega arith)), p n (omega arith))
+
+-- a sum that picks one number out
+picked-none : (n i : ℕ) (f : ℕ → ℕ) → n ≤ i → total n (λ k. cond (eqb k i) 1 0 * f k) ≡ 0
+picked-none n i f l = total-none n _ (λ k q. rw (ne-eqb k i (λ e. let y : k ≡ i = e in absurd (omega arith))) (zero-mul (f k)))
+
+picked : (n i : ℕ) (f : ℕ → ℕ) → i < n → total n (λ k. cond (eqb k i) 1 0 * f k) ≡ f i
+unfolding total
+picked zero i f l = absurd (omega arith)
+picked (suc n) i f l = go (decLt i n) (picked n i f)
+  where
+    go : Dec (i < n) → (i < n → total n (λ k. cond (eqb k i) 1 0 * f k) ≡ f i) → total n (λ k. cond (eqb k i) 1 0 * f k) + cond (eqb n i) 1 0 * f n ≡ f i
+    go (yes q) r = rw (r q, ne-eqb n i (λ e. let y : n ≡ i = e in absurd (omega arith)), zero-mul) (add-zero (f i))
+    go (no q) r = let y : n ≡ i = omega arith in rw (picked-none n i f (omega arith), eq-eqb n i y, one-mul, zero-add, y)
+
+pub once : (n i : ℕ) (f : ℕ → ℕ) → (n ≤ i → f i ≡ 0) → total n (λ k. cond (eqb k i) 1 0 * f k) ≡ f i
+once n i f z = go (decLt i n)
+  where
+    go : Dec (i < n) → total n (λ k. cond (eqb k i) 1 0 * f k) ≡ f i
+    go (yes l) = picked n i f l
+    go (no l) = picked-none n i f (omega arith) ∙ sym (z (omega arith))

@@ -199,11 +199,11 @@ module _ {s t : List ℕ} {j k : ℕ} (a : Agree s t j k) where
 
 -- ---- ranges, and the body
 
-module _ {s t : List ℕ} {k : ℕ} (a : Agree s t 0 k) where
+module _ {s t : List ℕ} {j k : ℕ} (a : Agree s t j k) where
   module _ (h : Header) where
-    depth-agrees : (at d : ℕ) → at + h .depth * typeSize (h .kind) ≤ k → byDepth (h .depth) (numberAt (h .kind) s at) d ≡ byDepth (h .depth) (numberAt (h .kind) t at) d
+    depth-agrees : (at d : ℕ) → j ≤ at → at + h .depth * typeSize (h .kind) ≤ k → byDepth (h .depth) (numberAt (h .kind) s at) d ≡ byDepth (h .depth) (numberAt (h .kind) t at) d
     unfolding byDepth numberAt
-    depth-agrees at d l = tabulate-same depthLimit _ _ (λ i _. go i (ltb i (h .depth)) refl)
+    depth-agrees at d o l = tabulate-same depthLimit _ _ (λ i _. go i (ltb i (h .depth)) refl)
       where
         go : (i : ℕ) (x : Bool) → ltb i (h .depth) ≡ x
             → cond x (valueOf (h .kind) (little (typeSize (h .kind)) s (at + i * typeSize (h .kind)))) d ≡ cond x (valueOf (h .kind) (little (typeSize (h .kind)) t (at + i * typeSize (h .kind)))) d
@@ -214,10 +214,12 @@ module _ {s t : List ℕ} {k : ℕ} (a : Agree s t 0 k) where
             let y : at + i * z + z ≤ k = omega (arith, m, suc-mul i z) in
             ap (valueOf (h .kind)) (little-agrees a z (at + i * z) (omega arith) y)
 
-    coded-agrees : rangesEnd h ≤ k → codedRanges s h ≡ codedRanges t h
+    pub coded-agrees : j ≤ rangesAt h → rangesEnd h ≤ k → codedRanges s h ≡ codedRanges t h
     unfolding codedRanges
-    coded-agrees l = rw (depth-agrees (rangesAt h) (h .min) (omega arith), depth-agrees (maximaAt h) (h .max) (omega arith))
+    coded-agrees o l = rw (depth-agrees (rangesAt h) (h .min) o (omega arith), depth-agrees (maximaAt h) (h .max) (omega arith) (omega arith))
 
+module _ {s t : List ℕ} {k : ℕ} (a : Agree s t 0 k) where
+  module _ (h : Header) where
     pub ranges-agrees : (r : Ranges) → r .at ≤ k → rangesSays s h ≡ ok r → rangesSays t h ≡ ok r
     unfolding rangesSays codedRanges
     ranges-agrees r l = go (same (h .min) (h .max))
@@ -231,7 +233,7 @@ module _ {s t : List ℕ} {k : ℕ} (a : Agree s t 0 k) where
             let (_, q, e) = bind-is (require (pairsRight (h .depth) (codedRanges s h)) 7) _ e in
             let z : rangesEnd h ≡ r .at = ap (λ (x : Ranges). x .at) (ok-is e) in
             let y : rangesEnd h ≤ length t = omega (arith, a .room, z) in
-            rw (le-leb _ _ y, ← coded-agrees (omega (arith, z)), require-is (pairsRight (h .depth) (codedRanges s h)) 7 q) e
+            rw (le-leb _ _ y, ← coded-agrees a h (omega arith) (omega (arith, z)), require-is (pairsRight (h .depth) (codedRanges s h)) 7 q) e
 
     -- ---- the body
 

@@ -83,7 +83,7 @@ module _ (b : List ℕ) (h : Header) (w : held h (length b) ≡ ok (extentOf h))
   shaped : Shaped (shapeOf h)
   shaped = held-shaped h (length b) w
 
-  block-same : (s maxima : List ℕ) (n at : ℕ) → n < blockCount (shapeOf h) → blockAt s h maxima m n at ≡ blockAt s h maxima q n at
+  pub block-same : (s maxima : List ℕ) (n at : ℕ) → n < blockCount (shapeOf h) → blockAt s h maxima m n at ≡ blockAt s h maxima q n at
   unfolding blockAt
   block-same s maxima n at l = rw (tile-same (shapeOf h) shaped m q a n l)
 

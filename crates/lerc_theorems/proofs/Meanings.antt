@@ -73,9 +73,15 @@ module _ (b : List ℕ) (reuse : Bool) (kept : List ℕ) (m : Meaning) (k : Mean
       let i = body-ends (take (m .header .size) b) (m .header) (bytesOf (m .mask)) (m .body) pairs-kept l (k .body) in
       (i .0, rw (declared) at (i .1), size .1)
 
--- ---- without reuse
+-- ---- the kept mask
 
--- the kept mask is not looked at
+-- the kept mask's first bytes alone are looked at, as many as the mask has
+pub kept-front : (b : List ℕ) (reuse : Bool) (kept other : List ℕ) (h : Header) → headerSays b ≡ ok h → take (maskLength (shapeOf h)) kept ≡ take (maskLength (shapeOf h)) other
+    → meaning b reuse kept ≡ meaning b reuse other
+unfolding meaning maskSays keptMask
+kept-front b reuse kept other h e same = rw (e, same)
+
+-- and without reuse none of it
 pub kept-unread : (b kept other : List ℕ) → meaning b false kept ≡ meaning b false other
 unfolding meaning maskSays keptMask
 kept-unread b kept other = refl

@@ -3,19 +3,20 @@
 use mathlib.Core.Path.{_≡_, _∙_, sym, ap, refl}
 use mathlib.Core.Bool.{Bool, true, false, cond, _&&_}
 use mathlib.Core.List.{List, [], _∷_, map}
-use Prim.Native.Nat.{ℕ, _*_, _≤_, _<_}
+use Prim.Native.Nat.{ℕ, suc, _+_, _*_, _≤_, _<_}
 use native.Mathlib.Decide.{decLt}
-use native.Mathlib.Nat.{mul-le-mul}
+use native.Mathlib.Nat.{zero-add, zero-mul, one-mul, add-mul, mul-le-mul}
 use native.Mathlib.Omega.{arith}
 use lib.ListN.{length, getD, take}
-use borrow.Author.Tests.{le-leb, lt-ltb, le-ltb}
-use Rattle.lerc_words.specs.Res.{Res, ok, _>>=_, refuse, after}
+use lib.Dec.{ltb, eqb}
+use borrow.Author.Tests.{le-leb, lt-ltb, le-ltb, ltb-true}
+use Rattle.lerc_words.specs.Res.{Res, ok, _>>=_, refuse, require, after, accepts as accepted}
 use Rattle.lerc_words.specs.Lists.{over, count, total}
-use Rattle.lerc_words.proofs.Binding.{ok-is}
+use Rattle.lerc_words.proofs.Binding.{bind-is, bind-counts, require-is, ok-is}
 use Rattle.lerc_header.specs.declared.Header.{Header}
 use Rattle.lerc_header.specs.Shape.{cells, blockCount, Shaped}
-use Rattle.lerc_header.specs.Header.{shapeOf}
-use Rattle.lerc_header.proofs.Kept.{held-shaped}
+use Rattle.lerc_header.specs.Header.{shapeOf, held, extentOf}
+use Rattle.lerc_header.proofs.Kept.{held-is, held-shaped}
 use Rattle.lerc_ranges.specs.declared.Ranges.{Ranges}
 use Rattle.lerc_validity.specs.declared.MaskAnswer.{MaskAnswer}
 use Rattle.lerc_validity.specs.Validity.{MaskInForce, bytesOf, prepareSays}
@@ -26,7 +27,7 @@ use Rattle.lerc_image.specs.declared.WalkAnswer.{WalkAnswer}
 use Rattle.lerc_image.specs.declared.WalkAnswer.the-variants as walk-answer
 use Rattle.lerc_image.specs.Geometry.{blockOf, tileOf, validInTile, isValidCell}
 use Rattle.lerc_image.specs.Paint.{inBlock, among, painted, wordOf, fills}
-use Rattle.lerc_image.specs.Blocks.{Chain}
+use Rattle.lerc_image.specs.Blocks.{Chain, blockAt}
 use Rattle.lerc_image.specs.Fill.{fillSays, fillCount, fillSaid, fillImage}
 use Rattle.lerc_image.specs.Walk.{Walk, walkSays, walkCount}
 use Rattle.lerc_image.specs.Tiles.{tilesSays, tilesImage}
@@ -37,18 +38,18 @@ use Rattle.lerc_image.proofs.Painting.{length-painted, painted-cell}
 use Rattle.lerc_image.proofs.Upto.{valid-below}
 use Rattle.lerc_image.proofs.WordsSum as sums
 use Rattle.lerc_image.proofs.Fills as fills-laws
-use Rattle.lerc_fills.specs.Each.{fillEach}
-use Rattle.lerc_fills.proofs.Turns.{length-fill, length-each}
+use Rattle.lerc_fills.specs.Each.{filledOf, fillEach}
+use Rattle.lerc_fills.proofs.Turns.{length-fill, length-each, one-is}
 use Rattle.lerc.specs.Meaning.{Meaning, blocks, cellWord, meaning}
 use Rattle.lerc.specs.Read.{Lent, masked, readSays, published, readAfter}
-use Rattle.lerc_theorems.specs.Calls.{PrepareCall, HandedCall, FillCalls, none, more, EachCall, TilesCall, WalkCall}
-use Rattle.lerc_theorems.specs.DemandThree.{Case, Opened, CaseFill, CaseFills, CaseRead, answerTo, shape, inMask, blocksOf, reported, below}
+use Rattle.lerc_theorems.specs.Calls.{PrepareCall, HandedCall, FillCall, FillCalls, none, more, EachCall, TilesCall, WalkCall}
+use Rattle.lerc_theorems.specs.DemandThree.{Case, Opened, CaseFill, CaseFills, CaseRead, answerTo, reportedBy, times, filledAmong, shape, inMask, blocksOf, reported, below}
 use Rattle.lerc_theorems.specs.DemandTwo.{Roomy}
 use Rattle.lerc_theorems.proofs.SameAnswers.{fill-same, walk-same}
 use Rattle.lerc_theorems.proofs.Calls.{prepare-call, handed-call, ranges-from, walk-call, fill-call, fill-calls, each-call, tiles-call, read-call}
-use Rattle.lerc_theorems.proofs.Longer.{MaskAlike, alike-take, tile-same, valid-same, index-same, chain-same as longer-chain, fill-same as longer-fill, image-same as longer-image, each-same as longer-each, filled-same as longer-count}
-use Rattle.lerc_theorems.proofs.Meanings.{Means, meaning-is, mask-kept, read-is, kept-unread}
-use Rattle.lerc_theorems.proofs.Fills.{Walking, means-walking, fill-ok, fill-no, each-is, count-is, left-long, left-starts, total-same}
+use Rattle.lerc_theorems.proofs.Longer.{MaskAlike, alike-take, tile-same, valid-same, index-same, block-same as longer-block, chain-same as longer-chain, fill-same as longer-fill, image-same as longer-image, each-same as longer-each, filled-same as longer-count}
+use Rattle.lerc_theorems.proofs.Meanings.{Means, meaning-is, mask-kept, read-is, kept-front, kept-unread}
+use Rattle.lerc_theorems.proofs.Fills.{Walking, means-walking, here, fill-ok, fill-no, each-is, count-is, left-long, left-starts, total-same, total-plus, total-none, once}
 
 module _ (x : Case) (o : Opened x) where
   abbrev whole : Meaning
@@ -114,9 +115,6 @@ module _ (x : Case) (o : Opened x) where
       go (yes l) = rw (tile-same (shape x) shaped (x .mask) (inMask x) alike n l)
       go (no l) = rw (le-ltb n (blocksOf x) (omega arith))
 
-  pub reports : (n : ℕ) → n < blocksOf x → validInTile (shape x) (inMask x) (tileOf (shape x) n) ≡ count (cells (shape x)) (inBlock (shape x) (inMask x) n)
-  reports n l = sums.tile-count (shape x) shaped (inMask x) n l
-
   pub words-add : (said : ℕ → FillAnswer) (new : ℕ → List ℕ) → ((n : ℕ) → n < blocksOf x → CaseFill x n (said n) (x .image) (new n))
       → total (blocksOf x) (λ n. reported (said n)) ≡ x .header .valid * x .header .depth
   words-add said new f =
@@ -124,11 +122,36 @@ module _ (x : Case) (o : Opened x) where
       ∙ sums.words-sum (shape x) shaped (inMask x)
       ∙ ap (λ (v : ℕ). v * x .header .depth) (right .counts)
 
+  -- the block at its listed start, with the lent mask
+  pub block-is : (n : ℕ) → n < blocksOf x → blockAt (take (x .header .size) (x .blob)) (x .header) (x .ranges .max) (x .mask) n (getD (x .list) n 0)
+      ≡ ok (record { words = getD (x .chain .words) n []; next = getD (x .chain .starts) (suc n) (x .chain .end) })
+  block-is n l =
+      longer-block (x .blob) (x .header) (walk .kept) (x .mask) (inMask x) alike (take (x .header .size) (x .blob)) (x .ranges .max) n (getD (x .list) n 0) l
+      ∙ here _ _ _ _ _ _ walk (x .list) (o .long) (o .starts) n (cells (shape x)) l (omega arith)
+
+  -- the words of calls in a row
+  abbrev wordsAt : ℕ → ℕ
+  wordsAt n = reported (answerTo (shape x) (inMask x) n)
+
+  by-times : (ns : List ℕ) → reportedBy (map (answerTo (shape x) (inMask x)) ns) ≡ total (blocksOf x) (λ n. times n ns * wordsAt n)
+  by-times [] = sym (total-none (blocksOf x) _ (λ n l. zero-mul (wordsAt n)))
+  by-times (i ∷ ns) =
+      rw (by-times ns, ← once (blocksOf x) i wordsAt (λ l. rw (le-ltb i (blocksOf x) l)))
+      (total-plus (blocksOf x) _ _ ∙ total-same (blocksOf x) _ _ (λ n l. sym (add-mul (cond (eqb n i) 1 0) (times n ns) (wordsAt n))))
+
+  pub words-once : (ns : List ℕ) (said : List FillAnswer) (new : List ℕ) → CaseFills x ns said new → ((n : ℕ) → n < blocksOf x → times n ns ≡ 1) → reportedBy said ≡ x .header .valid * x .header .depth
+  words-once ns said new f each =
+      ap reportedBy (answered ns said (x .image) new (o .room) f)
+      ∙ by-times ns
+      ∙ total-same (blocksOf x) _ (λ n. validInTile (shape x) (inMask x) (tileOf (shape x) n)) (λ n l. rw (each n l, lt-ltb n (blocksOf x) l, one-mul))
+      ∙ sums.words-sum (shape x) shaped (inMask x)
+      ∙ ap (λ (v : ℕ). v * x .header .depth) (right .counts)
+
   -- ---- a whole read from the same start
 
   module _ (left : Lent) (c : CaseRead x left) where
     same-meaning : (t : Bool) → x .reuse ≡ t → meaning (x .blob) (x .reuse) (c .lent .kept) ≡ ok whole
-    same-meaning true e = rw (c .same-mask e) (o .means)
+    same-meaning true e = kept-front (x .blob) (x .reuse) (c .lent .kept) (x .kept) (x .header) (parts .header) (c .same-mask e) ∙ o .means
     same-meaning false e = rw (e, kept-unread (x .blob) (c .lent .kept) (x .kept)) (rw (e) at (o .means))
 
     read-image : left .image ≡ painted (x .image) (isValidCell (shape x) (inMask x)) (cellWord (x .header) (inMask x) (blocks (x .chain)))
@@ -183,7 +206,12 @@ module _ (x : Case) (o : Opened x) where
     unfolding cellWord
     complete g left c = is ∙ fills-laws.fills-all (shape x) shaped (inMask x) words ns (x .image) g ∙ sym (read-image left c)
 
-    -- by a whole read's image, and by the lent mask
+    -- by the lent mask
+    pub by-lent : (c : ℕ) → c < length (x .image)
+        → getD new c 0 ≡ cond (isValidCell (shape x) (x .mask) c && among ns (blockOf (shape x) c)) (cellWord (x .header) (inMask x) (blocks (x .chain)) c) (getD (x .image) c 0)
+    by-lent c l = rw (valid-same (shape x) shaped (x .mask) (inMask x) alike c) (exact c l)
+
+    -- and by a whole read's image
     pub by-read : (left : Lent) → CaseRead x left → (c : ℕ) → c < length (x .image)
         → getD new c 0 ≡ cond (isValidCell (shape x) (x .mask) c && among ns (blockOf (shape x) c)) (getD (left .image) c 0) (getD (x .image) c 0)
     by-read left q c l = exact c l ∙ rw (read-cell left q c l, valid-same (shape x) shaped (x .mask) (inMask x) alike c) (go (isValidCell (shape x) (inMask x) c) (among ns (blockOf (shape x) c)))
@@ -248,6 +276,33 @@ listed b h r m old new n end c w e =
     let z : _≡_ {A = Walk} (record { blocks = n; end = end }) (record { blocks = blockCount (shapeOf h); end = c .end }) = ok-is (p .says ∙ ap (λ (y : Res Chain). y >>= walkCount h) e) in
     let i : n ≡ blockCount (shapeOf h) = ap (λ (y : Walk). y .blocks) z in
     (i, ap (λ (y : Walk). y .end) z, rw (p .list, i) (left-long b h r m old c e), λ j l. rw (p .list) (left-starts b h r m old c e j (rw (← i) l)))
+
+-- an accepted fill reports the valid cells of its block
+pub reports : (b : List ℕ) (h : Header) (r : Ranges) (m list : List ℕ) (n words : ℕ) (old new : List ℕ) → FillCall b h r m list n (fill-answer.Filled words) old new
+    → words ≡ count (cells (shapeOf h)) (inBlock (shapeOf h) m n)
+unfolding fillSays
+reports b h r m list n words old new f =
+    let (k, e, w) = bind-counts (fillSays b h r m list n (length old)) _ (sym (fill-call f .says)) in
+    let (y, p, e) = bind-is (held h (length b)) _ e in
+    let (_, q, _) = bind-is (require (ltb n (y .blocks)) 11) _ e in
+    let i : y ≡ extentOf h = held-is h (length b) p in
+    w ∙ sums.tile-count (shapeOf h) (held-shaped h (length b) p) m n (rw (i) at (ltb-true n (y .blocks) (require-is _ 11 q)))
+
+-- one call with a list of numbers is as many calls
+pub as-calls : (b : List ℕ) (h : Header) (r : Ranges) (m list ns : List ℕ) (said : List FillAnswer) (old new : List ℕ) → FillCalls b h r m list ns said old new
+    → (filled : ℕ) (other : List ℕ) → EachCall b h r m list ns filled old other → (filled ≡ filledAmong said) × (other ≡ new)
+unfolding filledOf
+as-calls b h r m list ns said old new c filled other e = (each-call e .says ∙ go ns said old new c, each-call e .image ∙ sym (fill-calls ns said old new c))
+  where
+    one : (a : FillAnswer) (rest : List FillAnswer) → cond (accepted (fillSaid a)) 1 0 + filledAmong rest ≡ filledAmong (a ∷ rest)
+    one (fill-answer.Filled n) rest = refl
+    one (fill-answer.Refused why) rest = zero-add (filledAmong rest)
+
+    go : (ns : List ℕ) (said : List FillAnswer) (old new : List ℕ) → FillCalls b h r m list ns said old new → filledOf b h r m list (length old) ns ≡ filledAmong said
+    go ns said old new (none image) = refl
+    go ns said old new (more n rest a others old' mid new' f c) =
+        let i : length mid ≡ length old = ap length (fill-call f .image) ∙ length-fill b h r m list n old in
+        rw (one-is b h r m list n old (fill-call f), ← i, go rest others mid new c) (one a others)
 
 pub mask-handed : (b : List ℕ) (h : Header) (reuse : Bool) (kept spare new m : List ℕ) (f : MaskInForce) (said : MaskAnswer)
     → PrepareCall b h reuse kept said spare new → HandedCall kept new said m → prepareSays b h reuse kept (length spare) ≡ ok f → m ≡ bytesOf f

@@ -6,10 +6,11 @@ use mathlib.Core.List.{List, [], _∷_, _++_}
 use Prim.Native.Nat.{ℕ, _+_}
 use native.Mathlib.Nat.{zero-add}
 use native.Mathlib.Omega.{arith}
-use lib.ListN.{length, take, replicate}
-use borrow.Author.Tests.{le-leb}
+use lib.ListN.{length, take, drop, replicate}
+use lib.Seq.{take-append-seam}
 use Rattle.lerc_words.specs.declared.Refusal.{Refusal}
 use Rattle.lerc_words.specs.Res.{Res, ok, fail, _>>=_, require, after}
+use Rattle.lerc_words.specs.Lists.{over}
 use Rattle.lerc_words.proofs.Binding.{bind-is, require-is, ok-is, bind-fail}
 use Rattle.lerc_header.specs.declared.Header.{Header}
 use Rattle.lerc_header.specs.Limits.{depthLimit}
@@ -34,9 +35,9 @@ use Rattle.lerc_ranges.specs.declared.Constants.{Constants}
 use Rattle.lerc_ranges.specs.declared.ConstantsAnswer.the-variants as constants
 use Rattle.lerc_validity.specs.declared.MaskAnswer.{MaskAnswer}
 use Rattle.lerc_validity.specs.declared.MaskAnswer.the-variants as mask
-use Rattle.lerc_validity.specs.Validity.{Prepared, MaskInForce, reused, new, which, maskSays, inForce}
+use Rattle.lerc_validity.specs.Validity.{Prepared, MaskInForce, reused, new, which, maskSays, prepareSays, inForce}
 use Rattle.lerc_ranges.specs.Ranges.{noRanges, rangesSaid, rangesInSays, readRangesSays, constantWords, constantsSaid}
-use Rattle.lerc_validity.proofs.Prepared.{mask-told}
+use Rattle.lerc_validity.proofs.Prepared.{mask-told, prepared-right}
 use Rattle.lerc.specs.declared.ReadAnswer.the-variants as read
 use Rattle.lerc.specs.Read.{Lent, room, Masked, masked, readSays, refusedAfter, WholeRead}
 use Rattle.lerc_fills.specs.Each.{filledOf, fillEach}
@@ -44,6 +45,7 @@ use Rattle.lerc_fills.proofs.Turns.{length-fill}
 use Rattle.lerc_theorems.specs.Promises.{HandedBack}
 use Rattle.lerc_theorems.specs.Calls.{FillCall}
 use Rattle.lerc_theorems.specs.Refusals.{RefusalsKeep, RefusalsEmpty, NewMask, WholeKeeps}
+use Rattle.lerc_theorems.proofs.SameAnswers.{mask-same}
 use Rattle.lerc_theorems.proofs.Calls.{fill-call, each-call}
 use Rattle.lerc_theorems.proofs.Meanings.{rooms}
 
@@ -153,11 +155,27 @@ refusals-empty = record {
 
 -- ---- the mask that is handed back
 
+module _ (b : List ℕ) (h : Header) (reuse : Bool) (old : List ℕ) (r : MaskAnswer) (spare newer : List ℕ) (p : Prepared (prepareSays b h reuse old (length spare)) r spare newer) (m : List ℕ) where
+  said-kept : prepareSays b h reuse old (length spare) ≡ ok (reused m) → (r ≡ mask.Kept (maskLength (shapeOf h))) × (m ≡ take (maskLength (shapeOf h)) old)
+  said-kept e =
+      let w = prepared-right b h reuse old (length spare) (reused m) e in
+      (mask-same r (mask.Kept (maskLength (shapeOf h))) (p .says ∙ rw (e, w .size)), w .part .1 ∙ ap (λ (n : ℕ). take n old) (w .size))
+
+  said-spare : prepareSays b h reuse old (length spare) ≡ ok (new m) → (r ≡ mask.Spare (maskLength (shapeOf h))) × (m ≡ take (maskLength (shapeOf h)) newer)
+  said-spare e =
+      let w = prepared-right b h reuse old (length spare) (new m) e in (
+        mask-same r (mask.Spare (maskLength (shapeOf h))) (p .says ∙ rw (e, w .size)),
+        sym (let i : newer ≡ over m spare = p .spare ∙ rw (e) in rw (i, ← w .size) (take-append-seam m (drop (length m) spare))),
+      )
+
 pub handed-back : HandedBack
 unfolding inForce
 handed-back = record {
-  kept = λ k a r x n p e l. (p .1 ∙ rw (e), p .0 ∙ rw (e, le-leb n (length (a .0 .now)) l));
-  spare = λ k a r x n p e l. (p .1 ∙ rw (e), p .0 ∙ rw (e, le-leb n (length (a .1 .0 .now)) l));
+  reuse = λ k a r x m p e. said-kept _ _ _ _ _ _ _ p m e;
+  otherwise = λ k a r x m p e. said-spare _ _ _ _ _ _ _ p m e;
+  kept = λ k a r x n p e. (p .1 ∙ rw (e), p .0 ∙ rw (e));
+  spare = λ k a r x n p e. (p .1 ∙ rw (e), p .0 ∙ rw (e));
+  refused = λ k a r x why p e. (p .1 ∙ rw (e), p .0 ∙ rw (e));
 }
 
 -- ---- whole read

@@ -1,26 +1,32 @@
 -- What is not looked at, proved.
 -- Assumes nothing.
 use mathlib.Core.Path.{_≡_, _∙_, sym, ap, refl}
-use mathlib.Core.Bool.{Bool}
+use mathlib.Core.Bool.{Bool, true, cond, _&&_}
 use mathlib.Core.List.{List, [], _∷_}
 use Prim.Native.Nat.{ℕ, _+_, _≤_, _<_, min}
 use native.Mathlib.Decide.{decLe}
 use native.Mathlib.Omega.{arith}
-use lib.ListN.{length, getD, take, length-take}
-use lib.Seq.{getD-take}
+use lib.ListN.{length, getD, take, drop, length-take, length-drop}
+use lib.Seq.{getD-take, getD-drop}
 use lib.Dec.{leb}
 use borrow.Author.Tests.{le-leb, lt-leb}
+use denote.Ref.{RefT}
 use Rattle.lerc_words.specs.declared.Refusal.{Refusal}
-use Rattle.lerc_words.specs.Res.{Res, ok, fail, _>>=_, require, after}
+use Rattle.lerc_words.specs.Res.{Res, ok, fail, _>>=_, require, after, little}
 use Rattle.lerc_words.specs.Lists.{over}
-use Rattle.lerc_words.proofs.Binding.{bind-is, bind-counts, ok-is}
+use Rattle.lerc_words.proofs.Binding.{bind-is, bind-counts, require-is, ok-is}
+use Rattle.lerc_words.proofs.Little.{little-same}
+use Rattle.lerc_words.proofs.Tables.{tabulate-same, take-tabulate}
+use Rattle.lerc_numeric.specs.Numeric.{same as same'}
 use Rattle.lerc_header.specs.declared.Header.{Header}
-use Rattle.lerc_header.specs.Header.{shapeOf, headerOf, headerSays, held, extentOf}
+use Rattle.lerc_header.specs.Header.{shapeOf, headerBytes, rangesAt, keyRight, headerOf, headerSays, openSays, held, extentOf}
+use Rattle.lerc_header.specs.declared.Extent.{Extent}
+use Rattle.lerc_header.specs.declared.HeaderAnswer.the-variants as header-answer
 use Rattle.lerc_header.specs.Shape.{blockCount}
 use Rattle.lerc_header.proofs.Kept.{header-held, held-is, held-size}
 use Rattle.lerc_ranges.specs.declared.Ranges.{Ranges}
-use Rattle.lerc_ranges.specs.Ranges.{readRangesSays, rangesSaid}
-use Rattle.lerc_validity.specs.Validity.{MaskInForce, maskSays, prepareSays, spareWith, which}
+use Rattle.lerc_ranges.specs.Ranges.{uniformRanges, rangesEnd, codedRanges, pairsRight, rangesSays, readRangesSays, rangesSaid}
+use Rattle.lerc_validity.specs.Validity.{MaskInForce, unrolled, maskSays, prepareSays, spareWith, which}
 use Rattle.lerc_block.specs.Block.{Block}
 use Rattle.lerc_sweep.specs.Sweep.{blocksFrom}
 use Rattle.lerc_image.specs.declared.WalkAnswer.{WalkAnswer}
@@ -29,18 +35,18 @@ use Rattle.lerc_image.specs.declared.FillAnswer.{FillAnswer}
 use Rattle.lerc_image.specs.declared.FillAnswer.the-variants as fill-answer
 use Rattle.lerc_image.specs.Blocks.{Chain, blockAt}
 use Rattle.lerc_image.specs.Paint.{scattered}
-use Rattle.lerc_image.specs.Walk.{Walk, walkSays, walkCount, walkList}
+use Rattle.lerc_image.specs.Walk.{Walk, walkSays, walkCount, walkOf, walkList}
 use Rattle.lerc_image.specs.Fill.{fillSays, fillCount, fillImage}
-use Rattle.lerc_image.specs.Tiles.{tilesSays, tilesImage}
+use Rattle.lerc_image.specs.Tiles.{checkedTiles, roomToList, listedTiles, roomToFill, filledTiles, tilesSays, tilesImage}
 use Rattle.lerc_fills.specs.Each.{filledOf, fillEach}
 use Rattle.lerc.specs.Meaning.{Meaning, meaningFrom}
 use Rattle.lerc.specs.Read.{Lent, room, Masked, masked, readSays, readCount}
 use Rattle.lerc_theorems.specs.Calls.{WalkCall, FillCall}
 use Rattle.lerc_theorems.specs.Unread.{declared, SameDeclared, SameBelow, SameWithin, Unread}
-use Rattle.lerc_theorems.proofs.SameAnswers.{header-same, mask-same, walk-same, fill-same, read-same}
+use Rattle.lerc_theorems.proofs.SameAnswers.{header-same, open-same, mask-same, walk-same, fill-same, read-same}
 use Rattle.lerc_theorems.proofs.Calls.{header-call, prepare-call, ranges-call, walk-call, fill-call, each-call, tiles-call, read-call}
 use Rattle.lerc_theorems.proofs.Bodies.{swept-in, block-in, chain-in}
-use Rattle.lerc_theorems.proofs.Front.{Agree, at-agrees, chain-agrees, sweep-agrees}
+use Rattle.lerc_theorems.proofs.Front.{Agree, at-agrees, chain-agrees, sweep-agrees, coded-agrees}
 use Rattle.lerc_theorems.proofs.Meanings.{held-any, part-same, header-alike}
 use Rattle.lerc_theorems.proofs.Refusals.{masked-is}
 use Rattle.lerc_theorems.proofs.Fills.{Walking, walk-is, walking-says}
@@ -50,6 +56,10 @@ use Rattle.lerc_theorems.proofs.Fills.{Walking, walk-is, walking-says}
 module _ (b c : List ℕ) (same : SameDeclared b c) where
   header-as : headerSays b ≡ headerSays c
   header-as = header-alike b c (declared b) (omega arith) same (omega arith)
+
+  open-as : openSays b ≡ openSays c
+  unfolding openSays
+  open-as = rw (header-as)
 
   -- an accepted header has the declared size
   below-as : {h : Header} → headerSays b ≡ ok h → SameBelow h b c
@@ -126,6 +136,110 @@ module _ (b c : List ℕ) (h : Header) (same : SameBelow h b c) where
   unfolding tilesSays
   tiles-as m maxima at entries room = rw (held-as, same)
 
+  checked-as : (m maxima : List ℕ) (at : ℕ) → checkedTiles b h m maxima at ≡ checkedTiles c h m maxima at
+  unfolding checkedTiles
+  checked-as m maxima at = rw (held-as, same)
+
+  listed-as : (m : List ℕ) (at : ℕ) (list : List ℕ) → listedTiles b h m at list ≡ listedTiles c h m at list
+  unfolding listedTiles roomToList
+  listed-as m at list = rw (held-as, same)
+
+  filled-as : (m maxima list image : List ℕ) → filledTiles b h m maxima list image ≡ filledTiles c h m maxima list image
+  unfolding filledTiles roomToFill
+  filled-as m maxima list image = rw (held-as, same)
+
+-- ---- a header's own bytes
+
+module _ (b c : List ℕ) (key-bytes : SameWithin 0 10 b c) (field-bytes : SameWithin 14 headerBytes b c) where
+  key-own : (n at : ℕ) → at + n ≤ 10 → little n b at ≡ little n c at
+  key-own n at l = little-same n b c at at (λ i r. key-bytes (at + i) (omega arith) (omega arith))
+
+  field-own : (n at : ℕ) → 14 ≤ at → at + n ≤ headerBytes → little n b at ≡ little n c at
+  field-own n at o l = little-same n b c at at (λ i r. field-bytes (at + i) (omega arith) (omega arith))
+
+  key-as : keyRight b ≡ keyRight c
+  unfolding keyRight
+  key-as = rw (key-own 6 0 (omega arith), key-own 4 6 (omega arith))
+
+  fields-as : headerOf b ≡ headerOf c
+  unfolding headerOf
+  fields-as =
+      rw (
+        field-own 4 14 (omega arith) (omega arith),
+        field-own 4 18 (omega arith) (omega arith),
+        field-own 4 22 (omega arith) (omega arith),
+        field-own 4 26 (omega arith) (omega arith),
+        field-own 4 30 (omega arith) (omega arith),
+        field-own 4 34 (omega arith) (omega arith),
+        field-own 4 38 (omega arith) (omega arith),
+        field-own 8 42 (omega arith) (omega arith),
+        field-own 8 50 (omega arith) (omega arith),
+        field-own 8 58 (omega arith) (omega arith),
+        field-own 4 66 (omega arith) (omega arith),
+      )
+
+  header-other : (h : Header) → h .size ≤ length c → headerSays b ≡ ok h → headerSays c ≡ ok h
+  unfolding headerSays
+  header-other h long e =
+      let (is, kept) = header-held b h e in
+      let (_, _, e) = bind-is (require (leb headerBytes (length b)) 1) _ e in
+      let (_, k, _) = bind-is (require (keyRight b) 2) _ e in
+      let size = held-size h (length b) kept in
+      let same : headerOf c ≡ h = sym fields-as ∙ sym is in
+      let held-c : held h (length c) ≡ ok (extentOf h) = sym (held-any h (length b) (length c) (size .1) long) ∙ kept in
+      let key-c : keyRight c ≡ true = sym key-as ∙ require-is (keyRight b) 2 k in
+      let few : headerBytes ≤ length c = omega (arith, size .0) in
+      rw (le-leb headerBytes (length c) few, key-c, same, held-c)
+
+-- ---- the mask section's and the ranges' own bytes
+
+section-own : (s t : List ℕ) (n m : ℕ) → n + m ≤ length s → n + m ≤ length t → SameWithin n (n + m) s t → take m (drop n s) ≡ take m (drop n t)
+section-own s t n m p q same =
+    take-tabulate m (drop n s) (rw (length-drop n s) (omega arith))
+    ∙ tabulate-same m _ _ (λ i l. getD-drop n s i 0 ∙ same (n + i) (omega arith) (omega arith) ∙ sym (getD-drop n t i 0))
+    ∙ sym (take-tabulate m (drop n t) (rw (length-drop n t) (omega arith)))
+
+module _ (b c : List ℕ) (h : Header) (long-b : h .size ≤ length b) (long-c : h .size ≤ length c) where
+  size-of : (d : List ℕ) → h .size ≤ length d → length (take (h .size) d) ≡ h .size
+  size-of d l = length-take (h .size) d ∙ (let z : min (h .size) (length d) ≡ h .size = omega arith in z)
+
+  cut : {j k : ℕ} → k ≤ h .size → SameWithin j k b c → SameWithin j k (take (h .size) b) (take (h .size) c)
+  cut l same i o r = let z : i < h .size = omega arith in getD-take (h .size) b i 0 z ∙ same i o r ∙ sym (getD-take (h .size) c i 0 z)
+
+  -- behind an accepted header by value
+  behind-held : {A : Type 0} (f : List ℕ → Extent → Res A) → ((e : Extent) → held h (length b) ≡ ok e → f b e ≡ f c e) → (held h (length b) >>= f b) ≡ (held h (length c) >>= f c)
+  behind-held f g = rw (← held-any h (length b) (length c) long-b long-c) (go (held h (length b)) refl)
+    where
+      go : (x : Res Extent) → held h (length b) ≡ x → (x >>= f b) ≡ (x >>= f c)
+      go (ok e) d = g e d
+      go (fail r) d = refl
+
+  mask-own : rangesAt h ≤ h .size → SameWithin headerBytes (rangesAt h) b c → (reuse : Bool) (kept : List ℕ) → maskSays (take (h .size) b) h reuse kept ≡ maskSays (take (h .size) c) h reuse kept
+  unfolding maskSays unrolled
+  mask-own l same reuse kept =
+      let p = size-of b long-b in
+      let q = size-of c long-c in
+      rw (section-own (take (h .size) b) (take (h .size) c) headerBytes (h .mask) (omega (arith, p)) (omega (arith, q)) (cut l same))
+
+  prepare-other : SameWithin headerBytes (rangesAt h) b c → (reuse : Bool) (kept : List ℕ) (room : ℕ) → prepareSays b h reuse kept room ≡ prepareSays c h reuse kept room
+  unfolding prepareSays
+  prepare-other same reuse kept room =
+      behind-held (λ d e. require (leb (e .mask) (length kept) && leb (e .mask) room) 5 >>= λ _. maskSays (take (h .size) d) h reuse kept)
+      (λ e d. rw (mask-own (held-size h (length b) d .0) same reuse kept))
+
+  ranges-other : SameWithin (rangesAt h) (rangesEnd h) b c → readRangesSays b h ≡ readRangesSays c h
+  unfolding readRangesSays rangesSays
+  ranges-other same = behind-held (λ d e. rangesSays (take (h .size) d) h) (λ e d. rw (size-of b long-b, size-of c long-c) (go (decLe (rangesEnd h) (h .size))))
+    where
+      abbreviated : List ℕ → Bool → Res Ranges
+      abbreviated s x = cond (same' (h .min) (h .max)) (ok (uniformRanges h)) (require x 1 >>= λ _. require (pairsRight (h .depth) (codedRanges s h)) 7 >>= λ _. ok (codedRanges s h))
+
+      go : Dec (rangesEnd h ≤ h .size) → abbreviated (take (h .size) b) (leb (rangesEnd h) (h .size)) ≡ abbreviated (take (h .size) c) (leb (rangesEnd h) (h .size))
+      go (yes l) =
+          let a : Agree (take (h .size) b) (take (h .size) c) (rangesAt h) (rangesEnd h) = record { bytes = cut l same; room = rw (size-of c long-c) l } in
+          rw (coded-agrees a h (omega arith) (omega arith))
+      go (no l) = rw (lt-leb (rangesEnd h) (h .size) (omega arith))
+
 -- ---- the blocks' own bytes
 
 module _ (b c : List ℕ) (h : Header) (long : h .size ≤ length c) (held-b : held h (length b) ≡ ok (extentOf h)) where
@@ -197,7 +311,7 @@ module _ (b c : List ℕ) (h : Header) (r : Ranges) (m list : List ℕ) (n room 
       let f : blockAt (take (h .size) c) h (r .max) m n (getD list n 0) ≡ ok k = at-agrees a h (r .max) m n (getD list n 0) k (omega arith) (omega arith) is in
       rw (held-c b c h long held-b, f) (rw (held-b, is) at e)
 
-fill-own : (b c : List ℕ) (h : Header) (r : Ranges) (m list : List ℕ) (n words : ℕ) (told : FillAnswer) (old new other : List ℕ) (k : Block)
+pub fill-own : (b c : List ℕ) (h : Header) (r : Ranges) (m list : List ℕ) (n words : ℕ) (told : FillAnswer) (old new other : List ℕ) (k : Block)
     → blockAt (take (h .size) b) h (r .max) m n (getD list n 0) ≡ ok k → h .size ≤ length c → SameWithin (getD list n 0) (k .next) b c
     → FillCall b h r m list n (fill-answer.Filled words) old new → FillCall c h r m list n told old other → (told ≡ fill-answer.Filled words) × (other ≡ new)
 unfolding fillImage
@@ -241,6 +355,37 @@ unread = record {
         tiles-call p .list ∙ ap (λ (x : Res Chain). after x list (λ y. over (y .starts) list)) e ∙ sym (tiles-call q .list),
         tiles-call p .image ∙ ap (λ (x : Res Chain). after x image (tilesImage h m image)) e ∙ sym (tiles-call q .image),
       );
+  open-blob = λ k a c r q x y s p t. open-same r q (p ∙ open-as (a .0 .now) (c .0 .now) s ∙ sym t);
+  check-tiles = λ k a c r q x y e s p t. (
+    walk-same r q (
+        p
+        ∙ ap (walkOf (a .1 .0)) (checked-as (a .0 .now) (c .0 .now) (a .1 .0) s (a .1 .1 .0 .now) (a .1 .1 .1 .0 .now) (a .1 .1 .1 .1 .0))
+        ∙ ap (λ (z : Header × (RefT (List ℕ) × (RefT (List ℕ) × (ℕ × Unit {0})))). walkOf (z .0) (checkedTiles (c .0 .now) (z .0) (z .1 .0 .now) (z .1 .1 .0 .now) (z .1 .1 .1 .0))) e
+        ∙ sym t
+        ),
+    refl,
+  );
+  list-tiles = λ k a c r q x y e s p t. (
+    refl,
+    p
+        ∙ listed-as (a .0 .now) (c .0 .now) (a .1 .0) s (a .1 .1 .0 .now) (a .1 .1 .1 .0) (a .1 .1 .1 .1 .0 .now)
+        ∙ ap (λ (z : Header × (RefT (List ℕ) × (ℕ × (RefT (List ℕ) × Unit {0})))). listedTiles (c .0 .now) (z .0) (z .1 .0 .now) (z .1 .1 .0) (z .1 .1 .1 .0 .now)) e
+        ∙ sym t,
+  );
+  fill-tiles = λ k a c r q x y e s p t. (
+    refl,
+    p
+        ∙ filled-as (a .0 .now) (c .0 .now) (a .1 .0) s (a .1 .1 .0 .now) (a .1 .1 .1 .0 .now) (a .1 .1 .1 .1 .0 .now) (a .1 .1 .1 .1 .1 .0 .now)
+        ∙ ap (λ (z : Header × (RefT (List ℕ) × (RefT (List ℕ) × (RefT (List ℕ) × (RefT (List ℕ) × Unit {0}))))). filledTiles (c .0 .now) (z .0) (z .1 .0 .now) (z .1 .1 .0 .now) (z .1 .1 .1 .0 .now) (z .1 .1 .1 .1 .0 .now)) e
+        ∙ sym t,
+  );
+  header-own = λ b c h told l s t p q. header-same told (header-answer.Read h) (header-call q ∙ header-other b c s t h l (sym (header-call p)));
+  prepare-own = λ b c h reuse kept said told old new other l m s p q.
+      let e = prepare-other b c h l m s reuse kept (length old) in (
+        mask-same said told (prepare-call p .says ∙ ap (λ (x : Res MaskInForce). x >>= which) e ∙ sym (prepare-call q .says)),
+        prepare-call p .spare ∙ ap (λ (x : Res MaskInForce). after x old (λ f. spareWith f old)) e ∙ sym (prepare-call q .spare),
+      );
+  ranges-own = λ b c h said told l m s p q. ranges-call p ∙ ap rangesSaid (ranges-other b c h l m s) ∙ sym (ranges-call q);
   walk-own = walk-own;
   fill-own = fill-own;
 }

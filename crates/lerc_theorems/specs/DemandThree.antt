@@ -5,7 +5,7 @@ use mathlib.Core.Path.{_≡_}
 use mathlib.Core.Bool.{Bool, true, cond, _&&_}
 use mathlib.Core.List.{List, [], _∷_, map}
 use lib.ListN.{length, getD, take}
-use lib.Dec.{ltb}
+use lib.Dec.{ltb, eqb}
 use Rattle.lerc_words.specs.Res.{ok, refuse}
 use Rattle.lerc_words.specs.Lists.{over, count, total}
 use Rattle.lerc_header.specs.declared.Header.{Header}
@@ -29,6 +29,7 @@ use Rattle.lerc.specs.declared.ReadAnswer.the-variants as read-answer
 use Rattle.lerc.specs.Meaning.{blocks, cellWord, meaning}
 use Rattle.lerc.specs.Read.{Lent, room}
 use Rattle.lerc_theorems.specs.Calls.{HeaderCall, PrepareCall, HandedCall, ReadRanges, WalkCall, FillCall, FillCalls, EachCall, TilesCall, ReadCall}
+use Rattle.lerc_theorems.specs.Unread.{SameWithin}
 
 -- a blob in blocks, what it means, and what fills are lent: header, ranges, mask, list and image
 pub record Case : Type 0 where
@@ -76,13 +77,13 @@ CaseFills x ns said new = FillCalls (x .blob) (x .header) (x .ranges) (x .mask) 
 abbrev pub answerTo : Shape → List ℕ → ℕ → FillAnswer
 answerTo s m n = cond (ltb n (blockCount s)) (fill-answer.Filled (validInTile s m (tileOf s n))) (fill-answer.Refused (refuse 11))
 
--- A whole read that may be compared with: room for all, and the same start. Only where reuse is allowed must the kept masks be the same.
+-- A whole read that may be compared with: room for all, and the same start. Only where reuse is allowed must the kept masks begin alike.
 pub record ReadAlike (b : List ℕ) (reuse : Bool) (kept : List ℕ) (h : Header) (image : List ℕ) (left : Lent) : Type 0 where
   pub answer : ReadAnswer
   pub lent : Lent
   pub read : ReadCall b reuse answer lent left
   pub room : room h lent ≡ true
-  pub same-mask : reuse ≡ true → lent .kept ≡ kept
+  pub same-mask : reuse ≡ true → take (maskLength (shapeOf h)) (lent .kept) ≡ take (maskLength (shapeOf h)) kept
   pub same-start : lent .image ≡ image
 
 abbrev pub CaseRead : Case → Lent → Type 0
@@ -92,6 +93,22 @@ CaseRead x left = ReadAlike (x .blob) (x .reuse) (x .kept) (x .header) (x .image
 abbrev pub reported : FillAnswer → ℕ
 reported (fill-answer.Filled n) = n
 reported (fill-answer.Refused r) = 0
+
+-- the words that answers report together
+abbrev pub reportedBy : List FillAnswer → ℕ
+reportedBy [] = 0
+reportedBy (a ∷ said) = reported a + reportedBy said
+
+-- how often a number stands in a list
+abbrev pub times : ℕ → List ℕ → ℕ
+times n [] = 0
+times n (i ∷ ns) = cond (eqb n i) 1 0 + times n ns
+
+-- how many of the answers are fills
+abbrev pub filledAmong : List FillAnswer → ℕ
+filledAmong [] = 0
+filledAmong (fill-answer.Filled n ∷ said) = 1 + filledAmong said
+filledAmong (fill-answer.Refused r ∷ said) = filledAmong said
 
 -- how many of the numbers are below k
 abbrev pub below : ℕ → List ℕ → ℕ
@@ -113,31 +130,36 @@ pub record InHand : Type 0 where
   pub list : List ℕ
   pub image : List ℕ
 
--- read header, prepare mask, mask in force, read ranges and walk, each accepted. The mask that walk and fills are lent begins with the one that was handed back.
+-- Read header, prepare mask, mask in force, read ranges and walk, the walk accepted. The masks that walk and fills are lent begin with the one that was handed back, and the
+-- list that fills are lent begins with what the walk listed; each may be longer.
 pub record ByWalk (x : InHand) : Type 0 where
   pub said : MaskAnswer
   pub spare : List ℕ
   pub prepared : List ℕ
   pub part : List ℕ
+  pub longer : List ℕ
   pub unlisted : List ℕ
+  pub listed : List ℕ
   pub header : HeaderCall (x .blob) (header-answer.Read (x .header))
   pub prepare : PrepareCall (x .blob) (x .header) (x .reuse) (x .kept) said spare prepared
   pub handed : HandedCall (x .kept) prepared said part
   pub ranges : ReadRanges (x .blob) (x .header) (x .ranges)
+  pub begins : take (maskLength (shapeOf (x .header))) longer ≡ part
+  pub walk : WalkCall (x .blob) (x .header) (x .ranges) longer (walk-answer.Walked (x .count) (x .end)) unlisted listed
   pub mask : take (maskLength (shapeOf (x .header))) (x .mask) ≡ part
-  pub walk : WalkCall (x .blob) (x .header) (x .ranges) (x .mask) (walk-answer.Walked (x .count) (x .end)) unlisted (x .list)
+  pub list : take (x .count) (x .list) ≡ take (x .count) listed
   pub room : cells (shapeOf (x .header)) ≤ length (x .image)
 
--- a whole read that found blocks, and the ranges read; list and mask are as it left them
+-- a whole read that told of blocks, and the ranges read; list and mask begin as it left them
 pub record ByRead (x : InHand) : Type 0 where
   pub old : Lent
   pub new : Lent
   pub read : ReadCall (x .blob) (x .reuse) (read-answer.Whole (x .header) (x .count) (x .end)) old new
   pub kept : old .kept ≡ x .kept
-  pub found : 0 < x .count
+  pub some : 0 < x .count
   pub ranges : ReadRanges (x .blob) (x .header) (x .ranges)
-  pub mask : x .mask ≡ new .kept
-  pub list : x .list ≡ new .list
+  pub mask : take (maskLength (shapeOf (x .header))) (x .mask) ≡ take (maskLength (shapeOf (x .header))) (new .kept)
+  pub list : take (x .count) (x .list) ≡ take (x .count) (new .list)
   pub room : cells (shapeOf (x .header)) ≤ length (x .image)
 
 pub data Surveyed (x : InHand) : Type 0 where
@@ -166,13 +188,22 @@ pub record Found (x : InHand) : Type 0 where
   pub count : x .count ≡ blockCount (shapeOf (x .header))
   pub end : x .end ≡ chain .end
 
--- After fills by any list of numbers: what each answered, and every cell, by an image that a whole read from the same start left. All that is named here a caller has in hand.
+-- the first byte behind block n: where the next one begins, or the end
+abbrev pub endsAt : InHand → ℕ → ℕ
+endsAt x n = cond (ltb (n + 1) (x .count)) (getD (x .list) (n + 1) 0) (x .end)
+
+-- After fills by any list of numbers: what each answered, and every cell.
 pub record AnyOrder (x : InHand) (ns : List ℕ) (said : List FillAnswer) (new : List ℕ) : Type 0 where
+  -- the blob's meaning, which has the Lerc2 words
+  pub found : Found x
   -- at every place of the list, a number below the count is filled and the answer is its tile's valid pixels; each other is refused 11
   pub answers : said ≡ map (answerTo (shapeOf (x .header)) (x .mask)) ns
   -- "each valid cell of a filled block holds its Lerc2 word and every other cell is as at the start"
   pub long : length new ≡ length (x .image)
-  pub cells : (left : Lent) → ReadAlike (x .blob) (x .reuse) (x .kept) (x .header) (x .image) left → (c : ℕ) → c < length (x .image)
+  pub cells : (c : ℕ) → c < length (x .image)
+      → getD new c 0 ≡ cond (isValidCell (shapeOf (x .header)) (x .mask) c && among ns (blockOf (shapeOf (x .header)) c)) (cellWord (x .header) (bytesOf (found .means)) (blocks (found .chain)) c) (getD (x .image) c 0)
+  -- the same by an image that a whole read from the same start left: all that is named then a caller has in hand
+  pub as-read : (left : Lent) → ReadAlike (x .blob) (x .reuse) (x .kept) (x .header) (x .image) left → (c : ℕ) → c < length (x .image)
       → getD new c 0 ≡ cond (isValidCell (shapeOf (x .header)) (x .mask) c && among ns (blockOf (shapeOf (x .header)) c)) (getD (left .image) c 0) (getD (x .image) c 0)
   -- "every order that names each block ends in the whole read's image"
   pub complete : ((n : ℕ) → n < x .count → among ns n ≡ true) → (left : Lent) → ReadAlike (x .blob) (x .reuse) (x .kept) (x .header) (x .image) left → new ≡ left .image
@@ -185,6 +216,10 @@ pub record DemandThree : Type 0 where
   -- "Fills in any order", of calls alone
   pub any-order : (x : InHand) → Surveyed x → (ns : List ℕ) (said : List FillAnswer) (new : List ℕ) → FillCalls (x .blob) (x .header) (x .ranges) (x .mask) (x .list) ns said (x .image) new
       → AnyOrder x ns said new
+  -- a fill looks at the bytes of its block alone: from where it begins up to where the next one does
+  pub fill-own : (x : InHand) → Surveyed x → (c : List ℕ) (n : ℕ) (said told : FillAnswer) (old new other : List ℕ) → n < x .count → cells (shapeOf (x .header)) ≤ length old → x .header .size ≤ length c
+      → SameWithin (getD (x .list) n 0) (endsAt x n) (x .blob) c → FillCall (x .blob) (x .header) (x .ranges) (x .mask) (x .list) n said old new
+      → FillCall c (x .header) (x .ranges) (x .mask) (x .list) n told old other → (told ≡ said) × (other ≡ new)
   -- what is handed back after preparing is the mask in force
   pub mask-handed : (b : List ℕ) (h : Header) (reuse : Bool) (kept spare new m : List ℕ) (f : MaskInForce) (said : MaskAnswer)
       → PrepareCall b h reuse kept said spare new → HandedCall kept new said m → prepareSays b h reuse kept (length spare) ≡ ok f → m ≡ bytesOf f
@@ -197,8 +232,9 @@ pub record DemandThree : Type 0 where
   -- a number at or above the count is refused 11, and leaves the image
   pub fill-refuses : (x : Case) → Opened x → (n : ℕ) (said : FillAnswer) (new : List ℕ) → CaseFill x n said (x .image) new → blocksOf x ≤ n
       → (said ≡ fill-answer.Refused (refuse 11)) × (new ≡ x .image)
-  -- the words reported are as many as the cells that the block may write
-  pub fill-reports : (x : Case) → Opened x → (n : ℕ) → n < blocksOf x → validInTile (shape x) (inMask x) (tileOf (shape x) n) ≡ count (cells (shape x)) (inBlock (shape x) (inMask x) n)
+  -- of any call, the words reported are as many as the valid cells of its block
+  pub fill-reports : (b : List ℕ) (h : Header) (r : Ranges) (m list : List ℕ) (n words : ℕ) (old new : List ℕ) → FillCall b h r m list n (fill-answer.Filled words) old new
+      → words ≡ count (cells (shapeOf h)) (inBlock (shapeOf h) m n)
   -- at every place of a list of numbers the answer is that of its number
   pub fills-answer : (x : Case) → Opened x → (ns : List ℕ) (said : List FillAnswer) (new : List ℕ) → CaseFills x ns said new → said ≡ map (answerTo (shape x) (inMask x)) ns
   -- after any list of numbers the image has its length, and a cell holds its Lerc2 word if it is valid and its block is named; else it is as at the start
@@ -210,6 +246,9 @@ pub record DemandThree : Type 0 where
   -- one call with a list of numbers is as many calls: as many of them are filled as are below the count, and the image is the same
   pub fills-each : (x : Case) → Opened x → (ns : List ℕ) (said : List FillAnswer) (new : List ℕ) → CaseFills x ns said new → (other : List ℕ) (filled : ℕ) → EachCall (x .blob) (x .header) (x .ranges) (x .mask) (x .list) ns filled (x .image) other
       → (filled ≡ below (blocksOf x) ns) × (other ≡ new)
+  -- of any calls, one call with the list of numbers leaves what they leave, and counts those that were filled
+  pub each-as-calls : (b : List ℕ) (h : Header) (r : Ranges) (m list ns : List ℕ) (said : List FillAnswer) (old new : List ℕ) → FillCalls b h r m list ns said old new
+      → (filled : ℕ) (other : List ℕ) → EachCall b h r m list ns filled old other → (filled ≡ filledAmong said) × (other ≡ new)
   -- every number named: the image is that of a whole read from the same start
   pub fills-complete : (x : Case) → Opened x → (ns : List ℕ) (said : List FillAnswer) (new : List ℕ) → CaseFills x ns said new → ((n : ℕ) → n < blocksOf x → among ns n ≡ true)
       → (left : Lent) → CaseRead x left → new ≡ left .image
@@ -221,3 +260,6 @@ pub record DemandThree : Type 0 where
   -- the words reported, over all numbers once, add to valid times depth
   pub words-sum : (x : Case) → Opened x → (said : ℕ → FillAnswer) (new : ℕ → List ℕ) → ((n : ℕ) → n < blocksOf x → CaseFill x n (said n) (x .image) (new n))
       → total (blocksOf x) (λ n. reported (said n)) ≡ x .header .valid * x .header .depth
+  -- so do those of calls in a row that name each number below the count once, whatever the others are
+  pub words-once : (x : Case) → Opened x → (ns : List ℕ) (said : List FillAnswer) (new : List ℕ) → CaseFills x ns said new → ((n : ℕ) → n < blocksOf x → times n ns ≡ 1)
+      → reportedBy said ≡ x .header .valid * x .header .depth

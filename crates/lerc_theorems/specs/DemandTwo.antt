@@ -105,7 +105,10 @@ pub record DemandTwo : Type 0 where
       → meaning b reuse kept ≡ meaning c reuse kept
   -- and so do the outcomes of each operation; what walk and fill accept depends on the blocks' own bytes alone
   pub unread : Unread
-  -- without reuse it does not depend on the kept mask
+  -- with reuse it depends on the kept mask's first bytes alone, as many as the mask has
+  pub kept-front : (b : List ℕ) (reuse : Bool) (kept other : List ℕ) (h : Header) → headerSays b ≡ ok h → take (maskLength (shapeOf h)) kept ≡ take (maskLength (shapeOf h)) other
+      → meaning b reuse kept ≡ meaning b reuse other
+  -- and without reuse not at all
   pub kept-unread : (b kept other : List ℕ) → meaning b false kept ≡ meaning b false other
   -- nor are bytes between the body's end and the size looked at: a slice that is long enough and agrees below the end has the same meaning
   pub behind-end : (b c : List ℕ) (reuse : Bool) (kept : List ℕ) (m : Meaning) → meaning b reuse kept ≡ ok m → take (endOf (m .body)) b ≡ take (endOf (m .body)) c → m .header .size ≤ length c

@@ -3,10 +3,15 @@
 -- Assumes nothing.
 use mathlib.Core.Path.{_≡_}
 use mathlib.Core.Bool.{Bool}
-use mathlib.Core.List.{List}
-use Prim.Native.Nat.{ℕ, _≤_}
+use mathlib.Core.List.{List, []}
+use Prim.Native.Nat.{ℕ}
 use lib.ListN.{length, take}
 use denote.Ref.{RefT}
+use Rattle.lerc_words.specs.declared.Refusal.{Refusal}
+use Rattle.lerc_words.specs.Res.{ok}
+use Rattle.lerc_header.specs.Header.{shapeOf}
+use Rattle.lerc_header.specs.Shape.{maskLength}
+use Rattle.lerc_validity.specs.Validity.{reused, new, prepareSays, firstOf}
 use Rattle.lerc_words.proofs.WordAnswer.refusal.Reads as word-refusal
 use Rattle.lerc_words.proofs.peek.Reads as peek
 use Rattle.lerc_words.proofs.bytes.Reads as bytes
@@ -115,8 +120,16 @@ Writes Pre Post left = Fixed Pre Post (λ r. r) left
 
 -- "handed back as a part of the kept mask (reuse) or of the spare (otherwise)": which, and how long
 pub record HandedBack : Type 0 where
-  pub kept : (k : _) (a : _) (r : _) (x : _) (n : ℕ) → mask-in-force.Post k a r x → a .1 .1 .0 ≡ mask.Kept n → n ≤ length (a .0 .now) → (r .ptr ≡ a .0 .ptr) × (r .now ≡ take n (a .0 .now))
-  pub spare : (k : _) (a : _) (r : _) (x : _) (n : ℕ) → mask-in-force.Post k a r x → a .1 .1 .0 ≡ mask.Spare n → n ≤ length (a .1 .0 .now) → (r .ptr ≡ a .1 .0 .ptr) × (r .now ≡ take n (a .1 .0 .now))
+  -- which was in force, and how long: the kept mask exactly where a mask is reused
+  pub reuse : (k : _) (a : _) (r : _) (x : _) (m : List ℕ) → prepare-mask.Post k a r x → prepareSays (a .0 .now) (a .1 .0) (a .1 .1 .0) (a .1 .1 .1 .0 .now) (length (a .1 .1 .1 .1 .0 .now)) ≡ ok (reused m)
+      → (r ≡ mask.Kept (maskLength (shapeOf (a .1 .0)))) × (m ≡ take (maskLength (shapeOf (a .1 .0))) (a .1 .1 .1 .0 .now))
+  pub otherwise : (k : _) (a : _) (r : _) (x : _) (m : List ℕ) → prepare-mask.Post k a r x → prepareSays (a .0 .now) (a .1 .0) (a .1 .1 .0) (a .1 .1 .1 .0 .now) (length (a .1 .1 .1 .1 .0 .now)) ≡ ok (new m)
+      → (r ≡ mask.Spare (maskLength (shapeOf (a .1 .0)))) × (m ≡ take (maskLength (shapeOf (a .1 .0))) (x .1 .1 .1 .1 .0 .now))
+  -- the part: where it stands, and what it holds
+  pub kept : (k : _) (a : _) (r : _) (x : _) (n : ℕ) → mask-in-force.Post k a r x → a .1 .1 .0 ≡ mask.Kept n → (r .ptr ≡ a .0 .ptr) × (r .now ≡ firstOf n (a .0 .now))
+  pub spare : (k : _) (a : _) (r : _) (x : _) (n : ℕ) → mask-in-force.Post k a r x → a .1 .1 .0 ≡ mask.Spare n → (r .ptr ≡ a .1 .0 .ptr) × (r .now ≡ firstOf n (a .1 .0 .now))
+  -- "a part to be handed back is then empty"
+  pub refused : (k : _) (a : _) (r : _) (x : _) (why : Refusal) → mask-in-force.Post k a r x → a .1 .1 .0 ≡ mask.Refused why → (r .ptr ≡ a .0 .ptr) × (r .now ≡ [])
 
 -- the slices that a whole read is lent, among its inputs or its outputs
 abbrev pub Read : Type 0
