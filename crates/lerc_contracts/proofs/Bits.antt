@@ -13,7 +13,7 @@ use borrow.Author.Tests.{lt-ltb, le-ltb, le-leb, lt-leb, eq-eqb, ne-eqb, eqb-tru
 use lib.Dec.{ltb, leb, eqb}
 use lib.ListN.{length, getD, take, drop}
 use lib.Seq.{take-append-seam}
-use Rattle.lerc_words.specs.Res.{Res, ok, fail, _>>=_, little, wordAt, accepts}
+use Rattle.lerc_words.specs.Res.{Res, ok, fail, _>>=_, little, wordAt}
 use Rattle.lerc_words.specs.Lists.{tabulate, allTo, over}
 use Rattle.lerc_words.proofs.Binding.{ok-is}
 use Rattle.lerc_words.proofs.Little.{Bytes, wordAt-ok, wordAt-no}
@@ -29,13 +29,11 @@ use Rattle.lerc_bits.proofs.Returns.{Headed, fits-ok, fits-no, tabled-zero, tab
 use Rattle.lerc_bits.proofs.Plans.{laid-spread, plan-kept, plan-is as planned-is}
 use Rattle.lerc_bits.proofs.Values.{counts-ends, counts-few}
 use Rattle.lerc_bits.proofs.Choose.{below-each}
-use Rattle.lerc_contracts.proofs.WithoutNumber.{said-some}
-use Rattle.lerc_contracts.specs.Outside.{said, is-some, onSome, lengthMax, bitsAt}
+use Rattle.lerc_contracts.proofs.WithoutNumber.{said-some, told-some}
+use Rattle.lerc_contracts.specs.Outside.{said, onSome, lengthMax, bitsAt}
 use Rattle.lerc_contracts.specs.Bits.{Plan, ceilBytes, indexWidth, plan, index, item, Items, decodedBy, decoded}
-
--- a plan under upstream's names
-abbrev pub theirs : our.Plan → Plan
-theirs p = record { n = p .n; bits = p .bits; entries = p .entries; lut = p .table; at = p .at; next = p .next; width = p .width }
+use Rattle.lerc_contracts.specs.Between.{items, theirs}
+use Rattle.lerc_contracts.specs.BitsClauses.{ItemCases, InspectClauses, DecodeClauses}
 
 -- ---- the plan
 
@@ -193,10 +191,6 @@ module _ (s : List ℕ) (start : ℕ) (y : Bytes s) (few : length s ≤ lengthMa
 
 -- ---- the counts
 
--- what upstream gives of them
-abbrev pub items : Counts → Items
-items c = record { end = c .next; values = c .values }
-
 -- a number of a run by its bits
 bits-are : (s : List ℕ) (at n b k : ℕ) → Bytes s → at + runBytes n b ≤ length s → k < n → bitsAt s (at * 8 + k * b) b ≡ getD (run s at n b) k 0
 unfolding bitsAt
@@ -261,6 +255,9 @@ module _ (s : List ℕ) (p : our.Plan) (y : Bytes s) (table : p .table + runByte
           let z : p .entries ≡ 0 → ⊥ = eqb-false (p .entries) 0 e in
           rw (e, all-is, f, unpacked-bad s p (omega arith) f)
 
+  pub item-cases : ItemCases s p
+  item-cases = record { index-is = index-is; item-plain = item-plain; item-named = item-named }
+
 -- THE COUNTS
 pub decoded-is : (s : List ℕ) (start : ℕ) → Bytes s → length s ≤ lengthMax → decoded s start ≡ said items (ours.counts s start)
 unfolding decoded
@@ -278,42 +275,19 @@ decoded-is s start y few = rw (plan-is s start y few) (go (ours.plan s start) re
 -- ---- `inspect`: its clauses, from the promise of `lerc_bits::inspect`
 
 module _ (s : List ℕ) (start : ℕ) (y : Bytes s) (r : PlanAnswer) (promise : planSaid r ≡ ours.plan s start) where
-  -- 2.16
-  pub inspect-ok : length s ≤ lengthMax → accepts (planSaid r) ≡ is-some (plan s start)
-  inspect-ok few = rw (promise, plan-is s start y few) (said-some theirs (ours.plan s start))
-
-  module _ (p : our.Plan) (e : planSaid r ≡ ok p) where
-    -- 2.17
-    pub inspect-plan : length s ≤ lengthMax → plan s start ≡ some (theirs p)
-    inspect-plan few = rw (plan-is s start y few, ← promise, e)
-
-    -- 2.18
-    pub inspect-small : (p .n ≤ 256) × (p .bits ≤ 31) × (p .width ≤ 31) × (p .entries ≤ 255)
-    inspect-small = let k = plan-kept s start y (sym promise ∙ e) in (k .few, k .narrow, k .slim, k .short)
-
-    -- 2.19
-    pub inspect-order : (p .at ≤ p .next) × (p .next ≤ length s) × (p .table ≤ p .at)
-    inspect-order = let k = plan-kept s start y (sym promise ∙ e) in (k .begun, k .inside, k .tabled)
-
-    -- 2.20
-    pub inspect-run : p .at * 8 + p .n * p .width ≤ p .next * 8
-    inspect-run = let l = laid-spread (planned-is s start (sym promise ∙ e) .laid) in omega (arith, l .second)
-
-    -- 2.21
-    pub inspect-table : 0 < p .entries → p .table * 8 + (p .entries - 1) * p .bits ≤ p .at * 8
-    inspect-table h = let l = laid-spread (planned-is s start (sym promise ∙ e) .laid) in omega (arith, l .first)
+  pub inspect-clauses : InspectClauses s start r
+  inspect-clauses = record {
+    inspect-ok = λ few. rw (promise, plan-is s start y few) (said-some theirs (ours.plan s start));
+    inspect-plan = λ p e few. rw (plan-is s start y few, ← promise, e);
+    inspect-small = λ p e. let k = plan-kept s start y (sym promise ∙ e) in (k .few, k .narrow, k .slim, k .short);
+    inspect-order = λ p e. let k = plan-kept s start y (sym promise ∙ e) in (k .begun, k .inside, k .tabled);
+    inspect-run = λ p e. let l = laid-spread (planned-is s start (sym promise ∙ e) .laid) in omega (arith, l .second);
+    inspect-table = λ p e h. let l = laid-spread (planned-is s start (sym promise ∙ e) .laid) in omega (arith, l .first);
+  }
 
 -- ---- `decode_into`, and `decode`, whose array is 256 zeros at first: from the promise of `lerc_bits::decode`
 
 module _ (s : List ℕ) (start : ℕ) (y : Bytes s) (few : length s ≤ lengthMax) (r : CountsAnswer) (old new : List ℕ) (promise : CountsDecoded (ours.counts s start) r old new) where
-  -- 2.31, 2.35
-  pub decode-ok : accepts (countsSaid r) ≡ is-some (decoded s start)
-  decode-ok = rw (promise .says, decoded-is s start y few) (go (ours.counts s start))
-    where
-      go : (m : Res Counts) → accepts (m >>= span) ≡ is-some (said items m)
-      go (ok c) = refl
-      go (fail r) = refl
-
   module _ (n next : ℕ) (d : Items) (e : countsSaid r ≡ ok (record { n = n; next = next })) (t : decoded s start ≡ some d) where
     -- the counts that were read
     read : (m : Res Counts) → ours.counts s start ≡ m → (c : Counts) × (ours.counts s start ≡ ok c) × (n ≡ length (c .values)) × (next ≡ c .next) × (c .values ≡ d .values) × (c .next ≡ d .end) × (new ≡ over (c .values) old)
@@ -325,14 +299,12 @@ module _ (s : List ℕ) (start : ℕ) (y : Bytes s) (few : length s ≤ lengthMa
         (c, f, ap (λ (x : Span). x .n) v, ap (λ (x : Span). x .next) v, ap (λ (x : Items). x .values) i, ap (λ (x : Items). x .end) i, rw (f) at (promise .left))
     read (fail q) f = absurd (let w : _≡_ {A = Res Span} (ok (record { n = n; next = next })) (fail q) = sym e ∙ promise .says ∙ ap (λ (x : Res Counts). x >>= span) f in let z : _≡_ {A = ℕ} 0 1 = cc in omega arith)
 
-    -- 2.32, 2.36
-    pub decode-end : (next ≡ d .end) × (n ≤ 256)
-    decode-end = let (c, f, l, x, v, w, z) = read (ours.counts s start) refl in (x ∙ w, rw (l) (counts-few s start f))
-
-    -- 2.33, 2.37
-    pub decode-values : take n new ≡ d .values
-    decode-values = let (c, f, l, x, v, w, z) = read (ours.counts s start) refl in ap (λ (k : ℕ). take k new) l ∙ ap (take (length (c .values))) z ∙ take-append-seam (c .values) (drop (length (c .values)) old) ∙ v
-
-    -- 2.34, 2.38
-    pub decode-inside : (start < next) × (next ≤ length s)
-    decode-inside = let (c, f, l, x, v, w, z) = read (ours.counts s start) refl in rw (x) (counts-ends s start f)
+  pub decode-clauses : DecodeClauses s start r new
+  decode-clauses = record {
+    decode-ok = rw (promise .says, decoded-is s start y few) (told-some {B = Span} (λ c. record { n = length (c .values); next = c .next }) items (ours.counts s start));
+    decode-end = λ n next d e t. let (c, f, l, x, v, w, z) = read n next d e t (ours.counts s start) refl in (x ∙ w, rw (l) (counts-few s start f));
+    decode-values = λ n next d e t.
+        let (c, f, l, x, v, w, z) = read n next d e t (ours.counts s start) refl in
+        ap (λ (k : ℕ). take k new) l ∙ ap (take (length (c .values))) z ∙ take-append-seam (c .values) (drop (length (c .values)) old) ∙ v;
+    decode-inside = λ n next d e t. let (c, f, l, x, v, w, z) = read n next d e t (ours.counts s start) refl in rw (x) (counts-ends s start f);
+  }

@@ -2,58 +2,52 @@
 -- Assumes nothing.
 use Prim.{Unit, tt}
 use mathlib.Core.Path.{_≡_, refl, sym, ap, _∙_}
-use mathlib.Core.Bool.{Bool, true, false, not, cond, _&&_, _||_}
+use mathlib.Core.Bool.{Bool, true, false, not, cond, _&&_}
 use mathlib.Core.List.{List}
 use mathlib.Core.Option.{Option, none, some}
-use Prim.Native.Nat.{ℕ, zero, suc, _+_, _*_, _/_, _%_, _≤_, _<_}
+use Prim.Native.Nat.{ℕ, zero, suc, _+_, _*_, _≤_, _<_}
 use native.Mathlib.Omega.{arith}
 use native.Mathlib.Nat.{suc-mul, mul-le-mul-right, mul-comm}
-use native.Mathlib.Decide.{decLt}
 use borrow.Author.Tests.{lt-ltb, le-ltb, lt-leb, eqb-true, eqb-false, leb-true, leb-false}
 use lib.Arith.{digits-div, digits-mod}
 use lib.Dec.{leb, eqb}
 use lib.ListN.{length, getD, set, take}
-use Rattle.lerc_words.specs.declared.Refusal.{Refusal}
 use Rattle.lerc_words.specs.Res.{Res, ok, fail, _>>=_, refuse, accepts}
 use Rattle.lerc_words.proofs.Binding.{ok-is, and-is, cond-elim}
 use Rattle.lerc_words.proofs.Little.{Bytes, wordAt-no}
-use Rattle.lerc_numeric.specs.Numeric.{finite, sum, scaled, less}
+use Rattle.lerc_numeric.specs.Numeric.{sum, scaled, less}
 use Rattle.lerc_numeric.specs.Kinds.{typeSize}
-use Rattle.lerc_samples.specs.Samples.{sampleAt, offsetKind}
 use Rattle.lerc_header.specs.declared.Header.{Header}
 use Rattle.lerc_header.specs.declared.Extent.{Extent}
 use Rattle.lerc_header.specs.Header.{shapeOf, held, extentOf}
 use Rattle.lerc_header.specs.Shape.{Shaped, cells, blockCount}
 use Rattle.lerc_header.proofs.Kept.{held-is, held-shaped}
-use Rattle.lerc_bits.specs.Bits.{Counts, counts}
-use Rattle.lerc_bits.proofs.Values.{counts-ends, counts-few}
 use Rattle.lerc_mask.specs.Mask.{pixelValid}
 use Rattle.lerc_mask.proofs.Steps.{bytes-part}
 use Rattle.lerc_ranges.specs.declared.Ranges.{Ranges}
 use Rattle.lerc_ranges.specs.Ranges.{pairsRight}
 use Rattle.lerc_block.specs.declared.BlockAnswer.{BlockAnswer}
 use Rattle.lerc_block.specs.Block.{Block, flagAt, blockSays, readBlockSays, blockSaid, BlockRead, tileLimit}
-use Rattle.lerc_samples.proofs.Reading.{sample-is}
 use Rattle.lerc_block.proofs.Accepted.{block-ends}
 use Rattle.lerc_image.specs.declared.Tile.{Tile}
 use Rattle.lerc_image.specs.declared.FillAnswer.{FillAnswer}
 use Rattle.lerc_image.specs.Geometry.{tileOf, validInTile}
 use Rattle.lerc_image.specs.Paint.{inBlock, wordOf, scattered}
 use Rattle.lerc_image.specs.Blocks.{blockAt}
-use Rattle.lerc_image.specs.Fill.{fillSays, fillCount, fillSaid, fillImage, Filled}
+use Rattle.lerc_image.specs.Fill.{fillSays, fillImage, Filled}
 use Rattle.lerc_image.proofs.Partition.{tile-wide, tile-high, tile-depth}
 use Rattle.lerc_image.proofs.Cursors.{tile-in, valid-small}
 use Rattle.lerc_image.proofs.Reading.{read-block}
 use Rattle.lerc_image.proofs.Painting.{length-painted, painted-cell}
 use Rattle.lerc_image.proofs.Upto.{inside}
 use Rattle.lerc_contracts.specs.Outside.{said, is-some, onSome, lengthMax, storage, width, height}
-use Rattle.lerc_contracts.specs.Bits.{decoded}
-use Rattle.lerc_contracts.specs.Block.{TileValid, pixel, target, Mode, mode, modeOffset, Step, value, ResultModel, finished, finish, block}
-use Rattle.lerc_contracts.proofs.WithoutNumber.{said-is}
+use Rattle.lerc_contracts.specs.Block.{TileValid, pixel, target, Mode, mode, Step, value, ResultModel, finished, finish, block}
+use Rattle.lerc_contracts.specs.Between.{validOf, theirFill, roomFor, result}
+use Rattle.lerc_contracts.specs.BlockClauses.{TargetClauses, ReadBlockClauses, ReconstructClauses}
+use Rattle.lerc_contracts.proofs.WithoutNumber.{told-some, said-is}
 use Rattle.lerc_contracts.proofs.Refusals.{blob-short}
-use Rattle.lerc_contracts.proofs.Bits.{items, decoded-is}
-use Rattle.lerc_contracts.proofs.Block.{mode-past, mode-check, mode-free, mode-kind, mode-number, mode-offset, offset-wild, offset-level, offset-none, offset-steps, result, block-is}
-use Rattle.lerc_contracts.proofs.Walking.{finish-done, finish-out, finish-skip, finish-stop, finish-step}
+use Rattle.lerc_contracts.proofs.Block.{block-is}
+use Rattle.lerc_contracts.proofs.Walking.{finish-done, finish-cases}
 
 -- ---- `Tile::valid`: 4.2 to 4.7, of the tiles that there are
 
@@ -77,87 +71,21 @@ module _ (h : Header) (t : Tile) (v : TileValid t h) (row col : ℕ) (r : row < 
   pub pixel-at : (t .y + row) * width h + (t .x + col) ≡ pixel t h (row * t .w + col)
   pixel-at = rw (digits-div row c, digits-mod row c) (omega arith)
 
-  -- 4.56
-  pub target-at : ((t .y + row) * width h + (t .x + col)) * h .depth + t .d ≡ target t h (row * t .w + col)
-  target-at = ap (λ (p : ℕ). p * h .depth + t .d) pixel-at
-
   -- 4.57
   pub pixel-below : pixel t h (row * t .w + col) < width h * height h
   pixel-below =
       let a : suc (t .y + row) * width h ≤ height h * width h = mul-le-mul-right (width h) (omega (arith, v .row)) in
       omega (arith, a, suc-mul (t .y + row) (width h), mul-comm (width h) (height h), pixel-at, v .column)
 
-  -- 4.58
-  pub target-below : target t h (row * t .w + col) < width h * height h * h .depth
-  target-below =
-      let p = pixel t h (row * t .w + col) in
-      let a : suc p * h .depth ≤ width h * height h * h .depth = mul-le-mul-right (h .depth) pixel-below in
-      omega (arith, a, suc-mul p (h .depth), v .depth)
-
--- ---- `read_mode`: what an accepted mode keeps to
-
--- 4.25, 4.27: its place and flag; where the flag is 1, its counts
-pub record ModeKept (s : List ℕ) (at : ℕ) (m : Mode) : Type 0 where
-  pub behind : at < m .at
-  pub inside : m .at ≤ length s
-  pub flag : m .flag < 4
-  pub counted : m .flag ≡ 1 → (q : List ℕ) × (decoded s (m .quant) ≡ some (record { end = m .at; values = q })) × (length q ≤ 256)
-
-abbrev Keeps : List ℕ → ℕ → Option Mode → Type 0
-Keeps s at none = Unit
-Keeps s at (some m) = ModeKept s at m
-
-module _ (s : List ℕ) (y : Bytes s) (few : length s ≤ lengthMax) (at : ℕ) (h : Header) (t : Tile) where
-  free-kept : at < length s → (f : ℕ) → (eqb f 0 || eqb f 2) ≡ true → f < 4 → ModeKept s at (record { at = at + 1; flag = f; offset = 0; quant = 0; next = at + 1 })
-  free-kept l f o b = record { behind = omega arith; inside = omega arith; flag = b; counted = λ e. absurd (let w : (eqb f 0 || eqb f 2) ≡ false = rw (e) in let z : _≡_ {A = ℕ} 0 1 = cc in omega arith) }
-
-  offset-kept : (f k v : ℕ) → f < 4 → at + 1 + typeSize k ≤ length s → Keeps s at (modeOffset s at f k v)
-  offset-kept f k v b l = go (finite v) refl (eqb f 3) refl
-    where
-      many : finite v ≡ true → eqb f 3 ≡ false → (c : Res Counts) → counts s (at + 1 + typeSize k) ≡ c → Keeps s at (modeOffset s at f k v)
-      many e d (fail r) q = rw (offset-none s at f k v e d y few r q) tt
-      many e d (ok c) q =
-          let z = counts-ends s (at + 1 + typeSize k) q in
-          rw (offset-steps s at f k v e d y few c q) (record {
-            behind = omega arith;
-            inside = z .1;
-            flag = b;
-            counted = λ _. (c .values, decoded-is s (at + 1 + typeSize k) y few ∙ ap (said items) q, counts-few s (at + 1 + typeSize k) q);
-          })
-
-      go : (u : Bool) → finite v ≡ u → (w : Bool) → eqb f 3 ≡ w → Keeps s at (modeOffset s at f k v)
-      go false e w d = rw (offset-wild s at f k v e) tt
-      go true e true d = rw (offset-level s at f k v e d) (record { behind = omega arith; inside = l; flag = b; counted = λ z. absurd (let x = eqb-true f 3 d in omega arith) })
-      go true e false d = many e d (counts s (at + 1 + typeSize k)) refl
-
-  mode-keeps : Keeps s at (mode s at h t)
-  mode-keeps = within (decLt at (length s))
-    where
-      flag : ℕ
-      flag = getD s at 0
-
-      numbers : (l : at < length s) (c : eqb (flag / 4 % 16) (t .x / 8 % 16) ≡ true) (o : (eqb (flag % 4) 0 || eqb (flag % 4) 2) ≡ false) (k : ℕ) → offsetKind (h .kind) (flag / 64) ≡ ok k → (v : Res ℕ) → sampleAt k s (at + 1) ≡ v → Keeps s at (mode s at h t)
-      numbers l c o k e (ok v) d = rw (mode-offset s at h t l c o k e v d) (offset-kept (flag % 4) k v (omega arith) (sample-is k s (at + 1) v d .inside))
-      numbers l c o k e (fail r) d = rw (mode-number s at h t l c o k e r d) tt
-
-      kinds : (l : at < length s) (c : eqb (flag / 4 % 16) (t .x / 8 % 16) ≡ true) (o : (eqb (flag % 4) 0 || eqb (flag % 4) 2) ≡ false) (k : Res ℕ) → offsetKind (h .kind) (flag / 64) ≡ k → Keeps s at (mode s at h t)
-      kinds l c o (ok k) e = numbers l c o k e (sampleAt k s (at + 1)) refl
-      kinds l c o (fail r) e = rw (mode-kind s at h t l c o r e) tt
-
-      forms : (l : at < length s) (c : eqb (flag / 4 % 16) (t .x / 8 % 16) ≡ true) (u : Bool) → (eqb (flag % 4) 0 || eqb (flag % 4) 2) ≡ u → Keeps s at (mode s at h t)
-      forms l c true o = rw (mode-free s at h t l c o) (free-kept l (flag % 4) o (omega arith))
-      forms l c false o = kinds l c o (offsetKind (h .kind) (flag / 64)) refl
-
-      checked : (l : at < length s) (u : Bool) → eqb (flag / 4 % 16) (t .x / 8 % 16) ≡ u → Keeps s at (mode s at h t)
-      checked l true c = forms l c (eqb (flag % 4) 0 || eqb (flag % 4) 2) refl
-      checked l false c = rw (mode-check s at h t l c) tt
-
-      within : Dec (at < length s) → Keeps s at (mode s at h t)
-      within (yes l) = checked l (eqb (flag / 4 % 16) (t .x / 8 % 16)) refl
-      within (no l) = rw (mode-past s at h t (omega arith)) tt
-
-  pub mode-kept : (m : Mode) → mode s at h t ≡ some m → ModeKept s at m
-  mode-kept m e = rw (e) at mode-keeps
+  pub target-clauses : TargetClauses h t row col
+  target-clauses = record {
+    pixel-at = pixel-at;
+    target-at = ap (λ (p : ℕ). p * h .depth + t .d) pixel-at;
+    pixel-below = pixel-below;
+    target-below = let p = pixel t h (row * t .w + col) in
+        let a : suc p * h .depth ≤ width h * height h * h .depth = mul-le-mul-right (h .depth) pixel-below in
+        omega (arith, a, suc-mul p (h .depth), v .depth);
+  }
 
 -- ---- `read_value`: 4.44
 
@@ -211,7 +139,7 @@ module _ (s : List ℕ) (h : Header) (t : Tile) (m : Mode) (q mask : List ℕ) (
         where
           last : (b : Bool) → eqb k (t .w * t .h) ≡ b → Ends at (finish s h t m q mask maximum k at index out zero)
           last true e = rw (finish-done s h t m q mask maximum k at index out zero (eqb-true _ _ e)) (done at index out l)
-          last false e = rw (finish-out s h t m q mask maximum k at index out (eqb-false _ _ e)) tt
+          last false e = rw (finish-cases s h t m q mask maximum .finish-out k at index out (eqb-false _ _ e)) tt
       go (suc fuel) k at index out l i = more (eqb k (t .w * t .h)) refl (go fuel (k + 1))
         where
           more : (b : Bool) → eqb k (t .w * t .h) ≡ b → ((at index : ℕ) (out : List ℕ) → at ≤ length s → index ≤ length q → Ends at (finish s h t m q mask maximum (k + 1) at index out fuel))
@@ -220,15 +148,15 @@ module _ (s : List ℕ) (h : Header) (t : Tile) (m : Mode) (q mask : List ℕ) (
           more false e rest = look (pixelValid mask (pixel t h k)) refl
             where
               step : pixelValid mask (pixel t h k) ≡ true → (o : Option Step) → value s h m q at index maximum ≡ o → Ends at (finish s h t m q mask maximum k at index out (suc fuel))
-              step v none d = rw (finish-stop s h t m q mask maximum k at index out (eqb-false _ _ e) fuel v d) tt
+              step v none d = rw (finish-cases s h t m q mask maximum .finish-stop k at index out (eqb-false _ _ e) fuel v d) tt
               step v (some w) d =
                   let z = value-inside s h m q at index maximum l i w d in
-                  rw (finish-step s h t m q mask maximum k at index out (eqb-false _ _ e) fuel w v d)
+                  rw (finish-cases s h t m q mask maximum .finish-step k at index out (eqb-false _ _ e) fuel w v d)
                   (ends-before at (w .at) (finish s h t m q mask maximum (k + 1) (w .at) (w .q) (set out (target t h k) (w .value)) fuel) (z .0) (rest (w .at) (w .q) (set out (target t h k) (w .value)) (z .1) (z .3)))
 
               look : (b : Bool) → pixelValid mask (pixel t h k) ≡ b → Ends at (finish s h t m q mask maximum k at index out (suc fuel))
               look true v = step v (value s h m q at index maximum) refl
-              look false v = rw (finish-skip s h t m q mask maximum k at index out (eqb-false _ _ e) fuel v) (rest at index out l i)
+              look false v = rw (finish-cases s h t m q mask maximum .finish-skip k at index out (eqb-false _ _ e) fuel v) (rest at index out l i)
 
   pub reconstruct-inside : (out : List ℕ) → m .at ≤ length s → (r : ResultModel) → finish s h t m q mask maximum 0 (m .at) 0 out 256 ≡ some r → (m .at ≤ r .at) × (r .at ≤ length s)
   reconstruct-inside out l r e = rw (e) at (finish-ends 256 0 (m .at) 0 out l (omega arith))
@@ -270,23 +198,12 @@ module _ (h : Header) (mask : List ℕ) (n : ℕ) (image : List ℕ) (g : Shaped
 
     -- 4.67 and 4.82, with 4.23: a block is accepted where upstream has a mode and finishes its cells
     pub read-block-ok : accepts (blockSaid r) ≡ is-some theirs
-    read-block-ok = rw (says, same-block) (go ours)
-      where
-        go : (m : Res Block) → accepts (m >>= λ b. ok (b .next)) ≡ is-some (said (result h mask n image) m)
-        go (ok b) = refl
-        go (fail q) = refl
+    read-block-ok = rw (says, same-block) (told-some (λ b. b .next) (result h mask n image) ours)
 
     -- 4.23: where upstream has no mode, ours is refused
     pub read-mode-none : mode s at h (tileOf (shapeOf h) n) ≡ none → accepts (blockSaid r) ≡ false
     unfolding block
     read-mode-none e = read-block-ok ∙ rw (e)
-
-    -- 4.68, 4.83
-    pub read-block-end : (next : ℕ) (t : ResultModel) → blockSaid r ≡ ok next → theirs ≡ some t → next ≡ t .at
-    read-block-end next t e d =
-        let (b, o, f) = found t d in
-        let w : ok next ≡ ok (b .next) = sym e ∙ says ∙ ap (λ (m : Res Block). m >>= λ b. ok (b .next)) o in
-        ok-is w ∙ ap (λ (x : ResultModel). x .at) f
 
     -- 4.25, for the end
     pub read-block-inside : (next : ℕ) → blockSaid r ≡ ok next → (at < next) × (next ≤ length s)
@@ -298,24 +215,20 @@ module _ (h : Header) (mask : List ℕ) (n : ℕ) (image : List ℕ) (g : Shaped
             rw (ok-is w) (block-ends s at (h .kind) (h .error) maximum (tileOf (shapeOf h) n .x) (validInTile (shapeOf h) mask (tileOf (shapeOf h) n)) o)
         go (fail q) o = absurd (let w : _≡_ {A = Res ℕ} (ok next) (fail q) = sym e ∙ says ∙ ap (λ (m : Res Block). m >>= λ b. ok (b .next)) o in let z : _≡_ {A = ℕ} 0 1 = cc in omega arith)
 
+    pub read-block-clauses : ReadBlockClauses h mask n image s maximum at r
+    read-block-clauses = record {
+      read-block-ok = read-block-ok;
+      read-mode-none = read-mode-none;
+      read-block-end = λ next t e d.
+          let (b, o, f) = found t d in
+          let w : ok next ≡ ok (b .next) = sym e ∙ says ∙ ap (λ (m : Res Block). m >>= λ b. ok (b .next)) o in
+          ok-is w ∙ ap (λ (x : ResultModel). x .at) f;
+      read-block-inside = read-block-inside;
+    }
+
 -- ---- `reconstruct`: from the promise of `lerc_image::fill`
 
 module _ (b : List ℕ) (h : Header) (ranges : Ranges) (mask list : List ℕ) (n : ℕ) (r : FillAnswer) (old new : List ℕ) (promise : Filled b h ranges mask list n r old new) where
-  -- 4.21, 4.38, 4.59, 4.72: the header
-  pub fill-held : (q : Refusal) → held h (length b) ≡ fail q → fillSaid r ≡ fail q
-  unfolding fillSays
-  fill-held q e = promise .says ∙ rw (e)
-
-  -- 4.59, 4.72: a number that no tile has
-  pub fill-number : (e : Extent) → held h (length b) ≡ ok e → e .blocks ≤ n → fillSaid r ≡ fail (refuse 11)
-  unfolding fillSays
-  fill-number e k l = promise .says ∙ rw (k, le-ltb n (e .blocks) l)
-
-  -- 4.64, 4.65, 4.79, 4.80: room
-  pub fill-room : (e : Extent) → held h (length b) ≡ ok e → n < e .blocks → (leb (e .mask) (length mask) && leb (e .blocks) (length list) && leb (e .cells) (length old)) ≡ false → fillSaid r ≡ fail (refuse 5)
-  unfolding fillSays
-  fill-room e k l t = promise .says ∙ rw (k, lt-ltb n (e .blocks) l, t)
-
   -- what was written
   left : (m : Res Block) → fillSays b h ranges mask list n (length old) ≡ m → (length new ≡ length old) × ((j : ℕ) → cells (shapeOf h) ≤ j → j < length old → getD new j 0 ≡ getD old j 0)
   unfolding fillImage
@@ -328,42 +241,29 @@ module _ (b : List ℕ) (h : Header) (ranges : Ranges) (mask list : List ℕ) (n
       out j l true e = absurd (omega (arith, inside (shapeOf h) mask n j e .below))
       out j l false e = refl
 
-  -- 4.66, 4.81
-  pub fill-length : length new ≡ length old
-  fill-length = left (fillSays b h ranges mask list n (length old)) refl .0
-
-  -- 4.71, 4.86
-  pub fill-rest : (j : ℕ) → h .columns * h .rows * h .depth ≤ j → j < length old → getD new j 0 ≡ getD old j 0
-  fill-rest j l o = left (fillSays b h ranges mask list n (length old)) refl .1 j (rw (← mul-comm (h .columns) (h .rows)) l) o
-
-  module _ (e : Extent) (k : held h (length b) ≡ ok e) (below : n < e .blocks) (wide : (leb (e .mask) (length mask) && leb (e .blocks) (length list) && leb (e .cells) (length old)) ≡ true)
+  module _ (e : Extent) (k : held h (length b) ≡ ok e) (below : n < e .blocks) (wide : roomFor e mask list old ≡ true)
       (right : pairsRight (h .depth) ranges ≡ true) (y : Bytes b) where
-    -- upstream's cells of this block, from its listed start
-    abbrev their-fill : Option ResultModel
-    their-fill = block (take (h .size) b) h (tileOf (shapeOf h) n) mask (getD (ranges .max) (tileOf (shapeOf h) n .d) 0) (getD list n 0) old
-
     judged : fillSays b h ranges mask list n (length old) ≡ blockAt (take (h .size) b) h (ranges .max) mask n (getD list n 0)
     unfolding fillSays
     judged = rw (k, lt-ltb n (e .blocks) below, wide, right)
 
-    same-fill : their-fill ≡ said (result h mask n old) (fillSays b h ranges mask list n (length old))
+    same-fill : theirFill b h ranges mask list n old ≡ said (result h mask n old) (fillSays b h ranges mask list n (length old))
     unfolding blockAt
     same-fill =
         let i : e ≡ extentOf h = held-is h (length b) k in
         let room : cells (shapeOf h) ≤ length old = rw (i) at (leb-true (e .cells) (length old) (and-is (leb (e .mask) (length mask) && leb (e .blocks) (length list)) (leb (e .cells) (length old)) wide .1)) in
         rw (judged) (block-is h mask n old (held-shaped h (length b) k) (rw (i) at below) room (take (h .size) b) (bytes-part b 0 (h .size) y) (blob-short b h k) (getD (ranges .max) (tileOf (shapeOf h) n .d) 0) (getD list n 0))
 
-    -- 4.67, 4.82
-    pub fill-ok : accepts (fillSaid r) ≡ is-some their-fill
-    fill-ok = rw (promise .says, same-fill) (go (fillSays b h ranges mask list n (length old)))
-      where
-        go : (m : Res Block) → accepts (m >>= fillCount h mask n) ≡ is-some (said (result h mask n old) m)
-        go (ok b) = refl
-        go (fail q) = refl
-
-    -- 4.69, 4.84
-    pub fill-image : (t : ResultModel) → their-fill ≡ some t → new ≡ t .image
-    unfolding fillImage
-    fill-image t d =
-        let (c, o, f) = said-is (result h mask n old) (fillSays b h ranges mask list n (length old)) (sym same-fill ∙ d) in
-        promise .image ∙ rw (o) (ap (λ (x : ResultModel). x .image) f)
+  pub reconstruct-clauses : ReconstructClauses b h ranges mask list n r old new
+  unfolding fillSays fillImage
+  reconstruct-clauses = record {
+    fill-held = λ q e. promise .says ∙ rw (e);
+    fill-number = λ e k l. promise .says ∙ rw (k, le-ltb n (e .blocks) l);
+    fill-room = λ e k l t. promise .says ∙ rw (k, lt-ltb n (e .blocks) l, t);
+    fill-length = left (fillSays b h ranges mask list n (length old)) refl .0;
+    fill-rest = λ j l o. left (fillSays b h ranges mask list n (length old)) refl .1 j (rw (← mul-comm (h .columns) (h .rows)) l) o;
+    fill-ok = λ e k l w p y. rw (promise .says, same-fill e k l w p y) (told-some (λ c. validOf h mask n) (result h mask n old) (fillSays b h ranges mask list n (length old)));
+    fill-image = λ e k l w p y t d.
+        let (c, o, f) = said-is (result h mask n old) (fillSays b h ranges mask list n (length old)) (sym (same-fill e k l w p y) ∙ d) in
+        promise .image ∙ rw (o) (ap (λ (x : ResultModel). x .image) f);
+  }

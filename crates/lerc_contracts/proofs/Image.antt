@@ -24,16 +24,17 @@ use Rattle.lerc_image.specs.declared.Position.{Position}
 use Rattle.lerc_image.specs.Geometry.{tileOf, positionOf, HasTile, tileHere, nextOf, blockOf, isValidCell}
 use Rattle.lerc_image.specs.Blocks.{blockAt, Chain, chain, allBlocks}
 use Rattle.lerc_image.specs.Paint.{painted, inBlock, indexOf, wordOf, scattered}
-use Rattle.lerc_image.specs.Tiles.{tilesImage}
 use Rattle.lerc_image.proofs.Partition.{block-lt}
 use Rattle.lerc_image.proofs.Steps.{position-first, position-last, position-within, position-next, tile-here}
 use Rattle.lerc_image.proofs.Painting.{length-painted, painted-cell, is-painted, painted-none, painted-same, painted-words}
 use Rattle.lerc_image.proofs.Upto.{valid-below}
 use Rattle.lerc_image.proofs.Chain.{chain-none, chain-front, fronted}
 use Rattle.lerc_contracts.specs.Outside.{said, onSome, lengthMax}
-use Rattle.lerc_contracts.specs.Block.{TileValid, ResultModel, block}
+use Rattle.lerc_contracts.specs.Block.{block}
 use Rattle.lerc_contracts.specs.Image.{PositionValid, tile, next, tiles}
-use Rattle.lerc_contracts.proofs.Block.{result, block-is}
+use Rattle.lerc_contracts.specs.Between.{from, painting, tiledImage, result}
+use Rattle.lerc_contracts.specs.ImageClauses.{TilesStep, TilesFrom, TilesIs, PositionClauses, TilesCases}
+use Rattle.lerc_contracts.proofs.Block.{block-is}
 
 -- ---- positions
 
@@ -55,25 +56,6 @@ next-is p h = rw (lesser-is (h .columns - p .x) (h .side), lesser-is (h .rows - 
 -- ---- `Position::current`, `Position::advance`: from the promises of the private methods of the same names
 
 module _ (p : Position) (h : Header) (g : Shaped (shapeOf h)) (w : HasTile (shapeOf h) p) where
-  -- 5.12
-  pub current-tile : (r : Tile) → r ≡ tileHere (shapeOf h) p → r ≡ tile p h
-  current-tile r e = e ∙ sym (tile-is p h)
-
-  -- 5.13, also 4.2 to 4.7
-  pub current-valid : (r : Tile) → r ≡ tileHere (shapeOf h) p → TileValid r h
-  current-valid r e = rw (e) (record {
-    header = g;
-    wide = (omega (arith, w .x, g .side .0), omega (arith, g .side .1));
-    high = (omega (arith, w .y, g .side .0), omega (arith, g .side .1));
-    column = omega (arith, w .x);
-    row = omega (arith, w .y);
-    depth = w .d;
-  })
-
-  -- 5.16
-  pub advance-next : (r : Position) → r ≡ nextOf (shapeOf h) p → r ≡ next p h
-  advance-next r e = e ∙ sym (next-is p h)
-
   -- 5.17, also 5.2 to 5.5
   pub advance-valid : (r : Position) → r ≡ nextOf (shapeOf h) p → PositionValid r h
   advance-valid r e = rw (e) (deeper (decLt (p .d + 1) (h .depth)))
@@ -86,12 +68,22 @@ module _ (p : Position) (h : Header) (g : Shaped (shapeOf h)) (w : HasTile (shap
       deeper (yes l) = rw (lt-ltb _ _ l) (record { header = g; x = w .x; y = omega (arith, w .y); d = l })
       deeper (no l) = rw (le-ltb (p .d + 1) (h .depth) (omega arith)) (right (decLt (p .x + min (h .side) (h .columns - p .x)) (h .columns)))
 
--- ---- the tiles, one after the other
+  pub position-clauses : PositionClauses p h
+  position-clauses = record {
+    current-tile = λ r e. e ∙ sym (tile-is p h);
+    current-valid = λ r e. rw (e) (record {
+      header = g;
+      wide = (omega (arith, w .x, g .side .0), omega (arith, g .side .1));
+      high = (omega (arith, w .y, g .side .0), omega (arith, g .side .1));
+      column = omega (arith, w .x);
+      row = omega (arith, w .y);
+      depth = w .d;
+    });
+    advance-next = λ r e. e ∙ sym (next-is p h);
+    advance-valid = advance-valid;
+  }
 
--- the blocks from n on painted, the words of block n first
-abbrev pub from : Header → List ℕ → ℕ → List (List ℕ) → List ℕ → List ℕ
-from h mask n words image =
-    painted image (λ i. isValidCell (shapeOf h) mask i && leb n (blockOf (shapeOf h) i)) (wordOf (shapeOf h) mask (λ b. getD words (b - n) []))
+-- ---- the tiles, one after the other
 
 module _ (h : Header) (g : Shaped (shapeOf h)) (mask : List ℕ) where
   from-none : (image : List ℕ) → image ≡ from h mask (blockCount (shapeOf h)) [] image
@@ -130,10 +122,6 @@ from-first h mask words image =
     painted-words image _ (wordOf (shapeOf h) mask (λ n. getD words n [])) (λ i. isValidCell (shapeOf h) mask i && leb 0 (blockOf (shapeOf h) i)) (λ c _. let z : blockOf (shapeOf h) c - 0 ≡ blockOf (shapeOf h) c = omega arith in rw (z))
     ∙ painted-same image _ _ _ (λ c _. rw (le-leb 0 (blockOf (shapeOf h) c) (omega arith)) (and-true (isValidCell (shapeOf h) mask c)))
 
--- a chain of ours as upstream's result
-abbrev pub painting : Header → List ℕ → ℕ → List ℕ → Chain → ResultModel
-painting h mask n image c = record { at = c .end; image = from h mask n (c .words) image }
-
 module _ (s : List ℕ) (y : Bytes s) (few : length s ≤ lengthMax) (h : Header) (g : Shaped (shapeOf h)) (mask max : List ℕ) where
   -- 5.18
   pub tiles-end : (p : Position) (at : ℕ) (out : List ℕ) (fuel : ℕ) → p .y ≡ h .rows → tiles s h mask max p at out fuel ≡ some (record { at = at; image = out })
@@ -142,8 +130,7 @@ module _ (s : List ℕ) (y : Bytes s) (few : length s ≤ lengthMax) (h : Header
   tiles-end p at out (suc fuel) e = rw (eq-eqb (p .y) (h .rows) e)
 
   -- 5.20, 5.21, 5.22
-  pub tiles-step : (p : Position) (at : ℕ) (out : List ℕ) (fuel : ℕ) → (p .y ≡ h .rows → ⊥)
-      → tiles s h mask max p at out (suc fuel) ≡ onSome (block s h (tile p h) mask (getD max (p .d) 0) at out) (λ b. tiles s h mask max (next p h) (b .at) (b .image) fuel)
+  pub tiles-step : TilesStep s h mask max
   unfolding tiles
   tiles-step p at out fuel d = rw (ne-eqb (p .y) (h .rows) d)
 
@@ -156,8 +143,7 @@ module _ (s : List ℕ) (y : Bytes s) (few : length s ≤ lengthMax) (h : Header
       rw (t, d) (block-is h mask n out g l r s y few (getD max (tileOf (shapeOf h) n .d) 0) at)
 
   -- THE TILES, from block n on
-  pub tiles-from : (fuel f n at : ℕ) (out : List ℕ) → n + f ≡ blockCount (shapeOf h) → f ≤ fuel → cells (shapeOf h) ≤ length out
-      → tiles s h mask max (positionOf (shapeOf h) n) at out fuel ≡ said (painting h mask n out) (chain s h max mask f n at)
+  pub tiles-from : TilesFrom s h mask max
   tiles-from fuel zero n at out e l r =
       let z : n ≡ blockCount (shapeOf h) = omega arith in
       rw (chain-none s h max mask n at, z)
@@ -185,13 +171,15 @@ module _ (s : List ℕ) (y : Bytes s) (few : length s ≤ lengthMax) (h : Header
           more (fail w) = refl
 
   -- and from the first: 5.28 to 5.30
-  pub tiles-is : (at : ℕ) (out : List ℕ) → cells (shapeOf h) ≤ length out
-      → tiles s h mask max (record { x = 0; y = 0; d = 0 }) at out (h .columns * h .rows * h .depth) ≡ said (λ c. record { at = c .end; image = tilesImage h mask out c }) (allBlocks s h max mask at)
+  pub tiles-is : TilesIs s h mask max
   tiles-is at out r =
       let n : blockCount (shapeOf h) ≤ h .columns * h .rows * h .depth = rw (mul-comm (h .columns) (h .rows)) (blocks-le (shapeOf h) g) in
       rw (← position-first (shapeOf h) g)
       (tiles-from (h .columns * h .rows * h .depth) (blockCount (shapeOf h)) 0 at out (omega arith) n r ∙ go (allBlocks s h max mask at))
     where
-      go : (m : Res Chain) → said (painting h mask 0 out) m ≡ said (λ c. record { at = c .end; image = tilesImage h mask out c }) m
+      go : (m : Res Chain) → said (painting h mask 0 out) m ≡ said (tiledImage h mask out) m
       go (ok c) = ap (λ (o : List ℕ). some (record { at = c .end; image = o })) (from-first h mask (c .words) out)
       go (fail w) = refl
+
+  pub tiles-cases : TilesCases s h mask max
+  tiles-cases = record { tiles-end = tiles-end; tiles-step = tiles-step; tiles-from = tiles-from; tiles-is = tiles-is }

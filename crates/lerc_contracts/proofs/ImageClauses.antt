@@ -11,7 +11,6 @@ use native.Mathlib.Nat.{mul-comm}
 use borrow.Author.Tests.{leb-true, lt-leb}
 use lib.Dec.{leb}
 use lib.ListN.{length, getD, take, drop, replicate}
-use Rattle.lerc_words.specs.declared.Refusal.{Refusal}
 use Rattle.lerc_words.specs.Res.{Res, ok, fail, _>>=_, refuse, require, accepts}
 use Rattle.lerc_words.specs.Lists.{over}
 use Rattle.lerc_words.proofs.Binding.{ok-is, and-is, bind-is, require-is}
@@ -19,7 +18,7 @@ use Rattle.lerc_words.proofs.Little.{Bytes}
 use Rattle.lerc_numeric.specs.Kinds.{typeSize}
 use Rattle.lerc_header.specs.declared.Header.{Header}
 use Rattle.lerc_header.specs.declared.Extent.{Extent}
-use Rattle.lerc_header.specs.Header.{shapeOf, held, extentOf, headerSays}
+use Rattle.lerc_header.specs.Header.{shapeOf, held, extentOf}
 use Rattle.lerc_header.specs.Limits.{depthLimit}
 use Rattle.lerc_header.specs.Shape.{cells, blockCount}
 use Rattle.lerc_header.proofs.Kept.{held-is, held-shaped}
@@ -33,7 +32,7 @@ use Rattle.lerc_image.specs.declared.WalkAnswer.{WalkAnswer}
 use Rattle.lerc_image.specs.Geometry.{tileOf, validInTile, isValidCell}
 use Rattle.lerc_image.specs.Paint.{painted, wordOf}
 use Rattle.lerc_image.specs.Blocks.{blockAt, Chain, chain, allBlocks}
-use Rattle.lerc_image.specs.Walk.{Walk, walkSaid, walkCount}
+use Rattle.lerc_image.specs.Walk.{Walk, walkSaid}
 use Rattle.lerc_image.specs.Tiles.{tilesSays, tilesImage, Tiled}
 use Rattle.lerc_image.proofs.Painting.{length-painted, painted-cell}
 use Rattle.lerc_image.proofs.Upto.{valid-below}
@@ -41,13 +40,15 @@ use Rattle.lerc_image.proofs.Chain.{chain-none, chain-parts}
 use Rattle.lerc.specs.declared.ReadAnswer.{ReadAnswer}
 use Rattle.lerc.specs.Meaning.{Body, rawBody, constantBody, endOf, startsOf, cellWord}
 use Rattle.lerc.specs.Read.{Lent, room, masked, readSays, ReadTold, readSaid, WholeRead}
-use Rattle.lerc.specs.Parts.{Ready, bodyCount, bodyImage, BodyRead}
+use Rattle.lerc.specs.Parts.{Ready, bodyImage, BodyRead}
 use Rattle.lerc_contracts.specs.Outside.{said, is-some}
 use Rattle.lerc_contracts.specs.Block.{ResultModel}
-use Rattle.lerc_contracts.specs.Image.{tiles, linear}
+use Rattle.lerc_contracts.specs.Between.{tiledImage, roomFor, theirTiles, theirRaw, theirConstant, bodied}
+use Rattle.lerc_contracts.specs.ImageClauses.{DecodeTilesClauses, DecodeLinearClauses, RawBodyClauses, ConstantBodyClauses, WholeReadClauses}
+use Rattle.lerc_contracts.proofs.WithoutNumber.{told-some}
 use Rattle.lerc_contracts.proofs.Refusals.{blob-short}
 use Rattle.lerc_contracts.proofs.Image.{tiles-is}
-use Rattle.lerc_contracts.proofs.Linear.{bodied, constant-is, raw-is}
+use Rattle.lerc_contracts.proofs.Linear.{constant-is, raw-is}
 
 -- a painted cell past the image
 past : (h : Header) (mask image : List ℕ) (word : ℕ → ℕ) (j : ℕ) → h .columns * h .rows * h .depth ≤ j → j < length image → getD (painted image (isValidCell (shapeOf h) mask) word) j 0 ≡ getD image j 0
@@ -84,55 +85,22 @@ chain-inside s h maxima m (suc f) n at c l e =
     (omega (arith, b .0, r .0), omega (arith, r .1))
 
 module _ (b : List ℕ) (h : Header) (mask maxima : List ℕ) (at : ℕ) (r : WalkAnswer) (list list′ old new : List ℕ) (promise : Tiled (tilesSays b h mask maxima at (length list) (length old)) h mask r list list′ old new) where
-  -- 5.23
-  pub tiles-held : (q : Refusal) → held h (length b) ≡ fail q → walkSaid r ≡ fail q
-  unfolding tilesSays
-  tiles-held q e = promise .says ∙ rw (e)
-
-  -- 5.25, 5.26
-  pub tiles-room : (e : Extent) → held h (length b) ≡ ok e → (leb (e .mask) (length mask) && leb (e .blocks) (length list) && leb (e .cells) (length old)) ≡ false → walkSaid r ≡ fail (refuse 5)
-  unfolding tilesSays
-  tiles-room e k t = promise .says ∙ rw (k, t)
-
   left : (m : Res Chain) → tilesSays b h mask maxima at (length list) (length old) ≡ m → (length new ≡ length old) × ((j : ℕ) → h .columns * h .rows * h .depth ≤ j → j < length old → getD new j 0 ≡ getD old j 0)
   left (fail q) e = let p : new ≡ old = promise .image ∙ rw (e) in rw (p) (refl, λ j _ _. refl)
   left (ok c) e =
       let p : new ≡ tilesImage h mask old c = promise .image ∙ rw (e) in
       rw (p) (length-painted old _ _, λ j l o. past h mask old (wordOf (shapeOf h) mask (λ n. getD (c .words) n [])) j l o)
 
-  -- 5.27
-  pub tiles-length : length new ≡ length old
-  tiles-length = left (tilesSays b h mask maxima at (length list) (length old)) refl .0
-
-  -- 5.32
-  pub tiles-rest : (j : ℕ) → h .columns * h .rows * h .depth ≤ j → j < length old → getD new j 0 ≡ getD old j 0
-  tiles-rest = left (tilesSays b h mask maxima at (length list) (length old)) refl .1
-
-  module _ (e : Extent) (k : held h (length b) ≡ ok e) (wide : (leb (e .mask) (length mask) && leb (e .blocks) (length list) && leb (e .cells) (length old)) ≡ true) (y : Bytes b) where
-    -- upstream's walk over the blob cut at its size
-    abbrev their-tiles : Option ResultModel
-    their-tiles = tiles (take (h .size) b) h mask maxima (record { x = 0; y = 0; d = 0 }) at old (h .columns * h .rows * h .depth)
-
+  module _ (e : Extent) (k : held h (length b) ≡ ok e) (wide : roomFor e mask list old ≡ true) (y : Bytes b) where
     judged : tilesSays b h mask maxima at (length list) (length old) ≡ allBlocks (take (h .size) b) h maxima mask at
     unfolding tilesSays
     judged = rw (k, wide)
 
-    abbrev image-of : Chain → ResultModel
-    image-of c = record { at = c .end; image = tilesImage h mask old c }
-
-    same-tiles : their-tiles ≡ said image-of (tilesSays b h mask maxima at (length list) (length old))
+    same-tiles : theirTiles b h mask maxima at old ≡ said (tiledImage h mask old) (tilesSays b h mask maxima at (length list) (length old))
     same-tiles =
         let i : e ≡ extentOf h = held-is h (length b) k in
         let room : cells (shapeOf h) ≤ length old = rw (i) at (leb-true (e .cells) (length old) (and-is (leb (e .mask) (length mask) && leb (e .blocks) (length list)) (leb (e .cells) (length old)) wide .1)) in
         rw (judged) (tiles-is (take (h .size) b) (bytes-part b 0 (h .size) y) (blob-short b h k) h (held-shaped h (length b) k) mask maxima at old room)
-
-    -- 5.28
-    pub tiles-ok : accepts (walkSaid r) ≡ is-some their-tiles
-    tiles-ok = rw (promise .says, same-tiles) (go (tilesSays b h mask maxima at (length list) (length old)))
-      where
-        go : (m : Res Chain) → accepts (m >>= walkCount h) ≡ is-some (said image-of m)
-        go (ok c) = refl
-        go (fail q) = refl
 
     module _ (w : Walk) (a : walkSaid r ≡ ok w) where
       -- what was walked
@@ -142,17 +110,21 @@ module _ (b : List ℕ) (h : Header) (mask maxima : List ℕ) (at : ℕ) (r : Wa
           (c, d, ap (λ (x : Walk). x .end) (ok-is z), promise .image ∙ rw (d))
       walked (fail q) d = absurd (let z : _≡_ {A = Res Walk} (ok w) (fail q) = sym a ∙ promise .says ∙ rw (d) in let o : _≡_ {A = ℕ} 0 1 = cc in omega arith)
 
-      -- 5.29, 5.30
-      pub tiles-result : their-tiles ≡ some (record { at = w .end; image = new })
-      tiles-result =
-          let (c, d, p, q) = walked (tilesSays b h mask maxima at (length list) (length old)) refl in
-          same-tiles ∙ ap (said image-of) d ∙ sym (result-is p q)
-
-      -- 5.31
-      pub tiles-inside : at ≤ length (take (h .size) b) → (at ≤ w .end) × (w .end ≤ length (take (h .size) b))
-      tiles-inside l =
-          let (c, d, p, q) = walked (tilesSays b h mask maxima at (length list) (length old)) refl in
-          rw (p) (chain-inside (take (h .size) b) h maxima mask (blockCount (shapeOf h)) 0 at c l (sym judged ∙ d))
+  pub decode-tiles-clauses : DecodeTilesClauses b h mask maxima at r list old new
+  unfolding tilesSays
+  decode-tiles-clauses = record {
+    tiles-held = λ q e. promise .says ∙ rw (e);
+    tiles-room = λ e k t. promise .says ∙ rw (k, t);
+    tiles-length = left (tilesSays b h mask maxima at (length list) (length old)) refl .0;
+    tiles-rest = left (tilesSays b h mask maxima at (length list) (length old)) refl .1;
+    tiles-ok = λ e k l y. rw (promise .says, same-tiles e k l y) (told-some {B = Walk} (λ c. record { blocks = blockCount (shapeOf h); end = c .end }) (tiledImage h mask old) (tilesSays b h mask maxima at (length list) (length old)));
+    tiles-result = λ e k l y w a.
+        let (c, d, p, q) = walked e k l y w a (tilesSays b h mask maxima at (length list) (length old)) refl in
+        same-tiles e k l y ∙ ap (said (tiledImage h mask old)) d ∙ sym (result-is p q);
+    tiles-inside = λ e k l y w a i.
+        let (c, d, p, q) = walked e k l y w a (tilesSays b h mask maxima at (length list) (length old)) refl in
+        rw (p) (chain-inside (take (h .size) b) h maxima mask (blockCount (shapeOf h)) 0 at c i (sym (judged e k l y) ∙ d));
+  }
 
 -- ---- `decode_linear`
 
@@ -164,14 +136,6 @@ module _ (m : Res Body) (h : Header) (mask : List ℕ) (a : ReadAnswer) (list li
       let p : new ≡ bodyImage h mask old c = promise .image ∙ rw (e) in
       rw (p) (length-painted old _ _, λ j l o. past h mask old (cellWord h mask c) j l o)
 
-  -- 5.45
-  pub linear-length : length new ≡ length old
-  linear-length = kept m refl .0
-
-  -- 5.50
-  pub linear-rest : (j : ℕ) → h .columns * h .rows * h .depth ≤ j → j < length old → getD new j 0 ≡ getD old j 0
-  linear-rest = kept m refl .1
-
   -- the body that was read
   read-body : (w : ReadTold) → readSaid a ≡ ok w → (x : Res Body) → m ≡ x → (c : Body) × (m ≡ ok c) × (w .end ≡ endOf c) × (new ≡ bodyImage h mask old c)
   read-body w e (ok c) d =
@@ -181,16 +145,18 @@ module _ (m : Res Body) (h : Header) (mask : List ℕ) (a : ReadAnswer) (list li
 
   module _ (t : Option ResultModel) (same : t ≡ said (bodied h mask old) m) where
     linear-ok : accepts (readSaid a) ≡ is-some t
-    linear-ok = rw (promise .says, same) (go m)
-      where
-        go : (x : Res Body) → accepts (x >>= bodyCount h) ≡ is-some (said (bodied h mask old) x)
-        go (ok c) = refl
-        go (fail q) = refl
+    linear-ok = rw (promise .says, same) (told-some {B = ReadTold} (λ c. record { header = h; blocks = length (startsOf c); end = endOf c }) (bodied h mask old) m)
 
     linear-result : (w : ReadTold) → readSaid a ≡ ok w → t ≡ some (record { at = w .end; image = new })
     linear-result w e =
         let (c, d, p, q) = read-body w e m refl in
         same ∙ ap (said (bodied h mask old)) d ∙ sym (result-is p q)
+
+  pub decode-linear-clauses : DecodeLinearClauses h old new
+  decode-linear-clauses = record {
+    linear-length = kept m refl .0;
+    linear-rest = kept m refl .1;
+  }
 
 raw-inside : (s : List ℕ) (h : Header) (at : ℕ) (c : Body) → rawBody s h at ≡ ok c → (at ≤ endOf c) × (endOf c ≤ length s)
 unfolding rawBody rawWords
@@ -205,31 +171,24 @@ raw-inside s h at c e =
 module _ (s : List ℕ) (h : Header) (at : ℕ) (mask constants : List ℕ) (a : ReadAnswer) (list listed old new : List ℕ) (ready : Ready s h mask) (image : cells (shapeOf h) ≤ length old)
     (promise : BodyRead (rawBody s h at) h mask a list listed old new) (inside : at ≤ length s) where
   abbrev their-raw : Option ResultModel
-  their-raw = linear s h mask constants true 0 at old (h .columns * h .rows * h .depth)
+  their-raw = theirRaw s h mask constants at old
 
   same-raw : their-raw ≡ said (bodied h mask old) (rawBody s h at)
   same-raw = raw-is s h (held-shaped h (length s) (ready .header)) mask old image constants at inside (ready .counts)
 
-  -- 5.46
-  pub raw-ok : accepts (readSaid a) ≡ is-some their-raw
-  raw-ok = linear-ok (rawBody s h at) h mask a list listed old new promise their-raw same-raw
-
-  module _ (w : ReadTold) (e : readSaid a ≡ ok w) where
-    -- 5.47, 5.48
-    pub raw-result : their-raw ≡ some (record { at = w .end; image = new })
-    raw-result = linear-result (rawBody s h at) h mask a list listed old new promise their-raw same-raw w e
-
-    -- 5.49
-    pub raw-end : (at ≤ w .end) × (w .end ≤ length s)
-    raw-end =
-        let (c, d, p, q) = read-body (rawBody s h at) h mask a list listed old new promise w e (rawBody s h at) refl in
-        rw (p) (raw-inside s h at c d)
+  pub raw-body-clauses : RawBodyClauses s h at mask constants a old new
+  raw-body-clauses = record {
+    raw-ok = linear-ok (rawBody s h at) h mask a list listed old new promise their-raw same-raw;
+    raw-result = λ w e. linear-result (rawBody s h at) h mask a list listed old new promise their-raw same-raw w e;
+    raw-end = λ w e. let (c, d, p, q) = read-body (rawBody s h at) h mask a list listed old new promise w e (rawBody s h at) refl in
+        rw (p) (raw-inside s h at c d);
+  }
 
 -- a constant body: upstream has its words from `convert` (3.34, 3.35), and always accepts
 module _ (s : List ℕ) (h : Header) (ranges : Ranges) (mask words : List ℕ) (a : ReadAnswer) (list listed old new : List ℕ) (ready : Ready s h mask) (image : cells (shapeOf h) ≤ length old)
     (long : length (ranges .min) ≡ depthLimit) (promise : BodyRead (constantBody h ranges) h mask a list listed old new) (converted : constantWords (h .depth) (h .kind) (ranges .min) ≡ ok words) where
   abbrev their-constant : Option ResultModel
-  their-constant = linear s h mask (over words (replicate depthLimit 0)) false 0 (ranges .at) old (h .columns * h .rows * h .depth)
+  their-constant = theirConstant s h mask (over words (replicate depthLimit 0)) (ranges .at) old
 
   same-constant : their-constant ≡ said (bodied h mask old) (constantBody h ranges)
   unfolding constantBody
@@ -238,22 +197,16 @@ module _ (s : List ℕ) (h : Header) (ranges : Ranges) (mask words : List ℕ) (
       let n : length words ≡ h .depth = length-constants (h .depth) (h .kind) (ranges .min) converted ∙ (let z : min (h .depth) (length (ranges .min)) ≡ h .depth = omega (arith, g .depth .1) in z) in
       rw (converted) (constant-is s h g mask old image words (drop (length words) (replicate depthLimit 0)) (ranges .at) n)
 
-  -- 5.46
-  pub constant-ok : accepts (readSaid a) ≡ is-some their-constant
-  constant-ok = linear-ok (constantBody h ranges) h mask a list listed old new promise their-constant same-constant
-
-  module _ (w : ReadTold) (e : readSaid a ≡ ok w) where
-    -- 5.47, 5.48
-    pub constant-result : their-constant ≡ some (record { at = w .end; image = new })
-    constant-result = linear-result (constantBody h ranges) h mask a list listed old new promise their-constant same-constant w e
-
-    -- 5.49
-    pub constant-end : w .end ≡ ranges .at
-    unfolding constantBody
-    constant-end =
+  pub constant-body-clauses : ConstantBodyClauses s h ranges mask words a old new
+  unfolding constantBody
+  constant-body-clauses = record {
+    constant-ok = linear-ok (constantBody h ranges) h mask a list listed old new promise their-constant same-constant;
+    constant-result = linear-result (constantBody h ranges) h mask a list listed old new promise their-constant same-constant;
+    constant-end = λ w e.
         let (c, d, p, q) = read-body (constantBody h ranges) h mask a list listed old new promise w e (constantBody h ranges) refl in
         let (_, _, d) = bind-is (constantWords (h .depth) (h .kind) (ranges .min)) _ d in
-        p ∙ sym (ap endOf (ok-is d))
+        p ∙ sym (ap endOf (ok-is d));
+  }
 
 -- ---- what `decode_linear` asks: a raw body that starts past the end, and the whole read
 
@@ -266,12 +219,9 @@ raw-start s h at l =
 
 -- from what a whole read promises
 module _ (b : List ℕ) (reuse : Bool) (r : ReadAnswer) (old new : Lent) (promise : WholeRead b reuse r old new) where
-  -- 5.41
-  pub whole-header : (q : Refusal) → headerSays b ≡ fail q → readSaid r ≡ fail q
+  pub whole-read-clauses : WholeReadClauses b r old
   unfolding readSays masked
-  whole-header q e = promise .says ∙ rw (e)
-
-  -- 5.43, 5.44
-  pub whole-room : (h : Header) → headerSays b ≡ ok h → room h old ≡ false → readSaid r ≡ fail (refuse 5)
-  unfolding readSays masked
-  whole-room h e t = promise .says ∙ rw (e, t)
+  whole-read-clauses = record {
+    whole-header = λ q e. promise .says ∙ rw (e);
+    whole-room = λ h e t. promise .says ∙ rw (e, t);
+  }

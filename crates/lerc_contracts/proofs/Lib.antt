@@ -8,6 +8,7 @@ pub mod Block
 pub mod Image
 pub mod Linear
 pub mod BlockClauses
+pub mod ModeClauses
 pub mod ImageClauses
 pub mod Numeric
 pub mod Rounding
@@ -16,3 +17,4 @@ pub mod Software
 pub mod Narrow
 pub mod Plus
 pub mod Native
+pub mod Upstream

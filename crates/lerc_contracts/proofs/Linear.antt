@@ -13,7 +13,7 @@ use native.Mathlib.Decide.{decLt, decLe}
 use borrow.Author.Tests.{lt-ltb, le-ltb, le-leb, lt-leb, eq-eqb, ne-eqb, eqb-true, eqb-false}
 use lib.Arith.{digits-div}
 use lib.Dec.{ltb, eqb}
-use lib.ListN.{length, getD, set}
+use lib.ListN.{length, set}
 use Rattle.lerc_words.specs.Res.{little}
 use Rattle.lerc_words.specs.Lists.{count, tabulate}
 use Rattle.lerc_words.proofs.Counts.{count-zero, count-more, count-mono, count-plus, count-rows, count-all}
@@ -26,32 +26,27 @@ use Rattle.lerc_block.specs.Block.{rawWords}
 use Rattle.lerc_image.specs.Geometry.{isValidCell}
 use Rattle.lerc_image.specs.Paint.{painted}
 use Rattle.lerc_image.proofs.Painting.{painted-same, painted-set, painted-words}
-use Rattle.lerc.specs.Meaning.{Body, rawBody, endOf, cellWord}
+use Rattle.lerc.specs.Meaning.{rawBody}
 use Rattle.lerc.specs.Meaning as body
 use Rattle.lerc.specs.Linear.{validUpto, depthWord, rawWord}
 use Rattle.lerc.proofs.Pixels.{upto-none, upto-all}
 use Rattle.lerc.proofs.Bodies.{valid-at, image-constant, image-raw}
 use Rattle.lerc_contracts.specs.Outside.{said}
 use Rattle.lerc_contracts.specs.Block.{ResultModel}
-use Rattle.lerc_contracts.specs.Image.{PlaceAndWord, linearValue, linear}
+use Rattle.lerc_contracts.specs.Image.{linearValue, linear}
+use Rattle.lerc_contracts.specs.Between.{usedTo, bodied}
+use Rattle.lerc_contracts.specs.ImageClauses.{ConstantIs, RawIs, LinearValueCases, LinearCases}
 
 -- ---- `linear_value`, and one step of `linear`
 
 module _ (s : List ℕ) (h : Header) (at k : ℕ) (constants : List ℕ) where
-  -- 5.33
-  pub value-constant : linearValue s h at k false constants ≡ some (record { at = at; value = getD constants (k % h .depth) 0 })
+  pub linear-value-cases : LinearValueCases s h at k constants
   unfolding linearValue
-  value-constant = refl
-
-  -- 5.34
-  pub value-past : length s < at + typeSize (h .kind) → linearValue s h at k true constants ≡ none
-  unfolding linearValue
-  value-past l = rw (lt-leb (at + typeSize (h .kind)) (length s) l)
-
-  -- 5.35
-  pub value-raw : at + typeSize (h .kind) ≤ length s → linearValue s h at k true constants ≡ some (record { at = at + typeSize (h .kind); value = little (typeSize (h .kind)) s at })
-  unfolding linearValue
-  value-raw l = rw (le-leb (at + typeSize (h .kind)) (length s) l)
+  linear-value-cases = record {
+    value-constant = refl;
+    value-past = λ l. rw (lt-leb (at + typeSize (h .kind)) (length s) l);
+    value-raw = λ l. rw (le-leb (at + typeSize (h .kind)) (length s) l);
+  }
 
 -- upstream's count of cells
 cells-are : (h : Header) → h .columns * h .rows * h .depth ≡ cells (shapeOf h)
@@ -73,21 +68,14 @@ module _ (s : List ℕ) (h : Header) (mask constants : List ℕ) (raw : Bool) wh
     unfolding linear
     linear-out = rw (ne-eqb k (h .columns * h .rows * h .depth) apart)
 
-    -- 5.38
-    pub linear-skip : (fuel : ℕ) → pixelValid mask (k / h .depth) ≡ false → linear s h mask constants raw k at out (suc fuel) ≡ linear s h mask constants raw (k + 1) at out fuel
-    unfolding linear
-    linear-skip fuel v = rw (ne-eqb k (h .columns * h .rows * h .depth) apart, v)
-
-    -- 5.39
-    pub linear-stop : (fuel : ℕ) → pixelValid mask (k / h .depth) ≡ true → linearValue s h at k raw constants ≡ none → linear s h mask constants raw k at out (suc fuel) ≡ none
-    unfolding linear
-    linear-stop fuel v e = rw (ne-eqb k (h .columns * h .rows * h .depth) apart, v, e)
-
-    -- 5.40
-    pub linear-step : (fuel : ℕ) (w : PlaceAndWord) → pixelValid mask (k / h .depth) ≡ true → linearValue s h at k raw constants ≡ some w
-        → linear s h mask constants raw k at out (suc fuel) ≡ linear s h mask constants raw (k + 1) (w .at) (set out k (w .value)) fuel
-    unfolding linear
-    linear-step fuel w v e = rw (ne-eqb k (h .columns * h .rows * h .depth) apart, v, e)
+  pub linear-cases : LinearCases s h mask constants raw
+  unfolding linear
+  linear-cases = record {
+    linear-done = linear-done;
+    linear-skip = λ k at out d fuel v. rw (ne-eqb k (h .columns * h .rows * h .depth) (apart k at out d), v);
+    linear-stop = λ k at out d fuel v e. rw (ne-eqb k (h .columns * h .rows * h .depth) (apart k at out d), v, e);
+    linear-step = λ k at out d fuel w v e. rw (ne-eqb k (h .columns * h .rows * h .depth) (apart k at out d), v, e);
+  }
 
 -- ---- all cells
 
@@ -146,15 +134,15 @@ module _ (h : Header) (mask image : List ℕ) (word : ℕ → ℕ) (room : cells
               look : (b : Bool) → pixelValid mask (k / h .depth) ≡ b → run k (upTo k) (suc fuel) ≡ some (record { at = pos (before (cells (shapeOf h))); image = upTo (cells (shapeOf h)) })
               look true v =
                   let e : before (k + 1) ≡ before k + 1 = count-more k _ ∙ rw (v) in
-                  linear-step s h mask constants raw k _ _ d fuel _ v (go k o v) ∙ rw (paint-valid k o v, ← e) (rest (omega arith) (omega arith))
+                  linear-cases s h mask constants raw .linear-step k _ _ d fuel _ v (go k o v) ∙ rw (paint-valid k o v, ← e) (rest (omega arith) (omega arith))
               look false v =
                   let e : before (k + 1) ≡ before k = count-more k _ ∙ rw (v) (add-zero (before k)) in
-                  linear-skip s h mask constants raw k _ _ d fuel v ∙ rw (paint-skip k o v, ← e) (rest (omega arith) (omega arith))
+                  linear-cases s h mask constants raw .linear-skip k _ _ d fuel v ∙ rw (paint-skip k o v, ← e) (rest (omega arith) (omega arith))
 
 -- a word that is missing
 module _ (h : Header) (mask s constants : List ℕ) (at : ℕ) (short : length s < at + count (cells (shapeOf h)) (λ c. pixelValid mask (c / h .depth)) * typeSize (h .kind)) where
   abbrev used : ℕ → ℕ
-  used k = at + count k (λ c. pixelValid mask (c / h .depth)) * typeSize (h .kind)
+  used = usedTo h mask at
 
   none-ends : {A : Type 0} (k : ℕ) → k ≡ cells (shapeOf h) → used k ≤ length s → A
   none-ends k e l = absurd (let z : used k ≡ used (cells (shapeOf h)) = ap used e in omega arith)
@@ -181,8 +169,8 @@ module _ (h : Header) (mask s constants : List ℕ) (at : ℕ) (short : length s
           d e = omega arith
 
           fits : pixelValid mask (k / h .depth) ≡ true → used (k + 1) ≡ used k + typeSize (h .kind) → Dec (used k + typeSize (h .kind) ≤ length s) → linear s h mask constants true k (used k) out (suc fuel) ≡ none
-          fits v e (no b) = linear-stop s h mask constants true k _ out d fuel v (value-past s h (used k) k constants (omega arith))
-          fits v e (yes b) = linear-step s h mask constants true k _ out d fuel _ v (value-raw s h (used k) k constants b) ∙ rw (← e) (rest _ (omega arith) (rw (e) b))
+          fits v e (no b) = linear-cases s h mask constants true .linear-stop k _ out d fuel v (linear-value-cases s h (used k) k constants .value-past (omega arith))
+          fits v e (yes b) = linear-cases s h mask constants true .linear-step k _ out d fuel _ v (linear-value-cases s h (used k) k constants .value-raw b) ∙ rw (← e) (rest _ (omega arith) (rw (e) b))
 
           look : (b : Bool) → pixelValid mask (k / h .depth) ≡ b → linear s h mask constants true k (used k) out (suc fuel) ≡ none
           look true v =
@@ -192,12 +180,9 @@ module _ (h : Header) (mask s constants : List ℕ) (at : ℕ) (short : length s
           look false v =
               let a : n (k + 1) ≡ n k = count-more k _ ∙ rw (v) (add-zero (n k)) in
               let e : used (k + 1) ≡ used k = rw (a) in
-              linear-skip s h mask constants true k _ out d fuel v ∙ rw (← e) (rest out (omega arith) (rw (e) u))
+              linear-cases s h mask constants true .linear-skip k _ out d fuel v ∙ rw (← e) (rest out (omega arith) (rw (e) u))
 
--- ---- a body of ours as upstream's result
-
-abbrev pub bodied : Header → List ℕ → List ℕ → Body → ResultModel
-bodied h mask image b = record { at = endOf b; image = painted image (isValidCell (shapeOf h) mask) (cellWord h mask b) }
+-- ---- a constant body, and a raw one
 
 module _ (s : List ℕ) (h : Header) (g : Shaped (shapeOf h)) (mask image : List ℕ) (room : cells (shapeOf h) ≤ length image) where
   starts : (constants : List ℕ) (raw : Bool) (pos : ℕ → ℕ) (word : ℕ → ℕ) (at : ℕ) (r : Option ResultModel) → pos 0 ≡ at
@@ -207,10 +192,10 @@ module _ (s : List ℕ) (h : Header) (g : Shaped (shapeOf h)) (mask image : List
   starts constants raw pos word at r e d = rw (cells-are h, upto-none (shapeOf h) mask image word, ← e) d
 
   -- A CONSTANT BODY
-  pub constant-is : (words rest : List ℕ) (at : ℕ) → length words ≡ h .depth → linear s h mask (words ++ rest) false 0 at image (h .columns * h .rows * h .depth) ≡ some (bodied h mask image (body.constant words at))
+  pub constant-is : ConstantIs s h mask image
   constant-is words rest at e =
       starts (words ++ rest) false (λ i. at) (depthWord (shapeOf h) (words ++ rest)) at (some (bodied h mask image (body.constant words at))) refl
-      (linear-all h mask image (depthWord (shapeOf h) (words ++ rest)) room s (words ++ rest) false (λ i. at) (λ k l v. value-constant s h at k (words ++ rest)) (cells (shapeOf h)) 0 (omega arith) (omega arith)
+      (linear-all h mask image (depthWord (shapeOf h) (words ++ rest)) room s (words ++ rest) false (λ i. at) (λ k l v. linear-value-cases s h at k (words ++ rest) .value-constant) (cells (shapeOf h)) 0 (omega arith) (omega arith)
       ∙ ap (λ (o : List ℕ). some (record { at = at; image = o })) (upto-all (shapeOf h) mask image (depthWord (shapeOf h) (words ++ rest)) ∙ image-constant h mask image words rest at (g .depth .0) e))
 
   -- the valid cells before a valid cell
@@ -228,8 +213,7 @@ module _ (s : List ℕ) (h : Header) (g : Shaped (shapeOf h)) (mask image : List
   all-are = count-rows (h .depth) (pixels (shapeOf h)) (pixelValid mask)
 
   -- A RAW BODY
-  pub raw-is : (constants : List ℕ) (at : ℕ) → at ≤ length s → validBelow (pixels (shapeOf h)) mask ≡ h .valid
-      → linear s h mask constants true 0 at image (h .columns * h .rows * h .depth) ≡ said (bodied h mask image) (rawBody s h at)
+  pub raw-is : RawIs s h mask image
   unfolding rawBody rawWords
   raw-is constants at inside counts = go (decLe (at + h .valid * h .depth * typeSize (h .kind)) (length s))
     where
@@ -259,7 +243,7 @@ module _ (s : List ℕ) (h : Header) (g : Shaped (shapeOf h)) (mask image : List
           let c : suc (n k) * z ≤ h .valid * h .depth * z = mul-le-mul-right z (let x : suc (n k) ≤ h .valid * h .depth = rw (← total, ← a) b in x) in
           let d : suc (n k) * z ≡ n k * z + z = suc-mul (n k) z in
           let e : at + n k * z + z ≡ at + (n k + 1) * z = rw (add-one) (omega arith) in
-          value-raw s h (at + n k * z) k constants (omega arith) ∙ rw (e)
+          linear-value-cases s h (at + n k * z) k constants .value-raw (omega arith) ∙ rw (e)
 
       go : Dec (at + h .valid * h .depth * typeSize (h .kind) ≤ length s) → linear s h mask constants true 0 at image (h .columns * h .rows * h .depth) ≡ said (bodied h mask image) (rawBody s h at)
       go (yes l) =

@@ -15,7 +15,7 @@ use Rattle.lerc_words.specs.Res.{Res, ok, fail, _>>=_}
 use Rattle.lerc_words.specs.Lists.{tabulate, over}
 use Rattle.lerc_words.proofs.Little.{Bytes, wordAt-no}
 use Rattle.lerc_header.specs.declared.Header.{Header}
-use Rattle.lerc_header.specs.Header.{shapeOf, headerBytes, rangesAt, pairRight}
+use Rattle.lerc_header.specs.Header.{shapeOf, headerBytes, rangesAt}
 use Rattle.lerc_header.specs.Shape.{Shaped, cells}
 use Rattle.lerc_header.specs.Shape as shape
 use Rattle.lerc_mask.specs.Mask.{validBelow}
@@ -26,22 +26,18 @@ use Rattle.lerc_sweep.specs.Sweep.{modeAt, moded, swept}
 use Rattle.lerc_image.specs.Blocks.{Chain, allBlocks}
 use Rattle.lerc.specs.Meaning.{blockBody, bodyFrom, sweptBody, constantBody, bodySays, cellWord}
 use Rattle.lerc.specs.Meaning as body
-use Rattle.lerc_image.specs.Tiles.{tilesImage}
 use Rattle.lerc.proofs.Bodies.{image-empty}
 use Rattle.lerc_contracts.specs.Outside.{said, onSome, lengthMax}
 use Rattle.lerc_contracts.specs.Planes.{constants}
 use Rattle.lerc_contracts.specs.Block.{ResultModel}
 use Rattle.lerc_contracts.specs.Image.{tiles, linear}
 use Rattle.lerc_contracts.specs.Native.{entropy, unswept, ranged, pixels}
+use Rattle.lerc_contracts.specs.Between.{Alike, tiledImage, bodied, model}
+use Rattle.lerc_contracts.specs.NativeClauses.{PixelsIs}
 use Rattle.lerc_contracts.proofs.Bits.{byte-ok}
-use Rattle.lerc_contracts.proofs.Planes.{model, ranges-is, constants-is}
+use Rattle.lerc_contracts.proofs.Planes.{ranges-is, constants-is}
 use Rattle.lerc_contracts.proofs.Image.{tiles-is}
-use Rattle.lerc_contracts.proofs.Linear.{bodied, constant-is, raw-is}
-
--- where the two read alike: the sweep byte is 0 or 1, and no mode byte announces a Huffman image
-pub record Alike (s : List ℕ) (h : Header) (at : ℕ) : Type 0 where
-  pub sweep : getD s at 0 < 2
-  pub mode : entropy h ≡ true → getD s (at + 1) 0 < 3 → getD s (at + 1) 0 ≡ 0
+use Rattle.lerc_contracts.proofs.Linear.{constant-is, raw-is}
 
 module _ (s : List ℕ) (y : Bytes s) (few : length s ≤ lengthMax) (h : Header) (g : Shaped (shapeOf h)) (mask initial : List ℕ) (size : length initial ≡ h .columns * h .rows * h .depth)
     (counts : validBelow (shape.pixels (shapeOf h)) mask ≡ h .valid) (huffman : Option ResultModel) where
@@ -53,7 +49,7 @@ module _ (s : List ℕ) (y : Bytes s) (few : length s ≤ lengthMax) (h : Header
   unfolding blockBody cellWord
   tiled max at = rw (size) (tiles-is s y few h g mask max at initial room ∙ go (allBlocks s h max mask at))
     where
-      go : (m : Res Chain) → said (λ c. record { at = c .end; image = tilesImage h mask initial c }) m ≡ said (bodied h mask initial) (m >>= λ c. ok (body.blocks c))
+      go : (m : Res Chain) → said (tiledImage h mask initial) m ≡ said (bodied h mask initial) (m >>= λ c. ok (body.blocks c))
       go (ok c) = refl
       go (fail q) = refl
 
@@ -118,8 +114,7 @@ module _ (s : List ℕ) (y : Bytes s) (few : length s ≤ lengthMax) (h : Header
           constant-is s h g mask initial room ws (drop (length ws) (replicate 64 0)) (r .at) n
 
   -- THE BODY
-  pub pixels-is : pairRight (h .min) (h .max) ≡ true → rangesAt h ≤ length s → (h .valid ≡ 0 → h .mask ≡ 0) → ((r : Ranges) → rangesSays s h ≡ ok r → Alike s h (r .at))
-      → pixels s h mask initial huffman ≡ said (bodied h mask initial) (bodySays s h mask)
+  pub pixels-is : PixelsIs s h mask initial huffman
   unfolding pixels bodySays
   pixels-is pair begins plain alike = none? (eqb (h .valid) 0) refl
     where

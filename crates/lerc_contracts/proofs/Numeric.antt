@@ -14,7 +14,7 @@ use lib.Pow.{pow-pos}
 use lib.Ieee.{size}
 use lib.Ieee.Digits.{size-lt, size-le}
 use lib.Ieee.Nearest.{closest}
-use Rattle.lerc_words.specs.Res.{ok, fail, _>>=_, refuse, require, accepts}
+use Rattle.lerc_words.specs.Res.{ok, fail, _>>=_, refuse, require}
 use Rattle.lerc_numeric.specs.declared.IntegerAnswer.{IntegerAnswer}
 use Rattle.lerc_numeric.specs.Numeric.{negative, field, finite, sig, exp, less, lesser}
 use Rattle.lerc_numeric.specs.Kinds as kinds
@@ -27,8 +27,9 @@ use Rattle.lerc_numeric.proofs.Jam.{jam-zero, jam-none, jam-some}
 use Rattle.lerc_numeric.proofs.Magnitude.{sig-lt}
 use Rattle.lerc_numeric.proofs.Integers.{cut-kind, cut-large, modulus-last, modulus-le, modulus-ge, whole-zero, whole-some}
 use Rattle.lerc_contracts.proofs.WithoutNumber.{said-some}
-use Rattle.lerc_contracts.specs.Outside.{said, is-some}
+use Rattle.lerc_contracts.specs.Outside.{said}
 use Rattle.lerc_contracts.specs.Numeric.{fieldOf, finiteOf, sign, mantissa, exponent, rounded, sticky, lessThan, sizeOf, modulusOf, cutOf, integer}
+use Rattle.lerc_contracts.specs.NumericClauses.{PartsClauses, ToIntegerClauses}
 
 -- ---- `parts`
 
@@ -61,9 +62,12 @@ module _ (v : ℕ) (l : v < 2 ^ 64) where
       go zero = refl
       go (suc f) = rw (ne-eqb (suc f) 0 (λ e. absurd (omega arith)))
 
-  -- 1.2, 1.3
-  pub parts-small : (sig v < 2 ^ 53) × (exp v ≤ 972 + 1074)
-  parts-small = (sig-lt v, omega arith)
+  pub parts-clauses : PartsClauses v
+  parts-clauses = record {
+    mantissa-is = mantissa-is;
+    exponent-is = exponent-is;
+    parts-small = (sig-lt v, omega arith);
+  }
 
 -- ---- `highest64`
 
@@ -336,11 +340,9 @@ module _ (v kind : ℕ) (l : v < 2 ^ 64) (k : kind < 6) where
       go (yes f) (yes h) = integer-near f h
       go (yes f) (no h) = integer-large f (omega arith) (decLt (1074 + 32) (exp v))
 
-  module _ (r : IntegerAnswer) (promise : integerSaid r ≡ cut kind v) where
-    -- 1.40
-    pub integer-ok : accepts (integerSaid r) ≡ is-some (integer v kind)
-    integer-ok = rw (promise, integer-is) (said-some (λ w. w) (cut kind v))
-
-    -- 1.41
-    pub integer-word : (w : ℕ) → integerSaid r ≡ ok w → integer v kind ≡ some w
-    integer-word w e = integer-is ∙ ap (said (λ w. w)) (sym promise ∙ e)
+  pub to-integer-clauses : ToIntegerClauses v kind
+  to-integer-clauses = record {
+    integer-is = integer-is;
+    integer-ok = λ r promise. rw (promise, integer-is) (said-some (λ w. w) (cut kind v));
+    integer-word = λ r promise w e. integer-is ∙ ap (said (λ w. w)) (sym promise ∙ e);
+  }

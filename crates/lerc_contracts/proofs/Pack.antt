@@ -21,6 +21,7 @@ use Rattle.lerc_numeric.proofs.Digits.{size-part, size-shift, pow-lt-back}
 use Rattle.lerc_numeric.proofs.Format.{keptOf, code-is, kept-le, kept-ge, unit-pos, code-at}
 use Rattle.lerc_contracts.proofs.Rounding.{highest-is, round-is, round-small, size-some}
 use Rattle.lerc_contracts.specs.Numeric.{packNormal, packOther, pack, power}
+use Rattle.lerc_contracts.specs.Between.{rounds}
 
 mod-once : (k p : ℕ) → p ≤ k → k < 2 * p → k % p ≡ k - p
 mod-once k p l u = let e : k ≡ 1 * p + (k - p) = omega arith in let r : k - p < p = omega arith in ap (λ (y : ℕ). y % p) e ∙ digits-mod 1 r
@@ -321,10 +322,6 @@ module _ (h j wide last u : ℕ) (room : last + 2 < 2 ^ j) (fit : h ≤ wide) (p
           rw (eq-eqb q 0 qz, z, code-zero h ((last + 2) * 2 ^ h) (e - u) (u - e)) (sym (add-zero (cond s (2 ^ (j + h)) 0)))
 
 -- ---- `pack`
-
--- the sign, and v times 2 ^ e of `pack`, rounded once: ours, for every power
-abbrev pub rounds : Bool → ℕ → ℕ → ℕ
-rounds s v e = signed s (code 53 (2047 * 2 ^ 52) (v * 2 ^ (e - 3022)) (2 ^ (3022 - e)))
 
 module _ (s : Bool) (v e : ℕ) (l : v < 2 ^ 128) where
   other-is : packOther s v e (size v - 1) ≡ rounds s v e

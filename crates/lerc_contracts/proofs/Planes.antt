@@ -9,10 +9,9 @@ use native.Mathlib.Omega.{arith}
 use native.Mathlib.Nat.{zero-add, zero-mul, add-zero, mul-comm, add-mul, suc-mul, mul-le-mul-right}
 use native.Mathlib.Decide.{decLe, decLt}
 use borrow.Author.Tests.{lt-ltb, le-ltb, le-leb, lt-leb, eq-eqb, ne-eqb, eqb-true, eqb-false}
-use lib.Dec.{ltb, leb, eqb}
+use lib.Dec.{ltb, eqb}
 use lib.ListN.{length, getD, take, drop, replicate, length-take}
 use lib.Seq.{getD-take}
-use Rattle.lerc_words.specs.declared.Refusal.{Refusal}
 use Rattle.lerc_words.specs.Res.{Res, ok, fail, _>>=_, refuse, require, each, accepts}
 use Rattle.lerc_words.specs.Lists.{tabulate, allTo, over}
 use Rattle.lerc_words.specs.Lists as our
@@ -34,10 +33,8 @@ use Rattle.lerc_mask.specs.Mask.{validBelow}
 use Rattle.lerc_mask.specs.Mask.{maskRuns, coded}
 use Rattle.lerc_mask.proofs.Pixels.{valid-uniform-0, valid-uniform-255}
 use Rattle.lerc_validity.specs.declared.MaskAnswer.{MaskAnswer}
-use Rattle.lerc_ranges.specs.declared.RangesAnswer.{RangesAnswer}
 use Rattle.lerc_ranges.specs.declared.RangesAnswer.the-variants as ranges-answer
 use Rattle.lerc_ranges.specs.declared.RangesRead.{RangesRead}
-use Rattle.lerc_ranges.specs.declared.ConstantsAnswer.{ConstantsAnswer}
 use Rattle.lerc_ranges.specs.declared.ConstantsAnswer.the-variants as constants-answer
 use Rattle.lerc_ranges.specs.declared.Constants.{Constants}
 use Rattle.lerc_ranges.specs.declared.Ranges.{Ranges}
@@ -46,8 +43,10 @@ use Rattle.lerc_validity.specs.Validity.{MaskInForce, reused, new, bytesOf, uni
 use Rattle.lerc_validity.proofs.Preparing.{uniform-ok, uniform-no, says-none, says-all, says-kept, says-runs, prepare-no, prepare-says}
 use Rattle.lerc_validity.proofs.Prepared.{prepare-found, prepared-right, mask-length, in-force}
 use Rattle.lerc_ranges.proofs.Judged.{read-ranges-kept}
-use Rattle.lerc_contracts.specs.Outside.{said, is-some, unwrap, onSome, number, storage, dataAt}
-use Rattle.lerc_contracts.specs.Planes.{maskSize, count, counted, validity, equal, RangeModel, bounds, ranges, constants}
+use Rattle.lerc_contracts.specs.Outside.{said, is-some, unwrap, onSome, number, storage}
+use Rattle.lerc_contracts.specs.Planes.{maskSize, count, counted, validity, equal, bounds, ranges, constants}
+use Rattle.lerc_contracts.specs.Between.{Sectioned, model, rangesOk, constantsOk}
+use Rattle.lerc_contracts.specs.PlanesClauses.{ValidityCases, RangesCases, PrepareClauses, ReadRangesClauses, ConvertClauses}
 
 -- ---- the mask
 
@@ -72,10 +71,6 @@ counted-none h m e = rw (pixels-are h, count-is m (pixels (shapeOf h)), ne-eqb (
 
 all-of : (n b : ℕ) → tabulate n (λ i. b) ≡ replicate n b
 all-of n b = sym (replicate-from n 0 b)
-
--- a header whose mask has no section where all pixels are alike: else upstream passes over the section, and ours is 6
-abbrev pub Sectioned : Header → Type 0
-Sectioned h = ((h .valid ≡ 0) → h .mask ≡ 0) × ((h .valid ≡ pixels (shapeOf h)) → h .mask ≡ 0)
 
 module _ (s : List ℕ) (h : Header) (old : List ℕ) (reuse : Bool) where
   -- 3.3
@@ -164,6 +159,9 @@ module _ (s : List ℕ) (h : Header) (old : List ℕ) (reuse : Bool) where
       whole v true e = sectioned 0 (λ w. says-none s h reuse old w) (eqb-true _ _ e)
       whole v false e = sectioned 255 (λ w. says-all s h reuse old (eqb-false _ _ e) w) v
 
+  pub validity-cases : ValidityCases s h old reuse
+  validity-cases = record { validity-none = validity-none; validity-all = validity-all; validity-kept = validity-kept; validity-runs = validity-runs; validity-is = validity-is; validity-of = validity-of }
+
 -- ---- ranges
 
 both-zero : (x y : ℕ) → eqb (x + y) 0 ≡ (eqb x 0 && eqb y 0)
@@ -178,10 +176,6 @@ equal-is a b = go (eqb a b) refl
     go : (t : Bool) → eqb a b ≡ t → (eqb a b || (eqb (a % 2 ^ 63) 0 && eqb (b % 2 ^ 63) 0)) ≡ same a b
     go true e = rw (e) (same-bits a b (eqb-true _ _ e))
     go false e = rw (e, ← both-zero (a % 2 ^ 63) (b % 2 ^ 63)) (same-zeros a b (eqb-false _ _ e))
-
--- a record under upstream's name, as its `model`
-abbrev pub model : Ranges → RangeModel
-model r = record { at = r .at; constant = r .constant; min = r .min; max = r .max }
 
 module _ (s : List ℕ) (h : Header) (inside : rangesEnd h ≤ length s) where
   -- a number of one bound
@@ -218,29 +212,21 @@ module _ (s : List ℕ) (h : Header) where
       let b : 2 * h .depth ≡ h .depth + h .depth = omega arith in
       rw (b, a) (omega arith)
 
-  -- 3.21
-  pub ranges-alike : same (h .min) (h .max) ≡ true → ranges s h ≡ some (model (uniformRanges h))
-  unfolding ranges uniformRanges
-  ranges-alike e = rw (equal-is (h .min) (h .max), e, all-of 64 (h .min), all-of 64 (h .max))
-
-  -- 3.22
-  pub ranges-past : same (h .min) (h .max) ≡ false → length s < rangesEnd h → ranges s h ≡ none
-  unfolding ranges
-  ranges-past e l = rw (equal-is (h .min) (h .max), e, end-is, lt-ltb (length s) (rangesEnd h) l)
-
-  -- 3.23, 3.24
-  pub ranges-here : same (h .min) (h .max) ≡ false → rangesEnd h ≤ length s
-      → ranges s h ≡ cond (pairsRight (h .depth) (codedRanges s h)) (some (model (codedRanges s h))) none
-  unfolding ranges codedRanges pairsRight pairRight
-  ranges-here e l =
-      let low = bounds-are s h l 0 (h .min) (omega arith) in
-      let high = bounds-are s h l (h .depth) (h .max) (omega arith) in
-      let z : rangesAt h + 0 * typeSize (h .kind) ≡ rangesAt h = rw (zero-mul) (add-zero (rangesAt h)) in
-      let lows = byDepth (h .depth) (numberAt (h .kind) s (rangesAt h)) (h .min) in
-      let highs = byDepth (h .depth) (numberAt (h .kind) s (maximaAt h)) (h .max) in
-      let c : allTo (h .depth) (λ i. equal (getD lows i 0) (getD highs i 0)) ≡ allTo (h .depth) (λ i. same (getD lows i 0) (getD highs i 0)) =
-      all-same (h .depth) (λ i. equal (getD lows i 0) (getD highs i 0)) (λ i. same (getD lows i 0) (getD highs i 0)) (λ i _. equal-is (getD lows i 0) (getD highs i 0)) in
-      rw (equal-is (h .min) (h .max), e, end-is, le-ltb (length s) (rangesEnd h) l, low, high, z, c) (cond-not (pairsRight (h .depth) (codedRanges s h)) none (some (model (codedRanges s h))))
+  pub ranges-cases : RangesCases s h
+  unfolding ranges uniformRanges codedRanges pairsRight pairRight
+  ranges-cases = record {
+    ranges-alike = λ e. rw (equal-is (h .min) (h .max), e, all-of 64 (h .min), all-of 64 (h .max));
+    ranges-past = λ e l. rw (equal-is (h .min) (h .max), e, end-is, lt-ltb (length s) (rangesEnd h) l);
+    ranges-here = λ e l.
+        let low = bounds-are s h l 0 (h .min) (omega arith) in
+        let high = bounds-are s h l (h .depth) (h .max) (omega arith) in
+        let z : rangesAt h + 0 * typeSize (h .kind) ≡ rangesAt h = rw (zero-mul) (add-zero (rangesAt h)) in
+        let lows = byDepth (h .depth) (numberAt (h .kind) s (rangesAt h)) (h .min) in
+        let highs = byDepth (h .depth) (numberAt (h .kind) s (maximaAt h)) (h .max) in
+        let c : allTo (h .depth) (λ i. equal (getD lows i 0) (getD highs i 0)) ≡ allTo (h .depth) (λ i. same (getD lows i 0) (getD highs i 0)) =
+        all-same (h .depth) (λ i. equal (getD lows i 0) (getD highs i 0)) (λ i. same (getD lows i 0) (getD highs i 0)) (λ i _. equal-is (getD lows i 0) (getD highs i 0)) in
+        rw (equal-is (h .min) (h .max), e, end-is, le-ltb (length s) (rangesEnd h) l, low, high, z, c) (cond-not (pairsRight (h .depth) (codedRanges s h)) none (some (model (codedRanges s h))));
+  }
 
 -- THE RANGES
 pub ranges-is : (s : List ℕ) (h : Header) → ranges s h ≡ said model (rangesSays s h)
@@ -248,15 +234,15 @@ unfolding rangesSays
 ranges-is s h = alike (same (h .min) (h .max)) refl
   where
     right : (t : Bool) → pairsRight (h .depth) (codedRanges s h) ≡ t → same (h .min) (h .max) ≡ false → rangesEnd h ≤ length s → ranges s h ≡ said model (rangesSays s h)
-    right true p e l = rw (e, le-leb (rangesEnd h) (length s) l, p) (ranges-here s h e l ∙ rw (p))
-    right false p e l = rw (e, le-leb (rangesEnd h) (length s) l, p) (ranges-here s h e l ∙ rw (p))
+    right true p e l = rw (e, le-leb (rangesEnd h) (length s) l, p) (ranges-cases s h .ranges-here e l ∙ rw (p))
+    right false p e l = rw (e, le-leb (rangesEnd h) (length s) l, p) (ranges-cases s h .ranges-here e l ∙ rw (p))
 
     inside : same (h .min) (h .max) ≡ false → Dec (rangesEnd h ≤ length s) → ranges s h ≡ said model (rangesSays s h)
     inside e (yes l) = right (pairsRight (h .depth) (codedRanges s h)) refl e l
-    inside e (no l) = let k : length s < rangesEnd h = omega arith in rw (e, lt-leb (rangesEnd h) (length s) k) (ranges-past s h e k)
+    inside e (no l) = let k : length s < rangesEnd h = omega arith in rw (e, lt-leb (rangesEnd h) (length s) k) (ranges-cases s h .ranges-past e k)
 
     alike : (t : Bool) → same (h .min) (h .max) ≡ t → ranges s h ≡ said model (rangesSays s h)
-    alike true e = rw (e) (ranges-alike s h e)
+    alike true e = rw (e) (ranges-cases s h .ranges-alike e)
     alike false e = inside e (decLe (rangesEnd h) (length s))
 
 -- ---- a constant body's words
@@ -283,19 +269,15 @@ constants-is values depth kind k l = go (each (stored kind) (take depth values))
         let f2 : stored kind (getD values i 0) ≡ fail r = rw (← here i (omega (arith, wide))) f in
         rw (all-fails depth i (λ i. is-some (storage (getD values i 0) kind)) (omega (arith, wide)) (rw (f2)))
 
+which-some : (m : Res MaskInForce) → accepts (m >>= which) ≡ is-some (said bytesOf m)
+which-some (ok (reused m)) = refl
+which-some (ok (new m)) = refl
+which-some (fail q) = refl
+
 -- ---- `prepare`: from the promises of `lerc_validity::prepare_mask` and `mask_in_force`. Upstream's one mask is the kept one
 -- before, and the one in force after
 
 module _ (b : List ℕ) (h : Header) (reuse : Bool) (old : List ℕ) (r : MaskAnswer) (spare newer : List ℕ) (promise : Prepared (prepareSays b h reuse old (length spare)) r spare newer) where
-  -- 3.9, 3.10
-  pub prepare-held : (q : Refusal) → held h (length b) ≡ fail q → maskSaid r ≡ fail q
-  prepare-held q e = promise .says ∙ ap (λ (m : Res MaskInForce). m >>= which) (prepare-no b h reuse old (length spare) e)
-
-  -- 3.11
-  pub prepare-room : (e : Extent) → held h (length b) ≡ ok e → (leb (e .mask) (length old) && leb (e .mask) (length spare)) ≡ false → maskSaid r ≡ fail (refuse 5)
-  unfolding prepareSays
-  prepare-room e k l = promise .says ∙ rw (k, l)
-
   told : (m : Res MaskInForce) → prepareSays b h reuse old (length spare) ≡ m → Prepared m r spare newer
   told m e = rw (e) at promise
 
@@ -309,28 +291,11 @@ module _ (b : List ℕ) (h : Header) (reuse : Bool) (old : List ℕ) (r : MaskAn
       let f = prepare-found b h reuse old (length spare) (new m) e in
       rw (p) (length-over m spare (omega (arith, f .there)), λ i l. over-out m spare i (omega arith))
 
-  -- 3.12
-  pub prepare-length : length newer ≡ length spare
-  prepare-length = written (prepareSays b h reuse old (length spare)) refl .0
-
-  -- 3.15
-  pub prepare-rest : (i : ℕ) → maskSize h ≤ i → getD newer i 0 ≡ getD spare i 0
-  prepare-rest i l = written (prepareSays b h reuse old (length spare)) refl .1 i (rw (← size-is h) l)
-
   module _ (e : Extent) (k : held h (length b) ≡ ok e) (here : maskSize h ≤ length old) (there : maskSize h ≤ length spare) where
     judged : prepareSays b h reuse old (length spare) ≡ maskSays (take (h .size) b) h reuse old
     judged =
         let i : e ≡ extentOf h = held-is h (length b) k in
         prepare-says b h reuse old (length spare) {e = e} k (rw (i, ← size-is h) here) (rw (i, ← size-is h) there)
-
-    -- 3.13
-    pub prepare-ok : Sectioned h → accepts (maskSaid r) ≡ is-some (validity (take (h .size) b) h old reuse)
-    prepare-ok p = rw (validity-is (take (h .size) b) h old reuse p, promise .says, judged) (go (maskSays (take (h .size) b) h reuse old))
-      where
-        go : (m : Res MaskInForce) → accepts (m >>= which) ≡ is-some (said bytesOf m)
-        go (ok (reused m)) = refl
-        go (ok (new m)) = refl
-        go (fail q) = refl
 
     -- 3.14
     pub prepare-mask : accepts (maskSaid r) ≡ true → validity (take (h .size) b) h old reuse ≡ some (inForce r old newer)
@@ -341,65 +306,57 @@ module _ (b : List ℕ) (h : Header) (reuse : Bool) (old : List ℕ) (r : MaskAn
             (sym (in-force f (ok f) r old spare newer refl (prepared-right b h reuse old (length spare) f e .part) (told (ok f) e)))
         go (fail q) e = absurd (let w : maskSaid r ≡ fail q = told (fail q) e .says in let t : accepts (maskSaid r) ≡ false = rw (w) in let z : _≡_ {A = ℕ} 0 1 = cc in omega arith)
 
+  pub prepare-clauses : PrepareClauses b h reuse old r spare newer
+  unfolding prepareSays
+  prepare-clauses = record {
+    prepare-held = λ q e. promise .says ∙ ap (λ (m : Res MaskInForce). m >>= which) (prepare-no b h reuse old (length spare) e);
+    prepare-room = λ e k l. promise .says ∙ rw (k, l);
+    prepare-length = written (prepareSays b h reuse old (length spare)) refl .0;
+    prepare-rest = λ i l. written (prepareSays b h reuse old (length spare)) refl .1 i (rw (← size-is h) l);
+    prepare-ok = λ e k i j p. rw (validity-is (take (h .size) b) h old reuse p, promise .says, judged e k i j) (which-some (maskSays (take (h .size) b) h reuse old));
+    prepare-mask = prepare-mask;
+  }
+
 -- ---- `same`, `read_ranges`, `convert`: from the promises of `lerc_numeric::same`, `lerc_ranges::read_ranges` and `convert`
 
 -- 3.17
 pub same-ok : (a b : ℕ) (r : Bool) → r ≡ same a b → r ≡ equal a b
 same-ok a b r e = e ∙ sym (equal-is a b)
 
-abbrev pub ranges-ok : RangesAnswer → Bool
-ranges-ok ranges-answer.Read = true
-ranges-ok (ranges-answer.Refused q) = false
+ranges-some : (m : Res Ranges) → rangesOk (rangesSaid m .answer) ≡ is-some (said model m)
+ranges-some (ok m) = refl
+ranges-some (fail q) = refl
 
 module _ (b : List ℕ) (h : Header) (r : RangesRead) (promise : r ≡ rangesSaid (readRangesSays b h)) where
-  -- 3.25, 3.26
-  pub read-ranges-held : (q : Refusal) → held h (length b) ≡ fail q → r .answer ≡ ranges-answer.Refused q
-  unfolding readRangesSays
-  read-ranges-held q e = rw (promise, e)
-
   module _ (e : Extent) (k : held h (length b) ≡ ok e) where
     judged-ranges : readRangesSays b h ≡ rangesSays (take (h .size) b) h
     unfolding readRangesSays
     judged-ranges = rw (k)
 
-    -- 3.28
-    pub read-ranges-ok : ranges-ok (r .answer) ≡ is-some (ranges (take (h .size) b) h)
-    read-ranges-ok = rw (promise, judged-ranges, ranges-is (take (h .size) b) h) (go (rangesSays (take (h .size) b) h))
-      where
-        go : (m : Res Ranges) → ranges-ok (rangesSaid m .answer) ≡ is-some (said model m)
-        go (ok m) = refl
-        go (fail q) = refl
-
     read-is : (m : Res Ranges) → readRangesSays b h ≡ m → r .answer ≡ ranges-answer.Read → readRangesSays b h ≡ ok (r .ranges)
     read-is (ok m) d a = d ∙ ap (λ (x : RangesRead). ok (x .ranges)) (sym (promise ∙ ap rangesSaid d))
     read-is (fail q) d a = absurd (let w : r .answer ≡ ranges-answer.Refused q = ap (λ (x : RangesRead). x .answer) (promise ∙ ap rangesSaid d) in let z : _≡_ {A = ℕ} 0 1 = cc in omega arith)
 
-    module _ (a : r .answer ≡ ranges-answer.Read) where
-      -- 3.29
-      pub read-ranges-model : ranges (take (h .size) b) h ≡ some (model (r .ranges))
-      read-ranges-model = ranges-is (take (h .size) b) h ∙ ap (said model) (sym judged-ranges ∙ read-is (readRangesSays b h) refl a)
+  pub read-ranges-clauses : ReadRangesClauses b h r
+  unfolding readRangesSays
+  read-ranges-clauses = record {
+    read-ranges-held = λ q e. rw (promise, e);
+    read-ranges-ok = λ e k. rw (promise, judged-ranges e k, ranges-is (take (h .size) b) h) (ranges-some (rangesSays (take (h .size) b) h));
+    read-ranges-model = λ e k a. ranges-is (take (h .size) b) h ∙ ap (said model) (sym (judged-ranges e k) ∙ read-is e k (readRangesSays b h) refl a);
+    read-ranges-inside = λ e k a. let i = read-ranges-kept b h (r .ranges) (read-is e k (readRangesSays b h) refl a) in (i .behind, i .inside);
+  }
 
-      -- 3.30
-      pub read-ranges-inside : (dataAt h ≤ r .ranges .at) × (r .ranges .at ≤ length (take (h .size) b))
-      read-ranges-inside = let k = read-ranges-kept b h (r .ranges) (read-is (readRangesSays b h) refl a) in (k .behind, k .inside)
-
-abbrev pub constants-ok : ConstantsAnswer → Bool
-constants-ok constants-answer.Stored = true
-constants-ok (constants-answer.Refused q) = false
+constants-some : (m : Res (List ℕ)) → constantsOk (constantsSaid m .answer) ≡ is-some (said (λ ws. over ws (replicate 64 0)) m)
+constants-some (ok m) = refl
+constants-some (fail q) = refl
 
 module _ (values : List ℕ) (depth kind : ℕ) (r : Constants) (wide : length values ≡ 64) (promise : r ≡ constantsSaid (constantWords depth kind values)) (few : depth ≤ 64) where
-  -- 3.34, also 3.31
-  pub convert-ok : constants-ok (r .answer) ≡ is-some (constants values depth kind)
-  convert-ok = rw (promise, constants-is values depth kind few (omega arith)) (go (constantWords depth kind values))
-    where
-      go : (m : Res (List ℕ)) → constants-ok (constantsSaid m .answer) ≡ is-some (said (λ ws. over ws (replicate 64 0)) m)
-      go (ok m) = refl
-      go (fail q) = refl
+  stored-is : (m : Res (List ℕ)) → r ≡ constantsSaid m → r .answer ≡ constants-answer.Stored → said (λ ws. over ws (replicate 64 0)) m ≡ some (r .words)
+  stored-is (ok m) e a = rw (e)
+  stored-is (fail q) e a = absurd (let w : r .answer ≡ constants-answer.Refused q = ap (λ (x : Constants). x .answer) e in let z : _≡_ {A = ℕ} 0 1 = cc in omega arith)
 
-  -- 3.35, also 3.32
-  pub convert-words : r .answer ≡ constants-answer.Stored → constants values depth kind ≡ some (r .words)
-  convert-words a = rw (constants-is values depth kind few (omega arith)) (go (constantWords depth kind values) promise)
-    where
-      go : (m : Res (List ℕ)) → r ≡ constantsSaid m → said (λ ws. over ws (replicate 64 0)) m ≡ some (r .words)
-      go (ok m) e = rw (e)
-      go (fail q) e = absurd (let w : r .answer ≡ constants-answer.Refused q = ap (λ (x : Constants). x .answer) e in let z : _≡_ {A = ℕ} 0 1 = cc in omega arith)
+  pub convert-clauses : ConvertClauses values depth kind r
+  convert-clauses = record {
+    convert-ok = rw (promise, constants-is values depth kind few (omega arith)) (constants-some (constantWords depth kind values));
+    convert-words = λ a. rw (constants-is values depth kind few (omega arith)) (stored-is (constantWords depth kind values) promise a);
+  }

@@ -21,8 +21,9 @@ use Rattle.lerc_numeric.proofs.Magnitude.{sig-lt, mag-lt}
 use Rattle.lerc_numeric.proofs.Sums.{and-false}
 use Rattle.lerc_contracts.proofs.Numeric.{mantissa-is, exponent-is, jam-small}
 use Rattle.lerc_contracts.proofs.Rounding.{highest64-is, jammed-is}
-use Rattle.lerc_contracts.proofs.Pack.{rounds, pack-is, normal-is, code-same}
+use Rattle.lerc_contracts.proofs.Pack.{pack-is, normal-is, code-same}
 use Rattle.lerc_contracts.specs.Numeric.{exponent, highest64, lined, joined, plusNear, plusOther, plusSoftware}
+use Rattle.lerc_contracts.specs.Between.{rounds}
 
 -- ---- m in units of 2 ^ (e - k)
 abbrev over : ℕ → ℕ → ℕ → ℕ

@@ -3,8 +3,8 @@
 use mathlib.Core.Path.{_≡_, refl, sym, ap, _∙_}
 use mathlib.Core.Bool.{Bool, true, false}
 use mathlib.Core.List.{List}
-use mathlib.Core.Logic.{_⊎_, inl, inr}
-use mathlib.Core.Option.{Option, none, some}
+use mathlib.Core.Logic.{inl, inr}
+use mathlib.Core.Option.{Option, none}
 use Prim.Native.Nat.{ℕ, zero, suc, _+_, _*_, _≤_, _<_}
 use native.Mathlib.Omega.{arith}
 use native.Mathlib.Nat.{mul-comm}
@@ -22,12 +22,18 @@ use Rattle.lerc_image.proofs.Partition.{cell-lt, cell-block, cell-place}
 use Rattle.lerc_image.proofs.Painting.{painted-none, painted-same, painted-set}
 use Rattle.lerc_image.proofs.Upto.{upto, upto-zero, upto-all, upto-adds, upto-other, upto-skips}
 use Rattle.lerc_image.proofs.Cursors.{rank-zero, rank-mono, rank-more, tile-small}
-use Rattle.lerc_contracts.specs.Block.{pixel, target, Mode, Step, value, ResultModel, finished, finish}
+use Rattle.lerc_contracts.specs.Block.{pixel, target, Mode, ResultModel, finished, finish}
+use Rattle.lerc_contracts.specs.Between as between
+use Rattle.lerc_contracts.specs.BlockClauses.{RunAll, RunNone, FinishCases}
 
 -- 4.8
 pub pixel-is : (h : Header) (t : Tile) (k : ℕ) → pixel t h k ≡ pixelOf (shapeOf h) t k
 unfolding pixelOf
 pixel-is h t k = omega arith
+
+-- 4.9
+pub target-is : (h : Header) (n k : ℕ) → target (tileOf (shapeOf h) n) h k ≡ cellOf (shapeOf h) n k
+target-is h n k = rw (pixel-is h (tileOf (shapeOf h) n) k)
 
 -- ---- one step of `finish`
 
@@ -38,35 +44,19 @@ module _ (s : List ℕ) (h : Header) (t : Tile) (m : Mode) (q mask : List ℕ) (
   finish-done k at index out zero e = rw (eq-eqb k (t .w * t .h) e)
   finish-done k at index out (suc fuel) e = rw (eq-eqb k (t .w * t .h) e)
 
-  module _ (k at index : ℕ) (out : List ℕ) (d : k ≡ t .w * t .h → ⊥) where
-    -- 4.48
-    pub finish-out : finish s h t m q mask maximum k at index out zero ≡ none
-    unfolding finish
-    finish-out = rw (ne-eqb k (t .w * t .h) d)
-
-    -- 4.49
-    pub finish-skip : (fuel : ℕ) → pixelValid mask (pixel t h k) ≡ false → finish s h t m q mask maximum k at index out (suc fuel) ≡ finish s h t m q mask maximum (k + 1) at index out fuel
-    unfolding finish
-    finish-skip fuel v = rw (ne-eqb k (t .w * t .h) d, v)
-
-    -- 4.50
-    pub finish-stop : (fuel : ℕ) → pixelValid mask (pixel t h k) ≡ true → value s h m q at index maximum ≡ none → finish s h t m q mask maximum k at index out (suc fuel) ≡ none
-    unfolding finish
-    finish-stop fuel v e = rw (ne-eqb k (t .w * t .h) d, v, e)
-
-    -- 4.51
-    pub finish-step : (fuel : ℕ) (step : Step) → pixelValid mask (pixel t h k) ≡ true → value s h m q at index maximum ≡ some step
-        → finish s h t m q mask maximum k at index out (suc fuel) ≡ finish s h t m q mask maximum (k + 1) (step .at) (step .q) (set out (target t h k) (step .value)) fuel
-    unfolding finish
-    finish-step fuel step v e = rw (ne-eqb k (t .w * t .h) d, v, e)
+  pub finish-cases : FinishCases s h t m q mask maximum
+  unfolding finish
+  finish-cases = record {
+    finish-done = finish-done;
+    finish-out = λ k at index out d. rw (ne-eqb k (t .w * t .h) d);
+    finish-skip = λ k at index out d fuel v. rw (ne-eqb k (t .w * t .h) d, v);
+    finish-stop = λ k at index out d fuel v e. rw (ne-eqb k (t .w * t .h) d, v, e);
+    finish-step = λ k at index out d fuel step v e. rw (ne-eqb k (t .w * t .h) d, v, e);
+  }
 
 -- ---- all steps
 
 module _ (h : Header) (mask : List ℕ) (n : ℕ) (start : List ℕ) (g : Shaped (shapeOf h)) (below : n < blockCount (shapeOf h)) (room : cells (shapeOf h) ≤ length start) where
-  -- 4.9
-  pub target-is : (k : ℕ) → target (tileOf (shapeOf h) n) h k ≡ cellOf (shapeOf h) n k
-  target-is k = rw (pixel-is h (tileOf (shapeOf h) n) k)
-
   -- the image once the first k places are done
   abbrev upTo : List ℕ → ℕ → List ℕ
   upTo words k = painted start (upto (shapeOf h) mask n k) (wordOf (shapeOf h) mask (λ i. words))
@@ -105,7 +95,7 @@ module _ (h : Header) (mask : List ℕ) (n : ℕ) (start : List ℕ) (g : Shaped
 
     -- a step to the i-th word, which goes on behind it
     abbrev Goes : ℕ → ℕ → Type 0
-    Goes i w = value s h m q (pos i) (idx i) maximum ≡ some (record { value = w; at = pos (i + 1); q = idx (i + 1) })
+    Goes = between.Goes s h m q maximum pos idx
 
     abbrev run : ℕ → List ℕ → ℕ → Option ResultModel
     run k out fuel = finish s h (tileOf (shapeOf h) n) m q mask maximum k (pos (before k)) (idx (before k)) out fuel
@@ -139,19 +129,19 @@ module _ (h : Header) (mask : List ℕ) (n : ℕ) (start : List ℕ) (g : Shaped
               look : (b : Bool) → pixelValid mask (pixelOf (shapeOf h) (tileOf (shapeOf h) n) k) ≡ b → run k (upTo words k) (suc fuel) ≡ finished m q (pos (before size)) (idx (before size)) (upTo words size)
               look true v =
                   let (e, b) = valid-step k o v in
-                  finish-step s h (tileOf (shapeOf h) n) m q mask maximum k _ _ _ d fuel _ (rw (pixel-is h (tileOf (shapeOf h) n) k) v) (go (before k) b)
-                  ∙ rw (target-is k, paint-valid words k o v, ← e) (rest (omega arith) (omega arith))
+                  finish-cases s h (tileOf (shapeOf h) n) m q mask maximum .finish-step k _ _ _ d fuel _ (rw (pixel-is h (tileOf (shapeOf h) n) k) v) (go (before k) b)
+                  ∙ rw (target-is h n k, paint-valid words k o v, ← e) (rest (omega arith) (omega arith))
               look false v =
-                  finish-skip s h (tileOf (shapeOf h) n) m q mask maximum k _ _ _ d fuel (rw (pixel-is h (tileOf (shapeOf h) n) k) v)
+                  finish-cases s h (tileOf (shapeOf h) n) m q mask maximum .finish-skip k _ _ _ d fuel (rw (pixel-is h (tileOf (shapeOf h) n) k) v)
                   ∙ rw (paint-skip words k o v, ← skip-step k v) (rest (omega arith) (omega arith))
 
     -- a step that goes on behind it, or none
     abbrev Stepping : ℕ → Type 0
-    Stepping i = (value s h m q (pos i) (idx i) maximum ≡ none) ⊎ ((w : ℕ) × Goes i w)
+    Stepping = between.Stepping s h m q maximum pos idx
 
     -- a step to come is none, or the end is
     abbrev Stuck : ℕ → Type 0
-    Stuck i = ((j : ℕ) × (i ≤ j) × (j < before size) × (value s h m q (pos j) (idx j) maximum ≡ none)) ⊎ ((o : List ℕ) → finished m q (pos (before size)) (idx (before size)) o ≡ none)
+    Stuck = between.Stuck s h m q maximum pos idx (before size)
 
     module _ (each : (i : ℕ) → i < before size → Stepping i) where
       none-ends : (fuel k : ℕ) (out : List ℕ) → k ≡ size → Stuck (before k) → run k out fuel ≡ none
@@ -174,7 +164,7 @@ module _ (h : Header) (mask : List ℕ) (n : ℕ) (start : List ℕ) (g : Shaped
       finish-none zero k out l u = last (decLt k size)
         where
           last : Dec (k < size) → run k out zero ≡ none
-          last (yes o) = finish-out s h (tileOf (shapeOf h) n) m q mask maximum k _ _ out (apart k o)
+          last (yes o) = finish-cases s h (tileOf (shapeOf h) n) m q mask maximum .finish-out k _ _ out (apart k o)
           last (no o) = none-ends zero k out (omega arith) u
       finish-none (suc fuel) k out l u = more (decLt k size) (finish-none fuel (k + 1))
         where
@@ -183,16 +173,16 @@ module _ (h : Header) (mask : List ℕ) (n : ℕ) (start : List ℕ) (g : Shaped
           more (yes o) rest = look (pixelValid mask (pixelOf (shapeOf h) (tileOf (shapeOf h) n) k)) refl
             where
               took : pixelValid mask (pixelOf (shapeOf h) (tileOf (shapeOf h) n) k) ≡ true → Stepping (before k) → run k out (suc fuel) ≡ none
-              took v (inl e) = finish-stop s h (tileOf (shapeOf h) n) m q mask maximum k _ _ out (apart k o) fuel (rw (pixel-is h (tileOf (shapeOf h) n) k) v) e
+              took v (inl e) = finish-cases s h (tileOf (shapeOf h) n) m q mask maximum .finish-stop k _ _ out (apart k o) fuel (rw (pixel-is h (tileOf (shapeOf h) n) k) v) e
               took v (inr (w, e)) =
                   let (f, b) = valid-step k o v in
-                  finish-step s h (tileOf (shapeOf h) n) m q mask maximum k _ _ out (apart k o) fuel _ (rw (pixel-is h (tileOf (shapeOf h) n) k) v) e
+                  finish-cases s h (tileOf (shapeOf h) n) m q mask maximum .finish-step k _ _ out (apart k o) fuel _ (rw (pixel-is h (tileOf (shapeOf h) n) k) v) e
                   ∙ rw (← f) (rest _ (omega arith) (still k f w e u))
 
               look : (b : Bool) → pixelValid mask (pixelOf (shapeOf h) (tileOf (shapeOf h) n) k) ≡ b → run k out (suc fuel) ≡ none
               look true v = took v (each (before k) (valid-step k o v .1))
               look false v =
-                  finish-skip s h (tileOf (shapeOf h) n) m q mask maximum k _ _ out (apart k o) fuel (rw (pixel-is h (tileOf (shapeOf h) n) k) v)
+                  finish-cases s h (tileOf (shapeOf h) n) m q mask maximum .finish-skip k _ _ out (apart k o) fuel (rw (pixel-is h (tileOf (shapeOf h) n) k) v)
                   ∙ rw (← skip-step k v) (rest out (omega arith) (rw (skip-step k v) u))
 
     -- ---- from the first place on
@@ -201,9 +191,8 @@ module _ (h : Header) (mask : List ℕ) (n : ℕ) (start : List ℕ) (g : Shaped
       begins : (out : List ℕ) → finish s h (tileOf (shapeOf h) n) m q mask maximum 0 (m .at) 0 out 256 ≡ run 0 out 256
       begins out = rw (rank-zero (shapeOf h) mask (tileOf (shapeOf h) n), first, none-used)
 
-      pub run-all : (words : List ℕ) → ((i : ℕ) → i < before size → Goes i (getD words i 0))
-          → finish s h (tileOf (shapeOf h) n) m q mask maximum 0 (m .at) 0 start 256 ≡ finished m q (pos (before size)) (idx (before size)) (scattered (shapeOf h) mask n words start)
+      pub run-all : RunAll h mask n start s m q maximum pos idx
       run-all words go = begins start ∙ ap (λ (o : List ℕ). run 0 o 256) (paint-none words) ∙ finish-all words go 256 0 (omega arith) (omega (arith, tile-small (shapeOf h) g n)) ∙ rw (paint-all words)
 
-      pub run-none : ((i : ℕ) → i < before size → Stepping i) → Stuck 0 → finish s h (tileOf (shapeOf h) n) m q mask maximum 0 (m .at) 0 start 256 ≡ none
+      pub run-none : RunNone h mask n start s m q maximum pos idx
       run-none each u = begins start ∙ finish-none each 256 0 start (omega arith) (rw (rank-zero (shapeOf h) mask (tileOf (shapeOf h) n)) u)

@@ -3,5 +3,14 @@ pub mod Numeric
 pub mod Bits
 pub mod Planes
 pub mod Block
+pub mod ReadMode
 pub mod Image
 pub mod Native
+pub mod Between
+pub mod NumericClauses
+pub mod BitsClauses
+pub mod PlanesClauses
+pub mod BlockClauses
+pub mod ImageClauses
+pub mod NativeClauses
+pub mod Upstream
