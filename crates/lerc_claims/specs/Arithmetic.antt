@@ -1,13 +1,24 @@
--- The arithmetic is right: rounding goes to the nearest, ties to even, and to infinity exactly from where the rules say; order, sums and conversions are as they should be.
+-- The arithmetic is right: rounding goes to the nearest, ties to even, and to infinity exactly from where the rules say; sums, products and conversions are the exact values, rounded;
+-- and the functions compute them.
 -- A magnitude is a whole number of units of 2^-1074; a binary32's own unit is 2^925 of them.
 -- Assumes nothing.
 use Prim.Native.Nat.{ℕ, _+_, _-_, _*_, _%_, _^_, _≤_, _<_}
 use mathlib.Core.Path.{_≡_}
 use mathlib.Core.Logic.{_≢_}
-use mathlib.Core.Bool.{Bool·beq, true, false}
+use mathlib.Core.Bool.{Bool·beq, true, false, cond}
+use lib.Dec.{ltb}
 use Rattle.lerc_words.specs.Res.{ok}
-use Rattle.lerc_numeric.specs.Numeric.{negative, field, mag, bits64, bits32, signed, sum, scaled, less}
-use Rattle.lerc_numeric.specs.Kinds.{modulus, integer, field32, mag32, widened, narrowed, cut}
+use Rattle.lerc_numeric.specs.Numeric.{negative, field, mag, bits64, bits32, signed, sum, scaled, less, lesser}
+use Rattle.lerc_numeric.specs.Numeric as Numeric
+use Rattle.lerc_numeric.specs.Kinds.{modulus, integer, field32, mag32, widened, valueOf, narrowed, whole, cut, integerSaid}
+use Rattle.lerc_numeric.proofs.plus.Reads as plusses
+use Rattle.lerc_numeric.proofs.scale.Reads as scales
+use Rattle.lerc_numeric.proofs.narrow.Reads as narrows
+use Rattle.lerc_numeric.proofs.number.Reads as numbers
+use Rattle.lerc_numeric.proofs.to_integer.Reads as integers
+use Rattle.lerc_numeric.proofs.less.Reads as compares
+use Rattle.lerc_numeric.proofs.same.Reads as equates
+use Rattle.lerc_numeric.proofs.minimum.Reads as chooses
 
 -- how far two numbers are apart
 abbrev pub distance : ℕ → ℕ → ℕ
@@ -22,6 +33,13 @@ infinity32 = 255 * 2 ^ 23
 -- the magnitude of a binary32 in units of a binary64
 abbrev pub units32 : ℕ → ℕ
 units32 v = mag32 v * 2 ^ 925
+
+-- a word stands for `above` less `beneath` units: both zeros for 0
+abbrev pub above : ℕ → ℕ
+above w = cond (negative w) 0 (mag w)
+
+abbrev pub beneath : ℕ → ℕ
+beneath w = cond (negative w) (mag w) 0
 
 pub record Arithmetic : Type 0 where
   -- "each nearest with ties to even": no word is nearer to n units than the word that they are rounded to; where another is as near, that word is even
@@ -38,6 +56,14 @@ pub record Arithmetic : Type 0 where
   -- a finite word is its own rounding
   pub own64 : (w : ℕ) → field w < 2047 → w < 2 ^ 64 → signed (negative w) (bits64 (mag w)) ≡ w
   pub own32 : (v : ℕ) → field32 v < 255 → bits32 (units32 v) ≡ v % 2 ^ 31
+  -- "scaled(a, q) is 2·q·a, sum is a + b", each the exact magnitude rounded; of opposite signs the greater decides
+  pub sum-alike : (a b : ℕ) → negative a ≡ negative b → sum a b ≡ signed (negative a) (bits64 (mag a + mag b))
+  pub sum-apart : (a b : ℕ) → Bool·beq (negative a) (negative b) ≡ false → mag b < mag a → sum a b ≡ signed (negative a) (bits64 (mag a - mag b))
+  pub scaled-is : (a q : ℕ) → scaled a q ≡ signed (negative a) (bits64 (2 * q * mag a))
+  pub narrowed-is : (w : ℕ) → field w < 2047 → narrowed w ≡ cond (negative w) (2 ^ 31) 0 + bits32 (mag w)
+  -- "kinds 0 to 5 cut toward zero and refuse outside the range": the word stands for the whole part
+  pub cut-toward-zero : (kind w v : ℕ) → cut kind w ≡ ok v
+      → (whole w * 2 ^ 1074 ≤ mag w) × (mag w < (whole w + 1) * 2 ^ 1074) × (v ≡ cond (negative w) ((modulus kind - whole w) % modulus kind) (whole w))
   -- "Opposite signs cancelling give +0; two zeros of one sign keep it; a product has the sign of a"
   pub sum-cancels : (a b : ℕ) → Bool·beq (negative a) (negative b) ≡ false → mag a ≡ mag b → sum a b ≡ 0
   pub sum-zeros : (a b : ℕ) → negative a ≡ negative b → mag a ≡ 0 → mag b ≡ 0 → sum a b ≡ signed (negative a) 0
@@ -45,9 +71,21 @@ pub record Arithmetic : Type 0 where
   -- a sum does not depend on the order of its operands, and does not fall where one of them grows
   pub sum-comm : (a b : ℕ) → sum a b ≡ sum b a
   pub sum-grows : (a b c : ℕ) → less c b ≡ false → less (sum a c) (sum a b) ≡ false
-  -- comparing is an order
+  -- "the lesser of" two, the second on a tie; comparing is by value, and an order
+  pub less-is : (a b : ℕ) → less a b ≡ ltb (above a + beneath b) (above b + beneath a)
+  pub lesser-first : (a b : ℕ) → less a b ≡ true → lesser a b ≡ a
+  pub lesser-second : (a b : ℕ) → less a b ≡ false → lesser a b ≡ b
   pub less-asym : (a b : ℕ) → less a b ≡ true → less b a ≡ false
   pub less-trans : (a b c : ℕ) → less a b ≡ true → less b c ≡ true → less a c ≡ true
   -- a word of a kind comes back from its binary64, non-finite ones of binary32 too
   pub back-integer : (kind v : ℕ) → kind < 6 → v < modulus kind → cut kind (integer kind v) ≡ ok v
   pub back32 : (v : ℕ) → v < 2 ^ 32 → narrowed (widened v) ≡ v
+  -- the functions compute these, for every operand
+  pub plus : (k : _) (a : _) (r : _) (x : _) → plusses.Post k a r x → r ≡ sum (a .0) (a .1 .0)
+  pub scale : (k : _) (a : _) (r : _) (x : _) → scales.Post k a r x → r ≡ scaled (a .0) (a .1 .0)
+  pub narrow : (k : _) (a : _) (r : _) (x : _) → narrows.Post k a r x → r ≡ narrowed (a .0)
+  pub number : (k : _) (a : _) (r : _) (x : _) → numbers.Post k a r x → r ≡ valueOf (a .1 .0) (a .0)
+  pub to-integer : (k : _) (a : _) (r : _) (x : _) → integers.Post k a r x → integerSaid r ≡ cut (a .1 .0) (a .0)
+  pub less : (k : _) (a : _) (r : _) (x : _) → compares.Post k a r x → r ≡ Numeric.less (a .0) (a .1 .0)
+  pub same : (k : _) (a : _) (r : _) (x : _) → equates.Post k a r x → r ≡ Numeric.same (a .0) (a .1 .0)
+  pub minimum : (k : _) (a : _) (r : _) (x : _) → chooses.Post k a r x → r ≡ lesser (a .0) (a .1 .0)

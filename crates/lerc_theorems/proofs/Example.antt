@@ -39,7 +39,7 @@ use Rattle.lerc_theorems.proofs.OpenedFills.{answered}
 
 -- ---- calls, wherever the slices stand
 
-abbrev lent : List ℕ → RefT (List ℕ)
+abbrev pub lent : List ℕ → RefT (List ℕ)
 lent s = record { ptr = (0, 0); name = 0; now = s }
 
 ranges-call : (b : List ℕ) (h : Header) (r : Ranges) → readRangesSays b h ≡ ok r → ReadRanges b h r
@@ -87,7 +87,7 @@ module _ (b : List ℕ) (h : Header) (r : Ranges) (m list : List ℕ) where
 
 -- ---- the blob
 
-abbrev gridStarts : List ℕ
+abbrev pub gridStarts : List ℕ
 gridStarts = 75 ∷ 77 ∷ 79 ∷ 81 ∷ 83 ∷ 85 ∷ 87 ∷ 89 ∷ []
 
 abbrev pub example : Case

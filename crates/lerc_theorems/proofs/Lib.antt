@@ -25,4 +25,5 @@ pub mod DemandTwo
 pub mod FromCalls
 pub mod DemandThree
 pub mod Example
+pub mod ExampleCalls
 pub mod Claims
