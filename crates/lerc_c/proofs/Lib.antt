@@ -1,4 +1,4 @@
-mod RecordParts
+pub mod RecordParts
 mod Entries
 pub mod Back
 pub mod Numbers

@@ -1,2 +1,3 @@
 pub mod Arithmetic
 pub mod Program
+pub mod Claims

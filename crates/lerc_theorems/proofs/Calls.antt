@@ -27,7 +27,7 @@ use Rattle.lerc.specs.Read.{Lent, WholeRead}
 use Rattle.lerc_theorems.specs.Calls.{Call, HeaderCall, PrepareCall, HandedCall, RangesCall, ReadRanges, WalkCall, FillCall, FillCalls, none, more, EachCall, TilesCall, ReadCall}
 
 -- what a promise says of what the inputs hold, of the answer as told and of what the outputs hold
-promise : {K A R O S B T : Type 0} {Post : K → A → R → O → Type 0} {gave : A → S} {told : R → B} {left : O → T} {given : S} {said : B} {after : T} (P : S → B → T → Type 0)
+pub promise : {K A R O S B T : Type 0} {Post : K → A → R → O → Type 0} {gave : A → S} {told : R → B} {left : O → T} {given : S} {said : B} {after : T} (P : S → B → T → Type 0)
     → ((k : K) (a : A) (r : R) (x : O) → Post k a r x → P (gave a) (told r) (left x)) → Call Post gave told left given said after → P given said after
 promise {gave = gave} {told = told} {left = left} {given = given} {said = said} P h c =
     subst (P given said) (c .outputs-are)

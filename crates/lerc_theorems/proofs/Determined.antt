@@ -20,7 +20,7 @@ use Rattle.lerc_image.specs.Fill.{Filled}
 use Rattle.lerc_image.specs.Tiles.{Tiled}
 use Rattle.lerc.specs.declared.ReadAnswer.{ReadAnswer}
 use Rattle.lerc.specs.Read.{Lent, WholeRead}
-use Rattle.lerc_theorems.specs.Promises.{Answers, NoRoom, NoRoomInC}
+use Rattle.lerc_theorems.specs.Promises.{Answers, NoRoom}
 use Rattle.lerc_theorems.proofs.SameAnswers.{block-plan-same, word-same, integer-same, offset-same, sample-same, stored-same, header-same, open-same, held-same, pairs-same, way-same, walk-same, fill-same, read-same, counts-same}
 
 -- ---- promises of an answer and of lent slices
@@ -132,19 +132,4 @@ no-room = record {
   put-cells = record { asks-nothing = λ k a. tt; same = λ k a r q x y p s. put-same p s };
   read-refusal = given (λ k a. tt) _ (λ k a r x p. p);
   read = record { asks-nothing = λ k a. tt; same = λ k a r q x y p s. whole-same p s };
-}
-
-pub no-room-in-c : NoRoomInC
-no-room-in-c = record {
-  read-header = record { asks-nothing = λ k a. tt; same = λ k a r q x y p s. (p .number ∙ sym (s .number), p .header ∙ sym (s .header)) };
-  prepare-mask = record { asks-nothing = λ k a. tt; same = λ k a r q x y p s. (p .number ∙ sym (s .number), rw (p .spare ∙ sym (s .spare), p .said ∙ sym (s .said))) };
-  read-ranges = record { asks-nothing = λ k a. tt; same = λ k a r q x y p s. (p .number ∙ sym (s .number), p .ranges ∙ sym (s .ranges)) };
-  walk = record { asks-nothing = λ k a. tt; same = λ k a r q x y p s. (p .number ∙ sym (s .number), rw (p .list ∙ sym (s .list), p .said ∙ sym (s .said))) };
-  fill = record { asks-nothing = λ k a. tt; same = λ k a r q x y p s. (p .number ∙ sym (s .number), rw (p .image ∙ sym (s .image), p .said ∙ sym (s .said))) };
-  read = record { asks-nothing = λ k a. tt; same = λ k a r q x y p s. (p .number ∙ sym (s .number), rw (p .lent ∙ sym (s .lent), p .said ∙ sym (s .said))) };
-  sum = given (λ k a. tt) _ (λ k a r x p. p);
-  scaled = given (λ k a. tt) _ (λ k a r x p. p);
-  narrow = given (λ k a. tt) _ (λ k a r x p. p);
-  number = given (λ k a. tt) _ (λ k a r x p. p);
-  stored = record { asks-nothing = λ k a. tt; same = λ k a r q x y p s. (p .number ∙ sym (s .number), p .said ∙ sym (s .said)) };
 }

@@ -1,7 +1,6 @@
 pub mod SameAnswers
 pub mod Determined
 pub mod Refusals
-pub mod InC
 pub mod Writes
 pub mod Demands
 pub mod Calls
@@ -26,4 +25,3 @@ pub mod FromCalls
 pub mod DemandThree
 pub mod Example
 pub mod ExampleCalls
-pub mod Claims

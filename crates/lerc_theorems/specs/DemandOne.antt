@@ -4,17 +4,14 @@ use Rattle.lerc_words.specs.declared.Refusal.{Refusal}
 use Rattle.lerc.specs.declared.ReadAnswer.the-variants as answer
 use Rattle.lerc.proofs.read.Reads as read
 use Prim.Native.Nat.{ℕ}
-use Rattle.lerc_theorems.specs.Promises.{lent, HandedBack, NoRoom, NoRoomInC}
+use Rattle.lerc_theorems.specs.Promises.{lent, HandedBack, NoRoom}
 use Rattle.lerc_theorems.specs.Refusals.{RefusalsKeep, RefusalsEmpty, WholeKeeps}
-use Rattle.lerc_theorems.specs.InC.{RefusalsKeepInC}
 use Rattle.lerc_theorems.specs.Numbers.{NumbersExactly, NumbersOnly}
 use Rattle.lerc_theorems.specs.Writes.{WritesOnly, WholeWrites}
 
 pub record DemandOne : Type 0 where
   -- "For every input a public function's promise leaves no room: answer, number, and every lent byte afterwards."
   pub no-room : NoRoom
-  -- the same of the C interface
-  pub no-room-in-c : NoRoomInC
   -- the table of numbers: "given when", for each number of each public function exactly
   pub numbers-exactly : NumbersExactly
   -- which numbers each public function can give at all
@@ -23,8 +20,6 @@ pub record DemandOne : Type 0 where
   pub refusal-keeps : RefusalsKeep
   -- "except: where the mask section was accepted and no mask was reused, the spare's first (pixels+7)/8 bytes hold the new mask"
   pub whole-keeps : (k : _) (a : _) (x : _) (why : Refusal) → read.Post k a (answer.Refused why) x → WholeKeeps (a .0 .now) (a .1 .0) (lent a) (lent x)
-  -- the same of the C interface
-  pub keeps-in-c : RefusalsKeepInC
   -- "A refusal carries its number, and 0 for each count and offset; a part to be handed back is then empty."
   pub refusal-empty : RefusalsEmpty
   -- "handed back as a part of the kept mask (reuse) or of the spare (otherwise)"

@@ -4,7 +4,6 @@ pub mod Promises
 pub mod Calls
 pub mod Unread
 pub mod Refusals
-pub mod InC
 pub mod Writes
 pub mod BlockTable
 pub mod MaskTable
@@ -13,4 +12,3 @@ pub mod Numbers
 pub mod DemandOne
 pub mod DemandTwo
 pub mod DemandThree
-pub mod Claims

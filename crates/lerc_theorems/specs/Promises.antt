@@ -90,17 +90,6 @@ use Rattle.lerc.proofs.read.Reads as read
 use Rattle.lerc_text.proofs.put_line.Reads as put-line
 use Rattle.lerc_text.proofs.put_shape.Reads as put-shape
 use Rattle.lerc_text.proofs.put_cells.Reads as put-cells
-use Rattle.lerc_c.proofs.lerc2_read_header.Reads as c-read-header
-use Rattle.lerc_c.proofs.lerc2_prepare_mask.Reads as c-prepare-mask
-use Rattle.lerc_c.proofs.lerc2_read_ranges.Reads as c-read-ranges
-use Rattle.lerc_c.proofs.lerc2_walk.Reads as c-walk
-use Rattle.lerc_c.proofs.lerc2_fill.Reads as c-fill
-use Rattle.lerc_c.proofs.lerc2_read.Reads as c-read
-use Rattle.lerc_c.proofs.lerc2_sum.Reads as c-sum
-use Rattle.lerc_c.proofs.lerc2_scaled.Reads as c-scaled
-use Rattle.lerc_c.proofs.lerc2_narrow.Reads as c-narrow
-use Rattle.lerc_c.proofs.lerc2_number.Reads as c-number
-use Rattle.lerc_c.proofs.lerc2_stored.Reads as c-stored
 
 -- A function's promise: `Pre lives inputs` is what it asks, `Post lives inputs answer outputs` what it gives; the outputs are the inputs at exit.
 -- `told` is the answer as a caller sees it, `left` is what the slices hold that were lent to be written.
@@ -231,24 +220,3 @@ pub record NoRoom : Type 0 where
   pub put-line : Writes put-line.Pre put-line.Post (λ o. o .0 .now)
   pub put-shape : Writes put-shape.Pre put-shape.Post (λ o. o .0 .now)
   pub put-cells : Writes put-cells.Pre put-cells.Post (λ o. o .0 .now)
-
--- the slices that the C interface's whole read is lent, the record of what it says among them
-abbrev pub CRead : Type 0
-CRead = RefT (List ℕ) × (Bool × (RefT (List ℕ) × (RefT (List ℕ) × (RefT (List ℕ) × (RefT (List ℕ) × (RefT (List ℕ) × Unit {0}))))))
-
-abbrev pub c-lent : CRead → Lent × List ℕ
-c-lent a = (record { kept = a .1 .1 .0 .now; spare = a .1 .1 .1 .0 .now; list = a .1 .1 .1 .1 .0 .now; image = a .1 .1 .1 .1 .1 .0 .now }, a .1 .1 .1 .1 .1 .1 .0 .now)
-
--- the entries of the C interface
-pub record NoRoomInC : Type 0 where
-  pub read-header : Writes c-read-header.Pre c-read-header.Post (λ o. o .1 .0 .now)
-  pub prepare-mask : Writes {S = List ℕ × List ℕ} c-prepare-mask.Pre c-prepare-mask.Post (λ o. (o .1 .1 .1 .1 .0 .now, o .1 .1 .1 .1 .1 .0 .now))
-  pub read-ranges : Writes c-read-ranges.Pre c-read-ranges.Post (λ o. o .1 .1 .0 .now)
-  pub walk : Writes {S = List ℕ × List ℕ} c-walk.Pre c-walk.Post (λ o. (o .1 .1 .1 .1 .0 .now, o .1 .1 .1 .1 .1 .0 .now))
-  pub fill : Writes {S = List ℕ × List ℕ} c-fill.Pre c-fill.Post (λ o. (o .1 .1 .1 .1 .1 .1 .0 .now, o .1 .1 .1 .1 .1 .1 .1 .0 .now))
-  pub read : Writes c-read.Pre c-read.Post c-lent
-  pub sum : Answers c-sum.Pre c-sum.Post
-  pub scaled : Answers c-scaled.Pre c-scaled.Post
-  pub narrow : Answers c-narrow.Pre c-narrow.Post
-  pub number : Answers c-number.Pre c-number.Post
-  pub stored : Writes c-stored.Pre c-stored.Post (λ o. o .1 .1 .0 .now)

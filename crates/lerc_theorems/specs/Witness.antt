@@ -26,7 +26,6 @@ use Rattle.lerc_image.specs.Blocks.{blockAt, chain}
 use Rattle.lerc_image.specs.Fill.{fillSays}
 use Rattle.lerc.specs.Meaning.{rawBody, blockBody, sweptBody, constantBody, bodySays, cellWord, meaningFrom, startsOf, endOf}
 use Rattle.lerc.specs.Read.{Lent, room, masked, readSays, published, refusedAfter, readAfter}
-use Rattle.lerc_c.specs.Records.{numberOf}
 
 pub record Fields : Type 0 where
   pub rows : ℕ
@@ -139,6 +138,11 @@ bodies =
     ∷ []
 
 -- ---- a call for each number
+
+-- a refusal's number; 0 where there is none
+abbrev pub numberOf : {A : Type 0} → Res A → ℕ
+numberOf (ok a) = 0
+numberOf (fail r) = r .number
 
 abbrev pub refused : ℕ → List ℕ → ℕ
 refused cells b = numberOf (readSays b false (lent 3 cells))

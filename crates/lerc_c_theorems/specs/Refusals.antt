@@ -15,8 +15,8 @@ use Rattle.lerc_c.proofs.lerc2_walk.Reads as walk
 use Rattle.lerc_c.proofs.lerc2_fill.Reads as fill
 use Rattle.lerc_c.proofs.lerc2_read.Reads as read
 use Rattle.lerc_c.proofs.lerc2_stored.Reads as stored
-use Rattle.lerc_theorems.specs.Promises.{CRead, c-lent}
+use Rattle.lerc_c_theorems.specs.Promises.{CRead, c-lent}
 use Rattle.lerc_theorems.specs.Refusals.{WholeKeeps}
 
 -- a promise by which any number but 0 leaves what was lent: `before` of the inputs is `left` of the outputs
 abbrev pub KeepsInC : {K A O S : Type 0} → (K → A → ℕ → O → Type 0) → (A → S) → (O → S) → Type 0

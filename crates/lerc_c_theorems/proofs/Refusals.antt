@@ -16,9 +16,9 @@ use Rattle.lerc.specs.Meaning.{Meaning}
 use Rattle.lerc.specs.Read.{Lent, readSays, masked, refusedAfter, readAfter}
 use Rattle.lerc_c.specs.Records.{numberOf}
 use Rattle.lerc_c.specs.Entries.{HeaderDone, RangesDone, StoredDone, PrepareDone, Walking, WalkDone, Filling, FillDone, readRoom, readNumbers, readEntry, maskedEntry, lentAfter, ReadDone}
 use Rattle.lerc_theorems.specs.Refusals.{WholeKeeps}
-use Rattle.lerc_theorems.specs.InC.{RefusalsKeepInC}
+use Rattle.lerc_c_theorems.specs.Refusals.{RefusalsKeepInC}
 use Rattle.lerc_theorems.proofs.Refusals.{whole-keeps}
 
 -- a number other than 0 is a refusal's, and a refusal leaves what was there
 header-left : (m : Res Header) {n : ℕ} {header header' : List ℕ} → HeaderDone m n header header' → n ≢ 0 → header' ≡ header

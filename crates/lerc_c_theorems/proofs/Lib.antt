@@ -1,0 +1,9 @@
+pub mod Determined
+pub mod Refusals
+pub mod Calls
+pub mod SameReader
+pub mod Numbers
+pub mod Made
+pub mod DemandTwo
+pub mod DemandThree
+pub mod InC

@@ -1,0 +1,261 @@
+-- Which number an entry for C returns: the table holds exactly.
+-- Assumes nothing.
+use mathlib.Core.Path.{_≡_, _∙_, sym, ap, refl, subst}
+use mathlib.Core.Logic.{_↔_, _≢_, _⊎_, inl, inr}
+use mathlib.Core.Bool.{Bool, true, false, _&&_}
+use mathlib.Core.List.{List, [], _∷_}
+use Prim.Native.Nat.{ℕ}
+use native.Mathlib.Omega.{arith}
+use lib.ListN.{length, getD}
+use lib.Dec.{leb, ltb}
+use borrow.Author.Tests.{ltb-true, ltb-false, leb-true, leb-false}
+use Rattle.lerc_words.specs.declared.Refusal.{Refusal}
+use Rattle.lerc_words.specs.Res.{Res, ok, fail, _>>=_, refuse, require}
+use Rattle.lerc_words.proofs.Binding.{bind-no, bind-fail, and-is}
+use Rattle.lerc_samples.specs.Samples.{stored}
+use Rattle.lerc_header.specs.declared.Header.{Header}
+use Rattle.lerc_header.specs.Header.{headerSays}
+use Rattle.lerc_validity.specs.Validity.{MaskInForce, prepareSays}
+use Rattle.lerc_ranges.specs.declared.Ranges.{Ranges}
+use Rattle.lerc_ranges.specs.Ranges.{readRangesSays}
+use Rattle.lerc_image.specs.Paint.{among}
+use Rattle.lerc_image.specs.Walk.{walkSays}
+use Rattle.lerc_image.specs.Fill.{fillSays}
+use Rattle.lerc.specs.Read.{Lent, readSays}
+use Rattle.lerc_c.specs.Records.{numberOf, headerRoom, fieldsFit, headerAt, headerFrom, rangesRoom, rangesIn, rangesFrom}
+use Rattle.lerc_c.specs.Entries.{headerEntry, prepareEntry, rangesEntry, walkEntry, fillEntry, readRoom, readEntry, storedEntry}
+use Rattle.lerc_c.proofs.RecordParts.{Fit, fit}
+use Rattle.lerc_c.proofs.Numbers.{Numbered, header-numbered, prepare-numbered, ranges-numbered, walk-numbered, fill-numbered, read-numbered, stored-numbered, zero-accepts}
+use Rattle.lerc_theorems.specs.BlockTable.{StoredRefused}
+use Rattle.lerc_theorems.specs.Table.{HeaderRefused, PrepareRefused, ReadRangesRefused, WalkRefused, FillRefused, WholeRefused}
+use Rattle.lerc_theorems.proofs.Demands.{fail-is, not-refused}
+use Rattle.lerc_theorems.proofs.Given.{header-in, prepare-in, read-ranges-in, walk-in, fill-in, whole-in, stored-in}
+use Rattle.lerc_theorems.proofs.Headers.{header-exactly, prepare-exactly, read-ranges-exactly}
+use Rattle.lerc_theorems.proofs.Entries.{walk-exactly, fill-exactly, whole-exactly}
+use Rattle.lerc_theorems.proofs.Blocks.{stored-exactly}
+use Rattle.lerc_c_theorems.specs.Numbers.{EntryRefused, record-short, number-wide, reader-refuses, NothingWide, Shorter, HeaderWide, rows-wide, columns-wide, depth-wide, valid-wide, side-wide, size-wide, kind-wide, mask-wide, MarkWide, NumbersExactlyInC, NumbersOnlyInC}
+
+-- ---- tests, and what fails where one fails
+
+record Decides (t : Bool) (Bad : Type 0) : Type 0 where
+  bad : t ≡ false → Bad
+  good : t ≡ true → Bad → ⊥
+
+no-test : Decides true NothingWide
+no-test = record { bad = λ e. absurd (let z : _≡_ {A = ℕ} 0 1 = cc in omega arith); good = λ _ x. x }
+
+long : (room : ℕ) (l : List ℕ) → Decides (leb room (length l)) (Shorter l room)
+long room l = record { bad = leb-false room (length l); good = λ e s. let h = leb-true room (length l) e in omega (arith, h, s) }
+
+-- one of two tests fails
+fails : (a b : Bool) {P : Type 0} → (a ≡ false → P) → (b ≡ false → P) → (a && b) ≡ false → P
+fails true b f g e = g e
+fails false b f g e = f refl
+
+both : {t u : Bool} {P Q : Type 0} → Decides t P → Decides u Q → Decides (t && u) (P ⊎ Q)
+both {t} {u} {P} {Q} p q = record { bad = fails t u (λ e. inl (p .bad e)) (λ e. inr (q .bad e)); good = λ e. let (v, w) = and-is t u e in λ s. go v w s }
+  where
+    go : t ≡ true → u ≡ true → P ⊎ Q → ⊥
+    go v w (inl s) = p .good v s
+    go v w (inr s) = q .good w s
+
+fields : (l : List ℕ) → Decides (fieldsFit l) (HeaderWide l)
+unfolding fieldsFit
+fields l = record {
+  bad = fails _ _ (fails _ _ (fails _ _ (fails _ _ (fails _ _ (fails _ _ (fails _ _
+      (λ e. rows-wide (ltb-false _ _ e)) (λ e. columns-wide (ltb-false _ _ e))) (λ e. depth-wide (ltb-false _ _ e))) (λ e. valid-wide (ltb-false _ _ e)))
+      (λ e. side-wide (ltb-false _ _ e))) (λ e. size-wide (ltb-false _ _ e))) (λ e. kind-wide (ltb-false _ _ e))) (λ e. mask-wide (ltb-false _ _ e));
+  good = λ e. let f = fit l e in λ w. go f w;
+}
+  where
+    go : Fit l → HeaderWide l → ⊥
+    go f (rows-wide w) = omega (arith, f .rows, w)
+    go f (columns-wide w) = omega (arith, f .columns, w)
+    go f (depth-wide w) = omega (arith, f .depth, w)
+    go f (valid-wide w) = omega (arith, f .valid, w)
+    go f (side-wide w) = omega (arith, f .side, w)
+    go f (size-wide w) = omega (arith, f .size, w)
+    go f (kind-wide w) = omega (arith, f .kind, w)
+    go f (mask-wide w) = omega (arith, f .mask, w)
+
+mark : (l : List ℕ) → Decides (ltb (getD l 1 0) 2) (MarkWide l)
+mark l = record { bad = ltb-false (getD l 1 0) 2; good = λ e w. let h = ltb-true (getD l 1 0) 2 e in omega (arith, h, w) }
+
+-- ---- an entry: room for its records, numbers that their fields hold, then the reader
+
+abbrev Entry : {A : Type 0} → Bool → Bool → Res A → Res A
+Entry t u m = require t 5 >>= λ _. require u 3 >>= λ _. m
+
+module _ {A : Type 0} {m : Res A} {Short Wide : Type 0} {Refused : Refusal → Type 0} (rest : (why : Refusal) → (m ≡ fail why) ↔ Refused why) where
+  refused-by : (t u : Bool) → Decides t Short → Decides u Wide → {why : Refusal} → Entry t u m ≡ fail why → EntryRefused Short Wide Refused why
+  refused-by true true s w {why} e = reader-refuses (s .good refl) (w .good refl) (rest why .0 e)
+  refused-by true false s w e = subst (EntryRefused Short Wide Refused) (fail-is e) (number-wide (s .good refl) (w .bad refl))
+  refused-by false u s w e = subst (EntryRefused Short Wide Refused) (fail-is e) (record-short (s .bad refl))
+
+  by-refused : (t u : Bool) → Decides t Short → Decides u Wide → {why : Refusal} → EntryRefused Short Wide Refused why → Entry t u m ≡ fail why
+  by-refused true true s w (record-short x) = absurd (s .good refl x)
+  by-refused true true s w (number-wide x y) = absurd (w .good refl y)
+  by-refused true true s w {why} (reader-refuses x y r) = rest why .1 r
+  by-refused true false s w (record-short x) = absurd (s .good refl x)
+  by-refused true false s w (number-wide x y) = refl
+  by-refused true false s w (reader-refuses x y r) = absurd (y (w .bad refl))
+  by-refused false u s w (record-short x) = refl
+  by-refused false u s w (number-wide x y) = absurd (x (s .bad refl))
+  by-refused false u s w (reader-refuses x y r) = absurd (x (s .bad refl))
+
+  -- so its table is exact
+  table : {t u : Bool} → Decides t Short → Decides u Wide → {entry : Res A} → entry ≡ Entry t u m → (why : Refusal) → (entry ≡ fail why) ↔ EntryRefused Short Wide Refused why
+  table {t} {u} s w d why = (λ e. refused-by t u s w (sym d ∙ e), λ r. d ∙ by-refused t u s w r)
+
+-- a value out of a record, then the rest
+held-form : {A B : Type 0} (u : Bool) (v : A) (k : A → Res B) → ((require u 3 >>= λ _. ok v) >>= k) ≡ (require u 3 >>= λ _. k v)
+held-form true v k = refl
+held-form false v k = refl
+
+both-form : {A : Type 0} (u v : Bool) (m : Res A) → (require u 3 >>= λ _. require v 3 >>= λ _. m) ≡ (require (u && v) 3 >>= λ _. m)
+both-form true v m = refl
+both-form false v m = refl
+
+-- ---- the entries in this form
+
+header-form : (b header : List ℕ) → headerEntry b header ≡ Entry (leb headerRoom (length header)) true (headerSays b)
+unfolding headerEntry
+header-form b header = refl
+
+prepare-form : (b header : List ℕ) (reuse : Bool) (kept spare said : List ℕ)
+    → prepareEntry b header reuse kept spare said ≡ Entry (leb headerRoom (length header) && leb 2 (length said)) (fieldsFit header) (prepareSays b (headerAt header) reuse kept (length spare))
+unfolding prepareEntry headerFrom
+prepare-form b header reuse kept spare said =
+    ap (λ (x : Res MaskInForce). require (leb headerRoom (length header) && leb 2 (length said)) 5 >>= λ _. x) (held-form (fieldsFit header) (headerAt header) (λ h. prepareSays b h reuse kept (length spare)))
+
+ranges-form : (b header ranges : List ℕ)
+    → rangesEntry b header ranges ≡ Entry (leb headerRoom (length header) && leb rangesRoom (length ranges)) (fieldsFit header) (readRangesSays b (headerAt header))
+unfolding rangesEntry headerFrom
+ranges-form b header ranges =
+    ap (λ (x : Res Ranges). require (leb headerRoom (length header) && leb rangesRoom (length ranges)) 5 >>= λ _. x) (held-form (fieldsFit header) (headerAt header) (readRangesSays b))
+
+-- header and ranges out of their records, then the rest
+module _ {B : Type 0} (header ranges : List ℕ) (t : Bool) (k : Header → Ranges → Res B) where
+  two-form : (require t 5 >>= λ _. headerFrom header >>= λ h. rangesFrom ranges >>= λ r. k h r) ≡ Entry t (fieldsFit header && ltb (getD ranges 1 0) 2) (k (headerAt header) (rangesIn ranges))
+  unfolding headerFrom rangesFrom
+  two-form =
+      ap (λ (x : Res B). require t 5 >>= λ _. x)
+      (held-form (fieldsFit header) (headerAt header) (λ h. rangesFrom ranges >>= λ r. k h r)
+      ∙ ap (λ (x : Res B). require (fieldsFit header) 3 >>= λ _. x) (held-form (ltb (getD ranges 1 0) 2) (rangesIn ranges) (k (headerAt header)))
+      ∙ both-form (fieldsFit header) (ltb (getD ranges 1 0) 2) (k (headerAt header) (rangesIn ranges)))
+
+abbrev roomFor : ℕ → List ℕ → List ℕ → List ℕ → Bool
+roomFor n header ranges said = leb headerRoom (length header) && leb rangesRoom (length ranges) && leb n (length said)
+
+walk-form : (b header ranges m list said : List ℕ) → walkEntry b header ranges m list said ≡ Entry (roomFor 2 header ranges said) (fieldsFit header && ltb (getD ranges 1 0) 2)
+    (walkSays b (headerAt header) (rangesIn ranges) m (length list) >>= λ c. ok (record { header = headerAt header; chain = c }))
+unfolding walkEntry
+walk-form b header ranges m list said = two-form header ranges (roomFor 2 header ranges said) (λ h r. walkSays b h r m (length list) >>= λ c. ok (record { header = h; chain = c }))
+
+fill-form : (b header ranges m list : List ℕ) (n : ℕ) (image said : List ℕ)
+    → fillEntry b header ranges m list n image said ≡ Entry (roomFor 1 header ranges said) (fieldsFit header && ltb (getD ranges 1 0) 2)
+    (fillSays b (headerAt header) (rangesIn ranges) m list n (length image) >>= λ k. ok (record { header = headerAt header; block = k }))
+unfolding fillEntry
+fill-form b header ranges m list n image said =
+    two-form header ranges (roomFor 1 header ranges said) (λ h r. fillSays b h r m list n (length image) >>= λ k. ok (record { header = h; block = k }))
+
+read-form : (b : List ℕ) (reuse : Bool) (l : Lent) (said : List ℕ) → readEntry b reuse l said ≡ Entry (leb readRoom (length said)) true (readSays b reuse l)
+unfolding readEntry
+read-form b reuse l said = refl
+
+stored-form : (kind v : ℕ) (said : List ℕ) → storedEntry kind v said ≡ Entry (leb 1 (length said)) true (stored kind v)
+unfolding storedEntry
+stored-form kind v said = refl
+
+-- ---- their tables
+
+abbrev TableOf : {A : Type 0} → Res A → (Refusal → Type 0) → Type 0
+TableOf entry When = (why : Refusal) → (entry ≡ fail why) ↔ When why
+
+-- what is made of an accepted value refuses nothing
+behind : {A B : Type 0} {m : Res A} (f : A → B) {When : Refusal → Type 0} → TableOf m When → TableOf (m >>= λ a. ok (f a)) When
+behind {m = m} f p why = (λ e. p why .0 (bind-fail m f e), λ r. bind-no _ (p why .1 r))
+
+-- where an entry's number is 0, and where it is another
+module _ {A : Type 0} {When : Refusal → Type 0} {n : ℕ} where
+  zero-where : (entry : Res A) → Numbered entry → TableOf entry When → n ≡ numberOf entry → (n ≡ 0) ↔ ((why : Refusal) → When why → ⊥)
+  zero-where (ok a) p f k = (λ _ why r. not-refused (f why .1 r), λ _. k)
+  zero-where (fail q) p f k = (λ z. let (_, d) = zero-accepts p (sym k ∙ z) in not-refused (sym d), λ none. absurd (none q (f q .0 refl)))
+
+  other-where : (entry : Res A) → TableOf entry When → n ≡ numberOf entry → (j : ℕ) → j ≢ 0 → (n ≡ j) ↔ When (refuse j)
+  other-where (ok a) f k j z = (λ e. absurd (z (sym e ∙ k)), λ r. not-refused (f (refuse j) .1 r))
+  other-where (fail q) f k j z = (λ e. subst (λ (v : ℕ). When (refuse v)) (sym k ∙ e) (f q .0 refl), λ r. k ∙ ap (λ (v : Refusal). v .number) (fail-is (f (refuse j) .1 r)))
+
+module _ (b header : List ℕ) where
+  header-table : TableOf (headerEntry b header) (EntryRefused (Shorter header headerRoom) NothingWide (HeaderRefused b))
+  header-table = table (header-exactly b) (long headerRoom header) no-test (header-form b header)
+
+  prepare-table : (reuse : Bool) (kept spare said : List ℕ) → TableOf (prepareEntry b header reuse kept spare said)
+      (EntryRefused (Shorter header headerRoom ⊎ Shorter said 2) (HeaderWide header) (PrepareRefused b (headerAt header) reuse kept (length spare)))
+  prepare-table reuse kept spare said =
+      table (prepare-exactly b (headerAt header) reuse kept (length spare)) (both (long headerRoom header) (long 2 said)) (fields header) (prepare-form b header reuse kept spare said)
+
+  ranges-table : (ranges : List ℕ) → TableOf (rangesEntry b header ranges)
+      (EntryRefused (Shorter header headerRoom ⊎ Shorter ranges rangesRoom) (HeaderWide header) (ReadRangesRefused b (headerAt header)))
+  ranges-table ranges = table (read-ranges-exactly b (headerAt header)) (both (long headerRoom header) (long rangesRoom ranges)) (fields header) (ranges-form b header ranges)
+
+  module _ (ranges m list : List ℕ) where
+    walk-table : (said : List ℕ) → TableOf (walkEntry b header ranges m list said)
+        (EntryRefused ((Shorter header headerRoom ⊎ Shorter ranges rangesRoom) ⊎ Shorter said 2) (HeaderWide header ⊎ MarkWide ranges) (WalkRefused b (headerAt header) (rangesIn ranges) m (length list)))
+    walk-table said =
+        table (behind (λ c. record { header = headerAt header; chain = c }) (walk-exactly b (headerAt header) (rangesIn ranges) m (length list))) (both (both (long headerRoom header) (long rangesRoom ranges)) (long 2 said)) (both (fields header) (mark ranges))
+        (walk-form b header ranges m list said)
+
+    fill-table : (n : ℕ) (image said : List ℕ) → TableOf (fillEntry b header ranges m list n image said)
+        (EntryRefused ((Shorter header headerRoom ⊎ Shorter ranges rangesRoom) ⊎ Shorter said 1) (HeaderWide header ⊎ MarkWide ranges) (FillRefused b (headerAt header) (rangesIn ranges) m list n (length image)))
+    fill-table n image said =
+        table (behind (λ k. record { header = headerAt header; block = k }) (fill-exactly b (headerAt header) (rangesIn ranges) m list n (length image))) (both (both (long headerRoom header) (long rangesRoom ranges)) (long 1 said))
+        (both (fields header) (mark ranges)) (fill-form b header ranges m list n image said)
+
+read-table : (b : List ℕ) (reuse : Bool) (l : Lent) (said : List ℕ) → TableOf (readEntry b reuse l said) (EntryRefused (Shorter said readRoom) NothingWide (WholeRefused b reuse l))
+read-table b reuse l said = table (whole-exactly b reuse l) (long readRoom said) no-test (read-form b reuse l said)
+
+stored-table : (kind v : ℕ) (said : List ℕ) → TableOf (storedEntry kind v said) (EntryRefused (Shorter said 1) NothingWide (StoredRefused kind v))
+stored-table kind v said = table (stored-exactly kind v) (long 1 said) no-test (stored-form kind v said)
+
+-- ---- each number of each entry
+
+pub numbers-exactly-in-c : NumbersExactlyInC
+numbers-exactly-in-c = record {
+  read-header = record { zero = λ k a n x p. zero-where _ (header-numbered _ _) (header-table _ _) (p .number); other = λ k a n x p. other-where _ (header-table _ _) (p .number) };
+  prepare-mask = record { zero = λ k a n x p. zero-where _ (prepare-numbered _ _ _ _ _ _) (prepare-table _ _ _ _ _ _) (p .number); other = λ k a n x p. other-where _ (prepare-table _ _ _ _ _ _) (p .number) };
+  read-ranges = record { zero = λ k a n x p. zero-where _ (ranges-numbered _ _ _) (ranges-table _ _ _) (p .number); other = λ k a n x p. other-where _ (ranges-table _ _ _) (p .number) };
+  walk = record { zero = λ k a n x p. zero-where _ (walk-numbered _ _ _ _ _ _) (walk-table _ _ _ _ _ _) (p .number); other = λ k a n x p. other-where _ (walk-table _ _ _ _ _ _) (p .number) };
+  fill = record { zero = λ k a n x p. zero-where _ (fill-numbered _ _ _ _ _ _ _ _) (fill-table _ _ _ _ _ _ _ _) (p .number); other = λ k a n x p. other-where _ (fill-table _ _ _ _ _ _ _ _) (p .number) };
+  read = record { zero = λ k a n x p. zero-where _ (read-numbered _ _ _ _) (read-table _ _ _ _) (p .number); other = λ k a n x p. other-where _ (read-table _ _ _ _) (p .number) };
+  stored = record { zero = λ k a n x p. zero-where _ (stored-numbered _ _ _) (stored-table _ _ _) (p .number); other = λ k a n x p. other-where _ (stored-table _ _ _) (p .number) };
+}
+
+-- ---- no other numbers
+
+abbrev In : List ℕ → Refusal → Type 0
+In numbers why = among numbers (why .number) ≡ true
+
+-- the numbers of an entry's table: 5, 3 where a number can be too wide, and the reader's
+entry-in : (l : List ℕ) {Short Wide : Type 0} {Refused : Refusal → Type 0} → among l 5 ≡ true → (Wide → among l 3 ≡ true) → ((why : Refusal) → Refused why → In l why) → (why : Refusal)
+    → EntryRefused Short Wide Refused why → In l why
+entry-in l five three rest why (record-short s) = five
+entry-in l five three rest why (number-wide s w) = three w
+entry-in l five three rest why (reader-refuses s w r) = rest why r
+
+-- 0, or one of them
+only : {A : Type 0} (l : List ℕ) (entry : Res A) {Short Wide : Type 0} {Refused : Refusal → Type 0} → TableOf entry (EntryRefused Short Wide Refused) → {n : ℕ} → n ≡ numberOf entry
+    → among l 0 ≡ true → among l 5 ≡ true → (Wide → among l 3 ≡ true) → ((why : Refusal) → Refused why → In l why) → among l n ≡ true
+only l (ok a) f k zero five three rest = rw (k) zero
+only l (fail why) f k zero five three rest = rw (k) (entry-in l five three rest why (f why .0 refl))
+
+pub numbers-only-in-c : NumbersOnlyInC
+numbers-only-in-c = record {
+  read-header = λ k a n x p. let l : List ℕ = 0 ∷ 1 ∷ 2 ∷ 3 ∷ 4 ∷ 5 ∷ [] in only l _ (header-table _ _) (p .number) refl refl (λ w. refl) (λ why. header-in (In l) refl refl refl refl);
+  prepare-mask = λ k a n x p. let l : List ℕ = 0 ∷ 1 ∷ 3 ∷ 4 ∷ 5 ∷ 6 ∷ [] in only l _ (prepare-table _ _ _ _ _ _) (p .number) refl refl (λ w. refl) (λ why. prepare-in (In l) refl refl refl refl refl);
+  read-ranges = λ k a n x p. let l : List ℕ = 0 ∷ 1 ∷ 3 ∷ 4 ∷ 5 ∷ 7 ∷ [] in only l _ (ranges-table _ _ _) (p .number) refl refl (λ w. refl) (λ why. read-ranges-in (In l) refl refl refl refl);
+  walk = λ k a n x p. let l : List ℕ = 0 ∷ 1 ∷ 3 ∷ 4 ∷ 5 ∷ 7 ∷ 8 ∷ 9 ∷ 10 ∷ [] in only l _ (walk-table _ _ _ _ _ _) (p .number) refl refl (λ w. refl) (λ why. walk-in (In l) refl refl refl refl refl refl refl refl);
+  fill = λ k a n x p. let l : List ℕ = 0 ∷ 1 ∷ 3 ∷ 4 ∷ 5 ∷ 7 ∷ 8 ∷ 9 ∷ 11 ∷ [] in only l _ (fill-table _ _ _ _ _ _ _ _) (p .number) refl refl (λ w. refl) (λ why. fill-in (In l) refl refl refl refl refl refl refl refl);
+  read = λ k a n x p. let l : List ℕ = 0 ∷ 1 ∷ 2 ∷ 3 ∷ 4 ∷ 5 ∷ 6 ∷ 7 ∷ 8 ∷ 9 ∷ 10 ∷ [] in only l _ (read-table _ _ _ _) (p .number) refl refl (λ w. refl) (λ why. whole-in (In l) refl refl refl refl refl refl refl refl refl refl);
+  stored = λ k a n x p. let l : List ℕ = 0 ∷ 5 ∷ 9 ∷ [] in only l _ (stored-table _ _ _) (p .number) refl refl (λ w. absurd w) (λ why. stored-in (In l) refl);
+}

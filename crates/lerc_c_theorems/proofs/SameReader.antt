@@ -1,0 +1,239 @@
+-- Each entry for C is the reader's function, on what its records hold.
+-- Assumes nothing.
+use mathlib.Core.Path.{_≡_, _∙_, sym, ap, refl}
+use mathlib.Core.Bool.{Bool}
+use mathlib.Core.List.{List}
+use Prim.Native.Nat.{ℕ, _≤_}
+use native.Mathlib.Omega.{arith}
+use lib.ListN.{length}
+use borrow.Author.Tests.{le-leb}
+use Rattle.lerc_words.specs.declared.Refusal.{Refusal}
+use Rattle.lerc_words.specs.Res.{Res, ok, fail, _>>=_, accepts, after}
+use Rattle.lerc_words.specs.Lists.{over}
+use Rattle.lerc_words.proofs.Binding.{ok-is}
+use Rattle.lerc_samples.specs.declared.StoredAnswer.{StoredAnswer}
+use Rattle.lerc_samples.specs.Samples.{stored, storedSaid}
+use Rattle.lerc_header.specs.declared.Header.{Header}
+use Rattle.lerc_header.specs.declared.HeaderAnswer.{HeaderAnswer}
+use Rattle.lerc_header.specs.Header.{shapeOf, headerSays, headerSaid}
+use Rattle.lerc_header.specs.Shape.{blockCount}
+use Rattle.lerc_validity.specs.declared.MaskAnswer.{MaskAnswer}
+use Rattle.lerc_validity.specs.declared.MaskAnswer.the-variants as mask
+use Rattle.lerc_validity.specs.Validity.{MaskInForce, reused, new as made, which, spareWith, prepareSays, maskSaid}
+use Rattle.lerc_ranges.specs.declared.Ranges.{Ranges}
+use Rattle.lerc_ranges.specs.declared.RangesRead.{RangesRead}
+use Rattle.lerc_ranges.specs.Ranges.{readRangesSays, rangesSaid}
+use Rattle.lerc_block.specs.Block.{Block}
+use Rattle.lerc_image.specs.declared.WalkAnswer.{WalkAnswer}
+use Rattle.lerc_image.specs.declared.FillAnswer.{FillAnswer}
+use Rattle.lerc_image.specs.Blocks.{Chain}
+use Rattle.lerc_image.specs.Paint.{scattered}
+use Rattle.lerc_image.specs.Geometry.{tileOf, validInTile}
+use Rattle.lerc_image.specs.Walk.{Walk, walkSays, walkSaid, walkCount, walkList}
+use Rattle.lerc_image.specs.Fill.{fillSays, fillSaid, fillCount, fillImage}
+use Rattle.lerc.specs.declared.ReadAnswer.{ReadAnswer}
+use Rattle.lerc.specs.Meaning.{Meaning, startsOf, endOf}
+use Rattle.lerc.specs.Read.{Lent, readSays, masked, readAfter, readCount, readSaid}
+use Rattle.lerc_c.specs.Records.{numberOf, headerRoom, headerNumbers, rangesRoom, rangesNumbers}
+use Rattle.lerc_c.specs.Entries.{headerEntry, prepareEntry, maskNumbers, rangesEntry, Walking, walkNumbers, walkEntry, Filling, fillNumbers, fillPaints, fillEntry, readRoom, readNumbers, readEntry, maskedEntry, lentAfter, storedEntry}
+use Rattle.lerc_c.proofs.Numbers.{Numbered, header-numbered, prepare-numbered, ranges-numbered, walk-numbered, fill-numbered, read-numbered, stored-numbered, zero-accepts}
+use Rattle.lerc_theorems.specs.Calls.{HeaderCall, PrepareCall, RangesCall, WalkCall, FillCall, ReadCall}
+use Rattle.lerc_theorems.proofs.Calls.{header-call, prepare-call, ranges-call, walk-call, fill-call, read-call}
+use Rattle.lerc_theorems.proofs.Demands.{fail-is, not-refused}
+use Rattle.lerc_c_theorems.specs.Calls.{HoldsHeader, HoldsRanges, HeaderInC, PrepareInC, RangesInC, WalkInC, FillInC, ReadInC, StoredInC, StoredCall}
+use Rattle.lerc_c_theorems.specs.SameReader.{Tells, partNumbers, rangesTold, walkedNumbers, wholeNumbers, alone, SameReader}
+use Rattle.lerc_c_theorems.proofs.Calls.{header-done, prepare-done, ranges-done, walk-done, fill-done, read-done, stored-done, stored-call}
+
+-- ---- an entry, and the answer that it numbers-tell
+
+-- an accepted value's numbers are those of what is told of it
+record NumbersOf {A B : Type 0} (numbers : A → List ℕ) (told : A → Res B) (names : B → List ℕ) (a : A) : Type 0 where
+  answer : B
+  is : told a ≡ ok answer
+  same : numbers a ≡ names answer
+
+module _ {A B : Type 0} (numbers : A → List ℕ) (told : A → Res B) (names : B → List ℕ) (each : (a : A) → NumbersOf numbers told names a) {said : Res B} {n : ℕ} {old new : List ℕ} where
+  numbers-tell : (entry : Res A) → Numbered entry → said ≡ (entry >>= told) → n ≡ numberOf entry → new ≡ after entry old (λ a. over (numbers a) old) → Tells said names n old new
+  numbers-tell (ok a) p s k w =
+      let v = s ∙ each a .is in
+      record {
+        zero = (λ _. ap accepts v, λ _. k);
+        refused = λ why e. not-refused (sym v ∙ e);
+        written = λ b e. w ∙ rw (each a .same, ok-is (sym v ∙ e));
+        kept = λ why e. not-refused (sym v ∙ e);
+      }
+  numbers-tell (fail r) p s k w = record {
+    zero = (λ z. let (_, d) = zero-accepts p (sym k ∙ z) in not-refused (sym d), λ e. absurd (let y = ap accepts s in let z : _≡_ {A = ℕ} 0 1 = cc in omega arith));
+    refused = λ why e. k ∙ ap (λ (q : Refusal). q .number) (fail-is (sym s ∙ e));
+    written = λ b e. not-refused (sym e ∙ s);
+    kept = λ why e. w;
+  }
+
+-- a value that is told as it is
+itself : {A : Type 0} (numbers : A → List ℕ) (a : A) → NumbersOf numbers ok numbers a
+itself numbers a = record { answer = a; is = refl; same = refl }
+
+unit : {A : Type 0} (m : Res A) → m ≡ (m >>= ok)
+unit (ok a) = refl
+unit (fail r) = refl
+
+-- ---- entries whose records have room and hold what their fields can: what is left is the reader's
+
+header-reads : (b header : List ℕ) → headerRoom ≤ length header → headerEntry b header ≡ headerSays b
+unfolding headerEntry
+header-reads b header l = rw (le-leb headerRoom (length header) l)
+
+module _ (b : List ℕ) {header : List ℕ} {h : Header} (p : HoldsHeader header h) where
+  pub prepare-reads : (reuse : Bool) (kept spare said : List ℕ) → 2 ≤ length said → prepareEntry b header reuse kept spare said ≡ prepareSays b h reuse kept (length spare)
+  unfolding prepareEntry
+  prepare-reads reuse kept spare said l = rw (le-leb _ _ (p .long), le-leb 2 (length said) l, p .is)
+
+  ranges-reads : (ranges : List ℕ) → rangesRoom ≤ length ranges → rangesEntry b header ranges ≡ readRangesSays b h
+  unfolding rangesEntry
+  ranges-reads ranges l = rw (le-leb _ _ (p .long), le-leb rangesRoom (length ranges) l, p .is)
+
+  module _ {ranges : List ℕ} {r : Ranges} (q : HoldsRanges ranges r) (m list : List ℕ) where
+    walk-reads : (said : List ℕ) → 2 ≤ length said → walkEntry b header ranges m list said ≡ (walkSays b h r m (length list) >>= λ c. ok (record { header = h; chain = c }))
+    unfolding walkEntry
+    walk-reads said l = rw (le-leb _ _ (p .long), le-leb _ _ (q .long), le-leb 2 (length said) l, p .is, q .is)
+
+    fill-reads : (block : ℕ) (image said : List ℕ) → 1 ≤ length said
+        → fillEntry b header ranges m list block image said ≡ (fillSays b h r m list block (length image) >>= λ k. ok (record { header = h; block = k }))
+    unfolding fillEntry
+    fill-reads block image said l = rw (le-leb _ _ (p .long), le-leb _ _ (q .long), le-leb 1 (length said) l, p .is, q .is)
+
+stored-reads : (kind v : ℕ) (said : List ℕ) → 1 ≤ length said → storedEntry kind v said ≡ stored kind v
+unfolding storedEntry
+stored-reads kind v said l = rw (le-leb 1 (length said) l)
+
+module _ (b : List ℕ) (reuse : Bool) (l : Lent) (said : List ℕ) (long : readRoom ≤ length said) where
+  read-reads : readEntry b reuse l said ≡ readSays b reuse l
+  unfolding readEntry
+  read-reads = rw (le-leb readRoom (length said) long)
+
+  read-leaves : lentAfter b reuse l said ≡ readAfter (readSays b reuse l) (masked b reuse l) l
+  unfolding readEntry maskedEntry lentAfter
+  read-leaves = rw (le-leb readRoom (length said) long)
+
+-- ---- the reader's answers, as the entries tell them
+
+part-told : (f : MaskInForce) → NumbersOf maskNumbers which partNumbers f
+part-told (reused m) = record { answer = mask.Kept (length m); is = refl; same = refl }
+part-told (made m) = record { answer = mask.Spare (length m); is = refl; same = refl }
+
+pub ranges-are : (m : Res Ranges) → rangesTold (rangesSaid m) ≡ m
+ranges-are (ok r) = refl
+ranges-are (fail why) = refl
+
+abbrev walkTold : Walking → Res Walk
+walkTold w = walkCount (w .header) (w .chain)
+
+abbrev fillTold : List ℕ → ℕ → Filling → Res ℕ
+fillTold m n f = fillCount (f .header) m n (f .block)
+
+module _ (h : Header) where
+  walk-told : (x : Res Chain) → (x >>= walkCount h) ≡ ((x >>= λ c. ok (record { header = h; chain = c })) >>= walkTold)
+  walk-told (ok c) = refl
+  walk-told (fail why) = refl
+
+  walk-left : (x : Res Chain) (list : List ℕ)
+      → after (x >>= λ c. ok (record { header = h; chain = c })) list (λ (w : Walking). over (w .chain .starts) list) ≡ after x list (λ c. over (c .starts) list)
+  walk-left (ok c) list = refl
+  walk-left (fail why) list = refl
+
+  fill-told : (m : List ℕ) (n : ℕ) (x : Res Block) → (x >>= fillCount h m n) ≡ ((x >>= λ k. ok (record { header = h; block = k })) >>= fillTold m n)
+  fill-told m n (ok k) = refl
+  fill-told m n (fail why) = refl
+
+  fill-left : (m : List ℕ) (n : ℕ) (x : Res Block) (image : List ℕ)
+      → after (x >>= λ k. ok (record { header = h; block = k })) image (fillPaints m n image) ≡ after x image (λ k. scattered (shapeOf h) m n (k .words) image)
+  fill-left m n (ok k) image = refl
+  fill-left m n (fail why) image = refl
+
+-- ---- entry by entry
+
+header-same : (b : List ℕ) (n : ℕ) (header₀ header₁ : List ℕ) → HeaderInC b n header₀ header₁ → headerRoom ≤ length header₀
+    → (answer : HeaderAnswer) → HeaderCall b answer → Tells (headerSaid answer) headerNumbers n header₀ header₁
+header-same b n header₀ header₁ c l answer d =
+    let p = header-done c in
+    numbers-tell headerNumbers ok headerNumbers (itself headerNumbers) (headerEntry b header₀) (header-numbered b header₀)
+    (header-call d ∙ sym (header-reads b header₀ l) ∙ unit (headerEntry b header₀)) (p .number) (p .header)
+
+prepare-same : (b header : List ℕ) (reuse : Bool) (kept : List ℕ) (n : ℕ) (spare₀ spare₁ said₀ said₁ : List ℕ) → PrepareInC b header reuse kept n spare₀ spare₁ said₀ said₁
+    → (h : Header) → HoldsHeader header h → 2 ≤ length said₀
+    → (answer : MaskAnswer) (spare : List ℕ) → PrepareCall b h reuse kept answer spare₀ spare → Tells (maskSaid answer) partNumbers n said₀ said₁ × (spare₁ ≡ spare)
+prepare-same b header reuse kept n spare₀ spare₁ said₀ said₁ c h q l answer spare d =
+    let p = prepare-done c in
+    let e = prepare-reads b q reuse kept spare₀ said₀ l in (
+      numbers-tell maskNumbers which partNumbers part-told (prepareEntry b header reuse kept spare₀ said₀) (prepare-numbered b header reuse kept spare₀ said₀)
+          (prepare-call d .says ∙ ap (λ (x : Res MaskInForce). x >>= which) (sym e)) (p .number) (p .said),
+      p .spare ∙ ap (λ (x : Res MaskInForce). after x spare₀ (λ f. spareWith f spare₀)) e ∙ sym (prepare-call d .spare),
+    )
+
+ranges-same : (b header : List ℕ) (n : ℕ) (ranges₀ ranges₁ : List ℕ) → RangesInC b header n ranges₀ ranges₁ → (h : Header) → HoldsHeader header h → rangesRoom ≤ length ranges₀
+    → (answer : RangesRead) → RangesCall b h answer → Tells (rangesTold answer) rangesNumbers n ranges₀ ranges₁
+ranges-same b header n ranges₀ ranges₁ c h q l answer d =
+    let p = ranges-done c in
+    numbers-tell rangesNumbers ok rangesNumbers (itself rangesNumbers) (rangesEntry b header ranges₀) (ranges-numbered b header ranges₀)
+    (ap rangesTold (ranges-call d) ∙ ranges-are (readRangesSays b h) ∙ sym (ranges-reads b q ranges₀ l) ∙ unit (rangesEntry b header ranges₀)) (p .number) (p .ranges)
+
+walk-same : (b header ranges mask : List ℕ) (n : ℕ) (list₀ list₁ said₀ said₁ : List ℕ) → WalkInC b header ranges mask n list₀ list₁ said₀ said₁
+    → (h : Header) (r : Ranges) → HoldsHeader header h → HoldsRanges ranges r → 2 ≤ length said₀
+    → (answer : WalkAnswer) (list : List ℕ) → WalkCall b h r mask answer list₀ list → Tells (walkSaid answer) walkedNumbers n said₀ said₁ × (list₁ ≡ list)
+unfolding walkList
+walk-same b header ranges mask n list₀ list₁ said₀ said₁ c h r q g l answer list d =
+    let p = walk-done c in
+    let e = walk-reads b q g mask list₀ said₀ l in
+    let x = walkSays b h r mask (length list₀) in (
+      numbers-tell walkNumbers walkTold walkedNumbers (λ w. record { answer = record { blocks = blockCount (shapeOf (w .header)); end = w .chain .end }; is = refl; same = refl })
+          (walkEntry b header ranges mask list₀ said₀) (walk-numbered b header ranges mask list₀ said₀)
+          (walk-call d .says ∙ walk-told h x ∙ ap (λ (y : Res Walking). y >>= walkTold) (sym e)) (p .number) (p .said),
+      p .list ∙ ap (λ (y : Res Walking). after y list₀ (λ w. over (w .chain .starts) list₀)) e ∙ walk-left h x list₀ ∙ sym (walk-call d .list),
+    )
+
+fill-same : (b header ranges mask list : List ℕ) (block n : ℕ) (image₀ image₁ said₀ said₁ : List ℕ) → FillInC b header ranges mask list block n image₀ image₁ said₀ said₁
+    → (h : Header) (r : Ranges) → HoldsHeader header h → HoldsRanges ranges r → 1 ≤ length said₀
+    → (answer : FillAnswer) (image : List ℕ) → FillCall b h r mask list block answer image₀ image → Tells (fillSaid answer) alone n said₀ said₁ × (image₁ ≡ image)
+unfolding fillImage
+fill-same b header ranges mask list block n image₀ image₁ said₀ said₁ c h r q g l answer image d =
+    let p = fill-done c in
+    let e = fill-reads b q g mask list block image₀ said₀ l in
+    let x = fillSays b h r mask list block (length image₀) in (
+      numbers-tell (fillNumbers mask block) (fillTold mask block) alone
+          (λ f. record { answer = validInTile (shapeOf (f .header)) mask (tileOf (shapeOf (f .header)) block); is = refl; same = refl })
+          (fillEntry b header ranges mask list block image₀ said₀) (fill-numbered b header ranges mask list block image₀ said₀)
+          (fill-call d .says ∙ fill-told h mask block x ∙ ap (λ (y : Res Filling). y >>= fillTold mask block) (sym e)) (p .number) (p .said),
+      p .image ∙ ap (λ (y : Res Filling). after y image₀ (fillPaints mask block image₀)) e ∙ fill-left h mask block x image₀ ∙ sym (fill-call d .image),
+    )
+
+read-same : (b : List ℕ) (reuse : Bool) (n : ℕ) (old new : Lent) (said₀ said₁ : List ℕ) → ReadInC b reuse n old new said₀ said₁ → readRoom ≤ length said₀
+    → (answer : ReadAnswer) (left : Lent) → ReadCall b reuse answer old left → Tells (readSaid answer) wholeNumbers n said₀ said₁ × (new ≡ left)
+read-same b reuse n old new said₀ said₁ c l answer left d =
+    let p = read-done c in (
+      numbers-tell readNumbers readCount wholeNumbers (λ m. record { answer = record { header = m .header; blocks = length (startsOf (m .body)); end = endOf (m .body) }; is = refl; same = refl })
+          (readEntry b reuse old said₀) (read-numbered b reuse old said₀)
+          (read-call d .says ∙ ap (λ (y : Res Meaning). y >>= readCount) (sym (read-reads b reuse old said₀ l))) (p .number) (p .said),
+      p .lent ∙ read-leaves b reuse old said₀ l ∙ sym (read-call d .lent),
+    )
+
+stored-same : (v kind n : ℕ) (said₀ said₁ : List ℕ) → StoredInC v kind n said₀ said₁ → 1 ≤ length said₀
+    → (answer : StoredAnswer) → StoredCall v kind answer → Tells (storedSaid answer) alone n said₀ said₁
+stored-same v kind n said₀ said₁ c l answer d =
+    let p = stored-done c in
+    numbers-tell alone ok alone (itself alone) (storedEntry kind v said₀) (stored-numbered kind v said₀)
+    (stored-call d ∙ sym (stored-reads kind v said₀ l) ∙ unit (storedEntry kind v said₀)) (p .number) (p .said)
+
+pub same-reader : SameReader
+same-reader = record {
+  read-header = header-same;
+  prepare-mask = prepare-same;
+  read-ranges = ranges-same;
+  walk = walk-same;
+  fill = fill-same;
+  read = read-same;
+  stored = stored-same;
+  sum = λ k j a r q x y p s. p ∙ sym s;
+  scaled = λ k j a r q x y p s. p ∙ sym s;
+  narrow = λ k j a r q x y p s. p ∙ sym s;
+  number = λ k j a r q x y p s. p ∙ sym s;
+}

@@ -1,0 +1,82 @@
+-- Calls of the entries for C: what is lent, the number that is returned and what is left, in any outcome that the promise allows.
+-- Of a slice that is written, the first list is what it held, the second what it holds afterwards. `Post` is what the checker makes of the text of an entry's `ensures`;
+-- the inputs are a tuple in the order of its parameters, the outputs the same at exit.
+-- Assumes nothing.
+use mathlib.Core.Path.{_≡_}
+use mathlib.Core.Bool.{Bool}
+use mathlib.Core.List.{List}
+use Prim.Native.Nat.{ℕ, _≤_}
+use lib.ListN.{length}
+use Rattle.lerc_words.specs.Res.{ok}
+use Rattle.lerc_samples.specs.declared.StoredAnswer.{StoredAnswer}
+use Rattle.lerc_samples.proofs.stored.Reads as stored-value
+use Rattle.lerc_header.specs.declared.Header.{Header}
+use Rattle.lerc_ranges.specs.declared.Ranges.{Ranges}
+use Rattle.lerc.specs.Read.{Lent}
+use Rattle.lerc_c.specs.Records.{headerRoom, headerFrom, rangesRoom, rangesFrom}
+use Rattle.lerc_c.proofs.lerc2_read_header.Reads as read-header
+use Rattle.lerc_c.proofs.lerc2_prepare_mask.Reads as prepare-mask
+use Rattle.lerc_c.proofs.lerc2_read_ranges.Reads as read-ranges
+use Rattle.lerc_c.proofs.lerc2_walk.Reads as walk
+use Rattle.lerc_c.proofs.lerc2_fill.Reads as fill
+use Rattle.lerc_c.proofs.lerc2_read.Reads as read
+use Rattle.lerc_c.proofs.lerc2_stored.Reads as stored
+use Rattle.lerc_theorems.specs.Calls.{Call}
+use Rattle.lerc_c_theorems.specs.Promises.{c-lent}
+
+-- ---- records that are lent
+
+-- long enough for a header, each number within its field: it holds the header h
+pub record HoldsHeader (header : List ℕ) (h : Header) : Type 0 where
+  pub long : headerRoom ≤ length header
+  pub is : headerFrom header ≡ ok h
+
+-- long enough for ranges, its constant mark 0 or 1: it holds the ranges r
+pub record HoldsRanges (ranges : List ℕ) (r : Ranges) : Type 0 where
+  pub long : rangesRoom ≤ length ranges
+  pub is : rangesFrom ranges ≡ ok r
+
+-- ---- calls
+
+-- blob; the number; the header's record
+abbrev pub HeaderInC : List ℕ → ℕ → List ℕ → List ℕ → Type 0
+HeaderInC b n header₀ header₁ = Call {S = List ℕ × List ℕ} read-header.Post (λ a. (a .0 .now, a .1 .0 .now)) (λ r. r) (λ o. o .1 .0 .now) (b, header₀) n header₁
+
+-- blob, the header's record, reuse, kept mask; the number; the spare, and what is said
+abbrev pub PrepareInC : List ℕ → List ℕ → Bool → List ℕ → ℕ → List ℕ → List ℕ → List ℕ → List ℕ → Type 0
+PrepareInC b header reuse kept n spare₀ spare₁ said₀ said₁ =
+    Call {S = List ℕ × List ℕ × Bool × List ℕ × List ℕ × List ℕ} {T = List ℕ × List ℕ} prepare-mask.Post
+    (λ a. (a .0 .now, a .1 .0 .now, a .1 .1 .0, a .1 .1 .1 .0 .now, a .1 .1 .1 .1 .0 .now, a .1 .1 .1 .1 .1 .0 .now)) (λ r. r)
+    (λ o. (o .1 .1 .1 .1 .0 .now, o .1 .1 .1 .1 .1 .0 .now)) (b, header, reuse, kept, spare₀, said₀) n (spare₁, said₁)
+
+-- blob, the header's record; the number; the ranges' record
+abbrev pub RangesInC : List ℕ → List ℕ → ℕ → List ℕ → List ℕ → Type 0
+RangesInC b header n ranges₀ ranges₁ =
+    Call {S = List ℕ × List ℕ × List ℕ} read-ranges.Post (λ a. (a .0 .now, a .1 .0 .now, a .1 .1 .0 .now)) (λ r. r) (λ o. o .1 .1 .0 .now) (b, header, ranges₀) n ranges₁
+
+-- blob, the records of header and ranges, mask; the number; the list, and what is said
+abbrev pub WalkInC : List ℕ → List ℕ → List ℕ → List ℕ → ℕ → List ℕ → List ℕ → List ℕ → List ℕ → Type 0
+WalkInC b header ranges mask n list₀ list₁ said₀ said₁ =
+    Call {S = List ℕ × List ℕ × List ℕ × List ℕ × List ℕ × List ℕ} {T = List ℕ × List ℕ} walk.Post
+    (λ a. (a .0 .now, a .1 .0 .now, a .1 .1 .0 .now, a .1 .1 .1 .0 .now, a .1 .1 .1 .1 .0 .now, a .1 .1 .1 .1 .1 .0 .now)) (λ r. r)
+    (λ o. (o .1 .1 .1 .1 .0 .now, o .1 .1 .1 .1 .1 .0 .now)) (b, header, ranges, mask, list₀, said₀) n (list₁, said₁)
+
+-- blob, the records of header and ranges, mask, list, the block's number; the number that is returned; the image, and what is said
+abbrev pub FillInC : List ℕ → List ℕ → List ℕ → List ℕ → List ℕ → ℕ → ℕ → List ℕ → List ℕ → List ℕ → List ℕ → Type 0
+FillInC b header ranges mask list block n image₀ image₁ said₀ said₁ =
+    Call {S = List ℕ × List ℕ × List ℕ × List ℕ × List ℕ × ℕ × List ℕ × List ℕ} {T = List ℕ × List ℕ} fill.Post
+    (λ a. (a .0 .now, a .1 .0 .now, a .1 .1 .0 .now, a .1 .1 .1 .0 .now, a .1 .1 .1 .1 .0 .now, a .1 .1 .1 .1 .1 .0, a .1 .1 .1 .1 .1 .1 .0 .now, a .1 .1 .1 .1 .1 .1 .1 .0 .now)) (λ r. r)
+    (λ o. (o .1 .1 .1 .1 .1 .1 .0 .now, o .1 .1 .1 .1 .1 .1 .1 .0 .now)) (b, header, ranges, mask, list, block, image₀, said₀) n (image₁, said₁)
+
+-- blob, reuse; the number; kept mask, spare, list and image, and what is said
+abbrev pub ReadInC : List ℕ → Bool → ℕ → Lent → Lent → List ℕ → List ℕ → Type 0
+ReadInC b reuse n old new said₀ said₁ =
+    Call {S = List ℕ × Bool × Lent × List ℕ} {T = Lent × List ℕ} read.Post (λ a. (a .0 .now, a .1 .0, c-lent a .0, c-lent a .1)) (λ r. r) c-lent (b, reuse, old, said₀) n (new, said₁)
+
+-- value, kind; the number; what is said
+abbrev pub StoredInC : ℕ → ℕ → ℕ → List ℕ → List ℕ → Type 0
+StoredInC v kind n said₀ said₁ = Call {S = ℕ × ℕ × List ℕ} stored.Post (λ a. (a .0, a .1 .0, a .1 .1 .0 .now)) (λ r. r) (λ o. o .1 .1 .0 .now) (v, kind, said₀) n said₁
+
+-- the reader's own: value, kind; the answer
+abbrev pub StoredCall : ℕ → ℕ → StoredAnswer → Type 0
+StoredCall v kind said = Call {S = ℕ × ℕ} {T = Unit {0}} stored-value.Post (λ a. (a .0, a .1 .0)) (λ r. r) (λ o. tt) (v, kind) said tt

@@ -1,0 +1,24 @@
+-- What is claimed of the reader for C, in one record.
+-- Assumes nothing.
+use Rattle.lerc_c_theorems.specs.Promises.{NoRoomInC}
+use Rattle.lerc_c_theorems.specs.Refusals.{RefusalsKeepInC}
+use Rattle.lerc_c_theorems.specs.SameReader.{SameReader}
+use Rattle.lerc_c_theorems.specs.Numbers.{NumbersExactlyInC, NumbersOnlyInC}
+use Rattle.lerc_c_theorems.specs.DemandTwo.{DemandTwoInC}
+use Rattle.lerc_c_theorems.specs.DemandThree.{DemandThreeInC}
+
+pub record DemandsInC : Type 0 where
+  -- "For every input a public function's promise leaves no room": number, and every lent byte, the records included
+  pub no-room-in-c : NoRoomInC
+  -- a number other than 0 leaves every record and every slice; the slices of a whole read as the reader leaves them
+  pub keeps-in-c : RefusalsKeepInC
+  -- each entry is the reader's function, on what its records hold
+  pub same-reader : SameReader
+  -- "given when": each number of each entry exactly
+  pub numbers-exactly-in-c : NumbersExactlyInC
+  -- which numbers each entry can return at all
+  pub numbers-only-in-c : NumbersOnlyInC
+  -- "exact acceptance, exact cells"
+  pub two-in-c : DemandTwoInC
+  -- "Fills in any order"
+  pub three-in-c : DemandThreeInC

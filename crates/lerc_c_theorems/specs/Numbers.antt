@@ -1,0 +1,97 @@
+-- Which number an entry for C returns: "A record slice that is too short is refused first (5), then a number that its field cannot hold (3 ..), then what the function's own comment lists".
+-- `Post` is what the checker makes of the text of an entry's `ensures`; the inputs are a tuple in the order of its parameters.
+-- Assumes nothing.
+use mathlib.Core.Path.{_≡_}
+use mathlib.Core.Logic.{_↔_, _≢_, _⊎_}
+use mathlib.Core.Bool.{true}
+use mathlib.Core.List.{List, [], _∷_}
+use Prim.Native.Nat.{ℕ, _^_, _≤_, _<_}
+use lib.ListN.{length, getD}
+use Rattle.lerc_words.specs.declared.Refusal.{Refusal}
+use Rattle.lerc_words.specs.Res.{refuse}
+use Rattle.lerc_image.specs.Paint.{among}
+use Rattle.lerc_c.specs.Records.{headerRoom, headerAt, rangesRoom, rangesIn}
+use Rattle.lerc_c.specs.Entries.{readRoom}
+use Rattle.lerc_c.proofs.lerc2_read_header.Reads as read-header
+use Rattle.lerc_c.proofs.lerc2_prepare_mask.Reads as prepare-mask
+use Rattle.lerc_c.proofs.lerc2_read_ranges.Reads as read-ranges
+use Rattle.lerc_c.proofs.lerc2_walk.Reads as walk
+use Rattle.lerc_c.proofs.lerc2_fill.Reads as fill
+use Rattle.lerc_c.proofs.lerc2_read.Reads as read
+use Rattle.lerc_c.proofs.lerc2_stored.Reads as stored
+use Rattle.lerc_theorems.specs.BlockTable.{StoredRefused}
+use Rattle.lerc_theorems.specs.Table.{HeaderRefused, PrepareRefused, ReadRangesRefused, WalkRefused, FillRefused, WholeRefused}
+use Rattle.lerc_c_theorems.specs.Promises.{c-lent}
+
+-- ---- the table
+
+-- `Short`: a record is too short. `Wide`: one holds a number that its field cannot hold. `Refused`: the table of the reader's function, on what the records hold.
+pub data EntryRefused (Short Wide : Type 0) (Refused : Refusal → Type 0) : Refusal → Type 0 where
+  record-short : Short → EntryRefused Short Wide Refused (refuse 5)
+  number-wide : (Short → ⊥) → Wide → EntryRefused Short Wide Refused (refuse 3)
+  reader-refuses : {why : Refusal} → (Short → ⊥) → (Wide → ⊥) → Refused why → EntryRefused Short Wide Refused why
+
+-- an entry that takes no number out of a record
+abbrev pub NothingWide : Type 0
+NothingWide = ⊥
+
+abbrev pub Shorter : List ℕ → ℕ → Type 0
+Shorter slice room = length slice < room
+
+-- a field of 32 bits cannot hold its number; error, minimum and maximum have 64
+pub data HeaderWide (header : List ℕ) : Type 0 where
+  rows-wide : 2 ^ 32 ≤ getD header 0 0 → HeaderWide header
+  columns-wide : 2 ^ 32 ≤ getD header 1 0 → HeaderWide header
+  depth-wide : 2 ^ 32 ≤ getD header 2 0 → HeaderWide header
+  valid-wide : 2 ^ 32 ≤ getD header 3 0 → HeaderWide header
+  side-wide : 2 ^ 32 ≤ getD header 4 0 → HeaderWide header
+  size-wide : 2 ^ 32 ≤ getD header 5 0 → HeaderWide header
+  kind-wide : 2 ^ 32 ≤ getD header 6 0 → HeaderWide header
+  mask-wide : 2 ^ 32 ≤ getD header 10 0 → HeaderWide header
+
+-- a constant mark that is neither 0 nor 1
+abbrev pub MarkWide : List ℕ → Type 0
+MarkWide ranges = 2 ≤ getD ranges 1 0
+
+-- ---- each number of each entry, exactly
+
+pub record ExactlyInC {K A O : Type 0} (Post : K → A → ℕ → O → Type 0) (When : A → Refusal → Type 0) : Type 0 where
+  -- 0 exactly where no line of the table applies
+  pub zero : (k : K) (a : A) (n : ℕ) (x : O) → Post k a n x → (n ≡ 0) ↔ ((why : Refusal) → When a why → ⊥)
+  -- another number exactly where the table gives it
+  pub other : (k : K) (a : A) (n : ℕ) (x : O) → Post k a n x → (j : ℕ) → j ≢ 0 → (n ≡ j) ↔ When a (refuse j)
+
+pub record NumbersExactlyInC : Type 0 where
+  pub read-header : ExactlyInC read-header.Post (λ a. EntryRefused (Shorter (a .1 .0 .now) headerRoom) NothingWide (HeaderRefused (a .0 .now)))
+  pub prepare-mask : ExactlyInC prepare-mask.Post (λ a. EntryRefused
+      (Shorter (a .1 .0 .now) headerRoom ⊎ Shorter (a .1 .1 .1 .1 .1 .0 .now) 2)
+      (HeaderWide (a .1 .0 .now))
+      (PrepareRefused (a .0 .now) (headerAt (a .1 .0 .now)) (a .1 .1 .0) (a .1 .1 .1 .0 .now) (length (a .1 .1 .1 .1 .0 .now))))
+  pub read-ranges : ExactlyInC read-ranges.Post (λ a. EntryRefused
+      (Shorter (a .1 .0 .now) headerRoom ⊎ Shorter (a .1 .1 .0 .now) rangesRoom)
+      (HeaderWide (a .1 .0 .now))
+      (ReadRangesRefused (a .0 .now) (headerAt (a .1 .0 .now))))
+  pub walk : ExactlyInC walk.Post (λ a. EntryRefused
+      ((Shorter (a .1 .0 .now) headerRoom ⊎ Shorter (a .1 .1 .0 .now) rangesRoom) ⊎ Shorter (a .1 .1 .1 .1 .1 .0 .now) 2)
+      (HeaderWide (a .1 .0 .now) ⊎ MarkWide (a .1 .1 .0 .now))
+      (WalkRefused (a .0 .now) (headerAt (a .1 .0 .now)) (rangesIn (a .1 .1 .0 .now)) (a .1 .1 .1 .0 .now) (length (a .1 .1 .1 .1 .0 .now))))
+  pub fill : ExactlyInC fill.Post (λ a. EntryRefused
+      ((Shorter (a .1 .0 .now) headerRoom ⊎ Shorter (a .1 .1 .0 .now) rangesRoom) ⊎ Shorter (a .1 .1 .1 .1 .1 .1 .1 .0 .now) 1)
+      (HeaderWide (a .1 .0 .now) ⊎ MarkWide (a .1 .1 .0 .now))
+      (FillRefused (a .0 .now) (headerAt (a .1 .0 .now)) (rangesIn (a .1 .1 .0 .now)) (a .1 .1 .1 .0 .now) (a .1 .1 .1 .1 .0 .now) (a .1 .1 .1 .1 .1 .0) (length (a .1 .1 .1 .1 .1 .1 .0 .now))))
+  pub read : ExactlyInC read.Post (λ a. EntryRefused (Shorter (c-lent a .1) readRoom) NothingWide (WholeRefused (a .0 .now) (a .1 .0) (c-lent a .0)))
+  pub stored : ExactlyInC stored.Post (λ a. EntryRefused (Shorter (a .1 .1 .0 .now) 1) NothingWide (StoredRefused (a .1 .0) (a .0)))
+
+-- ---- the numbers that each entry can return at all
+
+abbrev pub OnlyInC : {K A O : Type 0} → (K → A → ℕ → O → Type 0) → List ℕ → Type 0
+OnlyInC {K} {A} {O} Post numbers = (k : K) (a : A) (n : ℕ) (x : O) → Post k a n x → among numbers n ≡ true
+
+pub record NumbersOnlyInC : Type 0 where
+  pub read-header : OnlyInC read-header.Post (0 ∷ 1 ∷ 2 ∷ 3 ∷ 4 ∷ 5 ∷ [])
+  pub prepare-mask : OnlyInC prepare-mask.Post (0 ∷ 1 ∷ 3 ∷ 4 ∷ 5 ∷ 6 ∷ [])
+  pub read-ranges : OnlyInC read-ranges.Post (0 ∷ 1 ∷ 3 ∷ 4 ∷ 5 ∷ 7 ∷ [])
+  pub walk : OnlyInC walk.Post (0 ∷ 1 ∷ 3 ∷ 4 ∷ 5 ∷ 7 ∷ 8 ∷ 9 ∷ 10 ∷ [])
+  pub fill : OnlyInC fill.Post (0 ∷ 1 ∷ 3 ∷ 4 ∷ 5 ∷ 7 ∷ 8 ∷ 9 ∷ 11 ∷ [])
+  pub read : OnlyInC read.Post (0 ∷ 1 ∷ 2 ∷ 3 ∷ 4 ∷ 5 ∷ 6 ∷ 7 ∷ 8 ∷ 9 ∷ 10 ∷ [])
+  pub stored : OnlyInC stored.Post (0 ∷ 5 ∷ 9 ∷ [])

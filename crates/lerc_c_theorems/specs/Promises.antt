@@ -1,0 +1,41 @@
+-- "For every input a public function's promise leaves no room: answer, number, and every lent byte afterwards.": the entries for C, their records included.
+-- Each row is about the promise itself: `Pre` and `Post` are what the checker makes of the text of an entry's `requires` and `ensures`.
+-- Assumes nothing.
+use mathlib.Core.Bool.{Bool}
+use mathlib.Core.List.{List}
+use Prim.Native.Nat.{ℕ}
+use denote.Ref.{RefT}
+use Rattle.lerc.specs.Read.{Lent}
+use Rattle.lerc_c.proofs.lerc2_read_header.Reads as c-read-header
+use Rattle.lerc_c.proofs.lerc2_prepare_mask.Reads as c-prepare-mask
+use Rattle.lerc_c.proofs.lerc2_read_ranges.Reads as c-read-ranges
+use Rattle.lerc_c.proofs.lerc2_walk.Reads as c-walk
+use Rattle.lerc_c.proofs.lerc2_fill.Reads as c-fill
+use Rattle.lerc_c.proofs.lerc2_read.Reads as c-read
+use Rattle.lerc_c.proofs.lerc2_sum.Reads as c-sum
+use Rattle.lerc_c.proofs.lerc2_scaled.Reads as c-scaled
+use Rattle.lerc_c.proofs.lerc2_narrow.Reads as c-narrow
+use Rattle.lerc_c.proofs.lerc2_number.Reads as c-number
+use Rattle.lerc_c.proofs.lerc2_stored.Reads as c-stored
+use Rattle.lerc_theorems.specs.Promises.{Answers, Writes}
+
+-- the slices that the C interface's whole read is lent, the record of what it says among them
+abbrev pub CRead : Type 0
+CRead = RefT (List ℕ) × (Bool × (RefT (List ℕ) × (RefT (List ℕ) × (RefT (List ℕ) × (RefT (List ℕ) × (RefT (List ℕ) × Unit {0}))))))
+
+abbrev pub c-lent : CRead → Lent × List ℕ
+c-lent a = (record { kept = a .1 .1 .0 .now; spare = a .1 .1 .1 .0 .now; list = a .1 .1 .1 .1 .0 .now; image = a .1 .1 .1 .1 .1 .0 .now }, a .1 .1 .1 .1 .1 .1 .0 .now)
+
+-- the entries of the C interface
+pub record NoRoomInC : Type 0 where
+  pub read-header : Writes c-read-header.Pre c-read-header.Post (λ o. o .1 .0 .now)
+  pub prepare-mask : Writes {S = List ℕ × List ℕ} c-prepare-mask.Pre c-prepare-mask.Post (λ o. (o .1 .1 .1 .1 .0 .now, o .1 .1 .1 .1 .1 .0 .now))
+  pub read-ranges : Writes c-read-ranges.Pre c-read-ranges.Post (λ o. o .1 .1 .0 .now)
+  pub walk : Writes {S = List ℕ × List ℕ} c-walk.Pre c-walk.Post (λ o. (o .1 .1 .1 .1 .0 .now, o .1 .1 .1 .1 .1 .0 .now))
+  pub fill : Writes {S = List ℕ × List ℕ} c-fill.Pre c-fill.Post (λ o. (o .1 .1 .1 .1 .1 .1 .0 .now, o .1 .1 .1 .1 .1 .1 .1 .0 .now))
+  pub read : Writes c-read.Pre c-read.Post c-lent
+  pub sum : Answers c-sum.Pre c-sum.Post
+  pub scaled : Answers c-scaled.Pre c-scaled.Post
+  pub narrow : Answers c-narrow.Pre c-narrow.Post
+  pub number : Answers c-number.Pre c-number.Post
+  pub stored : Writes c-stored.Pre c-stored.Post (λ o. o .1 .1 .0 .now)

@@ -1,0 +1,109 @@
+-- Each entry for C is the reader's function, on what its records hold: any call of the entry and any call of the function on the same blob, slices and numbers end alike.
+-- Assumes nothing.
+use mathlib.Core.Path.{_≡_}
+use mathlib.Core.Logic.{_↔_}
+use mathlib.Core.Bool.{Bool, true}
+use mathlib.Core.List.{List, [], _∷_, _++_}
+use Prim.Native.Nat.{ℕ, _≤_}
+use lib.ListN.{length}
+use Rattle.lerc_words.specs.declared.Refusal.{Refusal}
+use Rattle.lerc_words.specs.Res.{Res, ok, fail, accepts}
+use Rattle.lerc_words.specs.Lists.{over}
+use Rattle.lerc_numeric.proofs.plus.Reads as plus
+use Rattle.lerc_numeric.proofs.scale.Reads as scale
+use Rattle.lerc_numeric.proofs.narrow.Reads as narrow
+use Rattle.lerc_numeric.proofs.number.Reads as number
+use Rattle.lerc_samples.specs.declared.StoredAnswer.{StoredAnswer}
+use Rattle.lerc_samples.specs.Samples.{storedSaid}
+use Rattle.lerc_header.specs.declared.Header.{Header}
+use Rattle.lerc_header.specs.declared.HeaderAnswer.{HeaderAnswer}
+use Rattle.lerc_header.specs.Header.{headerSaid}
+use Rattle.lerc_validity.specs.declared.MaskAnswer.{MaskAnswer}
+use Rattle.lerc_validity.specs.declared.MaskAnswer.the-variants as mask
+use Rattle.lerc_validity.specs.Validity.{maskSaid}
+use Rattle.lerc_ranges.specs.declared.Ranges.{Ranges}
+use Rattle.lerc_ranges.specs.declared.RangesAnswer.{RangesAnswer}
+use Rattle.lerc_ranges.specs.declared.RangesAnswer.the-variants as ranges
+use Rattle.lerc_ranges.specs.declared.RangesRead.{RangesRead}
+use Rattle.lerc_image.specs.declared.WalkAnswer.{WalkAnswer}
+use Rattle.lerc_image.specs.declared.FillAnswer.{FillAnswer}
+use Rattle.lerc_image.specs.Walk.{Walk, walkSaid}
+use Rattle.lerc_image.specs.Fill.{fillSaid}
+use Rattle.lerc.specs.declared.ReadAnswer.{ReadAnswer}
+use Rattle.lerc.specs.Read.{Lent, ReadTold, readSaid}
+use Rattle.lerc_c.specs.Records.{headerRoom, headerNumbers, rangesRoom, rangesNumbers}
+use Rattle.lerc_c.specs.Entries.{readRoom}
+use Rattle.lerc_c.proofs.lerc2_sum.Reads as c-sum
+use Rattle.lerc_c.proofs.lerc2_scaled.Reads as c-scaled
+use Rattle.lerc_c.proofs.lerc2_narrow.Reads as c-narrow
+use Rattle.lerc_c.proofs.lerc2_number.Reads as c-number
+use Rattle.lerc_theorems.specs.Calls.{HeaderCall, PrepareCall, RangesCall, WalkCall, FillCall, ReadCall}
+use Rattle.lerc_c_theorems.specs.Calls.{HoldsHeader, HoldsRanges, HeaderInC, PrepareInC, RangesInC, WalkInC, FillInC, ReadInC, StoredInC, StoredCall}
+
+-- The number n, and the record in which an entry says what was answered: `old` before, `new` afterwards. `numbers` are those of an accepted answer.
+pub record Tells {A : Type 0} (answer : Res A) (numbers : A → List ℕ) (n : ℕ) (old new : List ℕ) : Type 0 where
+  -- 0 exactly where the reader accepts, else the number of its refusal
+  pub zero : (n ≡ 0) ↔ (accepts answer ≡ true)
+  pub refused : (why : Refusal) → answer ≡ fail why → n ≡ why .number
+  -- the record's first numbers are the answer's; after a refusal it is as it was
+  pub written : (a : A) → answer ≡ ok a → new ≡ over (numbers a) old
+  pub kept : (why : Refusal) → answer ≡ fail why → new ≡ old
+
+-- ---- what answers say, and their numbers
+
+-- 1 where the kept mask is in force, 2 where the spare is; how long it is
+abbrev pub partNumbers : MaskAnswer → List ℕ
+partNumbers (mask.Kept n) = 1 ∷ n ∷ []
+partNumbers (mask.Spare n) = 2 ∷ n ∷ []
+partNumbers (mask.Refused why) = []
+
+-- the ranges, or the refusal
+abbrev pub rangesOr : RangesAnswer → Ranges → Res Ranges
+rangesOr ranges.Read r = ok r
+rangesOr (ranges.Refused why) r = fail why
+
+abbrev pub rangesTold : RangesRead → Res Ranges
+rangesTold r = rangesOr (r .answer) (r .ranges)
+
+-- the count of blocks, and the end of the last
+abbrev pub walkedNumbers : Walk → List ℕ
+walkedNumbers w = w .blocks ∷ w .end ∷ []
+
+-- the header's eleven, the count of blocks, the body's end
+abbrev pub wholeNumbers : ReadTold → List ℕ
+wholeNumbers w = headerNumbers (w .header) ++ (w .blocks ∷ w .end ∷ [])
+
+-- a word alone
+abbrev pub alone : ℕ → List ℕ
+alone w = w ∷ []
+
+-- two functions of the same parameters that answer the same number
+abbrev pub SameNumber : {K J A O P : Type 0} → (K → A → ℕ → O → Type 0) → (J → A → ℕ → P → Type 0) → Type 0
+SameNumber {K} {J} {A} {O} {P} Post Other = (k : K) (j : J) (a : A) (r q : ℕ) (x : O) (y : P) → Post k a r x → Other j a q y → r ≡ q
+
+-- ---- entry by entry
+
+pub record SameReader : Type 0 where
+  pub read-header : (b : List ℕ) (n : ℕ) (header₀ header₁ : List ℕ) → HeaderInC b n header₀ header₁ → headerRoom ≤ length header₀
+      → (answer : HeaderAnswer) → HeaderCall b answer → Tells (headerSaid answer) headerNumbers n header₀ header₁
+  pub prepare-mask : (b header : List ℕ) (reuse : Bool) (kept : List ℕ) (n : ℕ) (spare₀ spare₁ said₀ said₁ : List ℕ) → PrepareInC b header reuse kept n spare₀ spare₁ said₀ said₁
+      → (h : Header) → HoldsHeader header h → 2 ≤ length said₀
+      → (answer : MaskAnswer) (spare : List ℕ) → PrepareCall b h reuse kept answer spare₀ spare → Tells (maskSaid answer) partNumbers n said₀ said₁ × (spare₁ ≡ spare)
+  pub read-ranges : (b header : List ℕ) (n : ℕ) (ranges₀ ranges₁ : List ℕ) → RangesInC b header n ranges₀ ranges₁
+      → (h : Header) → HoldsHeader header h → rangesRoom ≤ length ranges₀
+      → (answer : RangesRead) → RangesCall b h answer → Tells (rangesTold answer) rangesNumbers n ranges₀ ranges₁
+  pub walk : (b header ranges mask : List ℕ) (n : ℕ) (list₀ list₁ said₀ said₁ : List ℕ) → WalkInC b header ranges mask n list₀ list₁ said₀ said₁
+      → (h : Header) (r : Ranges) → HoldsHeader header h → HoldsRanges ranges r → 2 ≤ length said₀
+      → (answer : WalkAnswer) (list : List ℕ) → WalkCall b h r mask answer list₀ list → Tells (walkSaid answer) walkedNumbers n said₀ said₁ × (list₁ ≡ list)
+  pub fill : (b header ranges mask list : List ℕ) (block n : ℕ) (image₀ image₁ said₀ said₁ : List ℕ) → FillInC b header ranges mask list block n image₀ image₁ said₀ said₁
+      → (h : Header) (r : Ranges) → HoldsHeader header h → HoldsRanges ranges r → 1 ≤ length said₀
+      → (answer : FillAnswer) (image : List ℕ) → FillCall b h r mask list block answer image₀ image → Tells (fillSaid answer) alone n said₀ said₁ × (image₁ ≡ image)
+  pub read : (b : List ℕ) (reuse : Bool) (n : ℕ) (old new : Lent) (said₀ said₁ : List ℕ) → ReadInC b reuse n old new said₀ said₁ → readRoom ≤ length said₀
+      → (answer : ReadAnswer) (left : Lent) → ReadCall b reuse answer old left → Tells (readSaid answer) wholeNumbers n said₀ said₁ × (new ≡ left)
+  pub stored : (v kind n : ℕ) (said₀ said₁ : List ℕ) → StoredInC v kind n said₀ said₁ → 1 ≤ length said₀
+      → (answer : StoredAnswer) → StoredCall v kind answer → Tells (storedSaid answer) alone n said₀ said₁
+  -- the arithmetic
+  pub sum : SameNumber c-sum.Post plus.Post
+  pub scaled : SameNumber c-scaled.Post scale.Post
+  pub narrow : SameNumber c-narrow.Post narrow.Post
+  pub number : SameNumber c-number.Post number.Post

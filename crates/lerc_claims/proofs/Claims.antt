@@ -1,0 +1,25 @@
+-- All that is claimed, proved.
+-- Assumes nothing.
+use Rattle.lerc_theorems.specs.Cases.{cases}
+use Rattle.lerc_theorems.proofs.DemandOne.{demand-one}
+use Rattle.lerc_theorems.proofs.DemandTwo.{demand-two}
+use Rattle.lerc_theorems.proofs.DemandThree.{demand-three}
+use Rattle.lerc_c_theorems.proofs.InC.{demands-in-c}
+use Rattle.lerc_contracts.proofs.Upstream.{upstream}
+use Rattle.lerc_program.proofs.Example.{computed}
+use Rattle.lerc_claims.specs.Claims.{Claims}
+use Rattle.lerc_claims.proofs.Arithmetic.{arithmetic}
+use Rattle.lerc_claims.proofs.Program.{program}
+
+pub claims : Claims
+claims = record {
+  one = demand-one;
+  two = demand-two;
+  three = demand-three;
+  in-c = demands-in-c;
+  arithmetic = arithmetic;
+  upstream = upstream;
+  program = program;
+  worked = cases;
+  printed = computed;
+}

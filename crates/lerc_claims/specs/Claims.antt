@@ -1,0 +1,33 @@
+-- All that is claimed, in one record: what is lost of it fails the check. docs/SPEC.md goes through its fields.
+-- Assumes nothing.
+use mathlib.Core.Path.{_≡_}
+use mathlib.Core.List.{map}
+use Rattle.lerc_theorems.specs.Cases as cases
+use Rattle.lerc_theorems.specs.DemandOne.{DemandOne}
+use Rattle.lerc_theorems.specs.DemandTwo.{DemandTwo}
+use Rattle.lerc_theorems.specs.DemandThree.{DemandThree}
+use Rattle.lerc_c_theorems.specs.InC.{DemandsInC}
+use Rattle.lerc_contracts.specs.Upstream.{Upstream}
+use Rattle.lerc_program.proofs.Example.{Computed}
+use Rattle.lerc_claims.specs.Arithmetic.{Arithmetic}
+use Rattle.lerc_claims.specs.Program.{ProgramClaims}
+
+pub record Claims : Type 0 where
+  -- any bytes and any buffers get an answer
+  pub one : DemandOne
+  -- "exact acceptance, exact cells"
+  pub two : DemandTwo
+  -- fills in any order
+  pub three : DemandThree
+  -- the same of the reader for C
+  pub in-c : DemandsInC
+  -- rounding, sums, products, order and conversions
+  pub arithmetic : Arithmetic
+  -- upstream's contracts, clause by clause
+  pub upstream : Upstream
+  -- the program's text
+  pub program : ProgramClaims
+  -- "These twelve stand in a single table with a single claim."
+  pub worked : map (λ (c : cases.Case). c .got) cases.table ≡ map (λ (c : cases.Case). c .want) cases.table
+  -- the text that the rules print, and two more, as the checker computes them
+  pub printed : Computed
