@@ -3,7 +3,9 @@
 #
 # `rt` counts an edit as refused when anything in the crate is not proved. That is too little: a wrong body that changes
 # the form of the code is refused because its proof file no longer fits, and one of several may be proved. So each wrong
-# body must show, in its own proof, a fact that is false of it.
+# body must show, in its own proof, a fact that is false of it. Wrong definitions that share an edit each name the law that
+# they make fall (LAW, or FILE.LAW where two files have a law of that name), no two the same, and each of these laws must
+# show a false fact.
 
 function fault(why) { print "  " why; bad = 1 }
 
@@ -75,19 +77,23 @@ function short(t) {
     return t " .."
 }
 
-# Books the error that was gathered: to the function in whose proof it stands, where the edit names it. All errors of a
-# wrong definition count alike, wherever they stand.
+# Books the error that was gathered: to the function in whose proof it stands, where the edit names it. All errors of
+# wrong definitions count alike, wherever they stand, and for the law that they are in.
 function judge_error(    is, f, said) {
     if (text == "") return
     is = sort_of(text)
     said = declared ": " short(text)
     text = ""
-    fell[declared] = 1
     f = place
     sub(/^proofs\//, "", f)
     sub(/\/Proof\.antt$/, "", f)
-    if (definition != "") { f = ""; said = place ": " said }
-    else if (!(f in searched)) { if (is != "follows") other[place] = said; return }
+    if (definitions) {
+        sub(/\.antt$/, "", f)
+        fell[declared] = fell[f "." declared] = 1
+        falls[declared, is] = falls[f "." declared, is] = 1
+        f = ""
+        said = place ": " said
+    } else if (!(f in searched)) { if (is != "follows") other[place] = said; return }
     count[f, is]++
     if (count[f, is] == 1) first[f, is] = said
 }
@@ -114,7 +120,11 @@ file_no == 1 && /^# wrong (body of|definition) / {
         if (item in searched) fault(item ": named twice; two wrong bodies of one function need two edits")
         searched[item] = by_search
         order[++bodies] = item
-    } else definition = item
+    } else {
+        if (item in law_of) fault(item ": named twice; two wrong ones of one definition need two edits")
+        defined[++definitions] = item
+        law_of[item] = law
+    }
     next
 }
 file_no == 1 && /^# *[Ww]rong / { fault("line " FNR ": " form) }
@@ -154,7 +164,7 @@ END {
     judge_error()
     if (!named) fault("it names no wrong body and no wrong definition")
     if (!refused) fault("NOT REFUSED: the check proved the crate, or did not come to prove it")
-    if (named > 1 && definition != "") fault("a wrong definition stands in an edit of its own")
+    if (bodies && definitions) fault("wrong definitions stand in another edit than wrong bodies")
     for (i = 1; i <= bodies; i++) {
         f = order[i]
         proof = "crates/" crate "/proofs/" f "/Proof.antt"
@@ -170,8 +180,10 @@ END {
         else if ((f, "follows") in count) fault(f ": no fact of its own fails: " first[f, "follows"])
         else fault(f ": it is still proved")
     }
-    if (definition == "") for (p in other) fault(p ": fails too, and the edit does not name it: " other[p])
-    else {
+    if (!definitions) for (p in other) fault(p ": fails too, and the edit does not name it: " other[p])
+    for (i = 1; i <= definitions; i++) {
+        definition = defined[i]
+        law = law_of[definition]
         module = definition
         sub(/\.[^.]*$/, "", module)
         name = substr(definition, length(module) + 2)
@@ -184,6 +196,10 @@ END {
         else if (("", "unknown") in count) fault(definition ": words that the judge does not know: " first["", "unknown"])
         else if (!(("", "false") in count)) fault(definition ": no false fact: " first["", "open"])
         if (law != "" && !(law in fell)) fault(definition ": " law " does not fall")
+        else if (definitions > 1 && law == "") fault(definition ": it shares its edit, and does not say at which law it falls")
+        else if (definitions > 1 && !((law, "false") in falls)) fault(definition ": " law " shows no false fact of its own")
+        if (law != "" && law in taken) fault(definition ": " law " is where " taken[law] " falls")
+        taken[law] = definition
     }
     exit bad
 }

@@ -1,6 +1,6 @@
 #!/bin/sh
-# Tests the judge of the gate (.ci/judge, .ci/verdict) on a repository of one small crate: one set of wrong bodies and one
-# wrong definition that show what they name, and edits of each kind that must be found out. Needs the Rattle kit alone.
+# Tests the judge of the gate (.ci/judge, .ci/verdict) on a repository of one small crate: one set of wrong bodies, one
+# wrong definition and one pair of them that show what they name, and edits of each kind that must be found out. Needs the Rattle kit alone.
 set -eu
 here=$(cd "$(dirname "$0")/../.." && pwd)
 room=$(mktemp -d)
@@ -42,7 +42,7 @@ pub fn least(a: u64, b: u64) -> u64
 TEXT
 echo 'pub mod Small' >crates/small/specs/Lib.antt
 cat >crates/small/specs/Small.antt <<'TEXT'
-use Prim.Native.Nat.{ℕ}
+use Prim.Native.Nat.{ℕ, _+_}
 use mathlib.Core.Bool.{cond}
 use lib.Dec.{ltb}
 
@@ -125,6 +125,50 @@ edit good_definition <<'TEXT'
 file: specs/Small.antt
 old: (ltb n 10) n 10
 new: (ltb n 10) n 11
+TEXT
+edit good_definitions <<'TEXT'
+# wrong definition Small.cappedAt (falls at capped.returns-2): capped at 11
+file: specs/Small.antt
+old: (ltb n 10) n 10
+new: (ltb n 10) n 11
+
+# wrong definition Small.raisedTo (falls at raised.returns): raised to 21
+file: specs/Small.antt
+old: (ltb n 20) 20 n
+new: (ltb n 20) 21 n
+TEXT
+edit one_law <<'TEXT'
+# wrong definition Small.cappedAt (falls at capped.returns-2): capped at 11
+file: specs/Small.antt
+old: (ltb n 10) n 10
+new: (ltb n 10) n 11
+
+# wrong definition Small.raisedTo (falls at capped.returns-2): raised to 21
+file: specs/Small.antt
+old: (ltb n 20) 20 n
+new: (ltb n 20) 21 n
+TEXT
+edit lawless <<'TEXT'
+# wrong definition Small.cappedAt (falls at capped.returns-2): capped at 11
+file: specs/Small.antt
+old: (ltb n 10) n 10
+new: (ltb n 10) n 11
+
+# wrong definition Small.raisedTo: raised to 21, and no law is named
+file: specs/Small.antt
+old: (ltb n 20) 20 n
+new: (ltb n 20) 21 n
+TEXT
+edit one_right <<'TEXT'
+# wrong definition Small.cappedAt (falls at capped.returns-2): capped at 11
+file: specs/Small.antt
+old: (ltb n 10) n 10
+new: (ltb n 10) n 11
+
+# wrong definition Small.raisedTo (falls at capped-spec): not wrong at all; the law that it names falls because of the other
+file: specs/Small.antt
+old: (ltb n 20) 20 n
+new: (ltb n 20) (19 + 1) n
 TEXT
 edit survives <<'TEXT'
 # wrong body of least (proved by search): not wrong at all
@@ -212,16 +256,19 @@ expect names 'line 6: not of the form'
 expect names 'proofs/capped/Proof.antt: fails too, and the edit does not name it'
 expect unnamed 'it names no wrong body and no wrong definition'
 expect no_scope 'Small.cappedAt: not a false fact'
+expect one_law 'Small.raisedTo: capped.returns-2 is where Small.cappedAt falls'
+expect lawless 'Small.raisedTo: it shares its edit, and does not say at which law it falls'
+expect one_right 'Small.raisedTo: capped-spec shows no false fact of its own'
 expect late 'there is no log of it'
 grep -q '^rt: must-fail small/survives: NOT REFUSED' said || echo 'rt takes an edit that survives' >>wrong
 if grep -q '^small/good\|^small/one_proved  rest' found; then echo 'a right edit is refused' >>wrong; fi
-grep -qx '3 passed, 8 failed' said || echo "not the tally '3 passed, 8 failed'" >>wrong
+grep -qx '4 passed, 11 failed' said || echo "not the tally '4 passed, 11 failed'" >>wrong
 [ "$status" -eq 1 ] || echo "status $status, and not 1" >>wrong
 # the right edits alone: rt's own last line and status, here from a stand-in for rt that does nothing
 mkdir bin
 printf '#!/bin/sh\necho "rt: ok"\necho "3 passed, 0 failed"\n' >bin/rt
 chmod +x bin/rt
-for label in survives shape another_test untold one_proved names unnamed no_scope late; do rm "crates/small/must-fail/$label.edit"; done
+for label in survives shape another_test untold one_proved names unnamed no_scope one_law lawless one_right late; do rm "crates/small/must-fail/$label.edit"; done
 if PATH="$room/bin:$PATH" .ci/verdict >right; then
     [ "$(tail -n 1 right)" = '3 passed, 0 failed' ] || echo 'the right edits alone: not the last line of rt' >>wrong
 else
@@ -244,4 +291,4 @@ if [ -s wrong ]; then
     echo "gate: the judge of the must-fail edits FAILED its tests"
     exit 1
 fi
-echo "gate: the judge of the must-fail edits is right on 11 edits"
+echo "gate: the judge of the must-fail edits is right on 15 edits"
