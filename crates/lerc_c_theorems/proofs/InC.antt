@@ -7,6 +7,7 @@ use Rattle.lerc_c_theorems.proofs.SameReader.{same-reader}
 use Rattle.lerc_c_theorems.proofs.Numbers.{numbers-exactly-in-c, numbers-only-in-c}
 use Rattle.lerc_c_theorems.proofs.DemandTwo.{demand-two-in-c}
 use Rattle.lerc_c_theorems.proofs.DemandThree.{demand-three-in-c}
+use Rattle.lerc_c_theorems.proofs.Unread.{unread-in-c}
 
 pub demands-in-c : DemandsInC
 demands-in-c = record {
@@ -17,4 +18,5 @@ demands-in-c = record {
   numbers-only-in-c = numbers-only-in-c;
   two-in-c = demand-two-in-c;
   three-in-c = demand-three-in-c;
+  unread-in-c = unread-in-c;
 }

@@ -6,6 +6,7 @@ use Rattle.lerc_c_theorems.specs.SameReader.{SameReader}
 use Rattle.lerc_c_theorems.specs.Numbers.{NumbersExactlyInC, NumbersOnlyInC}
 use Rattle.lerc_c_theorems.specs.DemandTwo.{DemandTwoInC}
 use Rattle.lerc_c_theorems.specs.DemandThree.{DemandThreeInC}
+use Rattle.lerc_c_theorems.specs.Unread.{UnreadInC}
 
 pub record DemandsInC : Type 0 where
   -- "For every input a public function's promise leaves no room": number, and every lent byte, the records included
@@ -22,3 +23,5 @@ pub record DemandsInC : Type 0 where
   pub two-in-c : DemandTwoInC
   -- "Fills in any order"
   pub three-in-c : DemandThreeInC
+  -- "Bytes after size .. are never looked at"
+  pub unread-in-c : UnreadInC

@@ -5,4 +5,5 @@ pub mod SameReader
 pub mod Numbers
 pub mod DemandTwo
 pub mod DemandThree
+pub mod Unread
 pub mod InC

@@ -54,7 +54,7 @@ use Rattle.lerc_theorems.proofs.Fills.{Walking, walk-is, walking-says}
 -- ---- a blob with its header
 
 module _ (b c : List ℕ) (same : SameDeclared b c) where
-  header-as : headerSays b ≡ headerSays c
+  pub header-as : headerSays b ≡ headerSays c
   header-as = header-alike b c (declared b) (omega arith) same (omega arith)
 
   open-as : openSays b ≡ openSays c
@@ -69,7 +69,7 @@ module _ (b c : List ℕ) (same : SameDeclared b c) where
     abbrev behind : List ℕ → Header → Res Masked
     behind s h = require (room h l) 5 >>= λ _. maskSays (take (h .size) s) h reuse (l .kept) >>= λ m. ok (record { header = h; mask = m })
 
-    masked-as : masked b reuse l ≡ masked c reuse l
+    pub masked-as : masked b reuse l ≡ masked c reuse l
     unfolding masked
     masked-as = rw (← header-as) (go (headerSays b) refl)
       where
@@ -77,7 +77,7 @@ module _ (b c : List ℕ) (same : SameDeclared b c) where
         go (ok h) e = rw (below-as e)
         go (fail r) e = refl
 
-    read-as : readSays b reuse l ≡ readSays c reuse l
+    pub read-as : readSays b reuse l ≡ readSays c reuse l
     unfolding readSays meaningFrom
     read-as = rw (← masked-as) (go (masked b reuse l) refl)
       where
@@ -98,15 +98,15 @@ module _ (b c : List ℕ) (h : Header) (same : SameBelow h b c) where
       go (yes l) e = rw (le-leb _ _ l, le-leb (h .size) (length c) (omega arith))
       go (no l) e = rw (lt-leb (h .size) (length b) (omega arith), lt-leb (h .size) (length c) (omega arith))
 
-  prepare-as : (reuse : Bool) (kept : List ℕ) (room : ℕ) → prepareSays b h reuse kept room ≡ prepareSays c h reuse kept room
+  pub prepare-as : (reuse : Bool) (kept : List ℕ) (room : ℕ) → prepareSays b h reuse kept room ≡ prepareSays c h reuse kept room
   unfolding prepareSays
   prepare-as reuse kept room = rw (held-as, same)
 
-  ranges-as : readRangesSays b h ≡ readRangesSays c h
+  pub ranges-as : readRangesSays b h ≡ readRangesSays c h
   unfolding readRangesSays
   ranges-as = rw (held-as, same)
 
-  walk-as : (r : Ranges) (m : List ℕ) (room : ℕ) → walkSays b h r m room ≡ walkSays c h r m room
+  pub walk-as : (r : Ranges) (m : List ℕ) (room : ℕ) → walkSays b h r m room ≡ walkSays c h r m room
   unfolding walkSays
   walk-as r m room = rw (held-as, same)
 
@@ -114,7 +114,7 @@ module _ (b c : List ℕ) (h : Header) (same : SameBelow h b c) where
   unfolding walkList
   list-as r m list = rw (walk-as r m (length list))
 
-  fill-as : (r : Ranges) (m list : List ℕ) (n room : ℕ) → fillSays b h r m list n room ≡ fillSays c h r m list n room
+  pub fill-as : (r : Ranges) (m list : List ℕ) (n room : ℕ) → fillSays b h r m list n room ≡ fillSays c h r m list n room
   unfolding fillSays
   fill-as r m list n room = rw (held-as, same)
 

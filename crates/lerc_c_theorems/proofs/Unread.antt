@@ -1,0 +1,116 @@
+-- What is not looked at, for C, proved: on blobs that agree below the size each entry is the same.
+-- Assumes nothing.
+use mathlib.Core.Path.{_≡_, _∙_, sym, refl}
+use mathlib.Core.Bool.{Bool, true, false}
+use mathlib.Core.List.{List}
+use Prim.Native.Nat.{ℕ}
+use lib.ListN.{length}
+use Rattle.lerc_words.specs.Res.{Res, ok, fail, _>>=_, require}
+use Rattle.lerc_header.specs.declared.Header.{Header}
+use Rattle.lerc_ranges.specs.declared.Ranges.{Ranges}
+use Rattle.lerc_validity.specs.Validity.{prepareSays}
+use Rattle.lerc_ranges.specs.Ranges.{readRangesSays}
+use Rattle.lerc_image.specs.Walk.{walkSays}
+use Rattle.lerc_image.specs.Fill.{fillSays}
+use Rattle.lerc.specs.Read.{Lent}
+use Rattle.lerc_c.specs.Records.{headerAt, fieldsFit, headerFrom, rangesFrom}
+use Rattle.lerc_c.specs.Entries.{headerEntry, prepareEntry, rangesEntry, Walking, walkEntry, Filling, fillEntry, readEntry, maskedEntry, lentAfter}
+use Rattle.lerc_theorems.specs.Unread.{SameDeclared, SameBelow}
+use Rattle.lerc_theorems.proofs.Unread.{header-as, masked-as, read-as, prepare-as, ranges-as, walk-as, fill-as}
+use Rattle.lerc_c_theorems.specs.Unread.{UnreadInC}
+use Rattle.lerc_c_theorems.proofs.Calls.{header-done, prepare-done, ranges-done, walk-done, fill-done, read-done}
+
+-- ---- behind the size that the blob declares
+
+module _ (b c : List ℕ) (same : SameDeclared b c) where
+  header-entry : (header : List ℕ) → headerEntry b header ≡ headerEntry c header
+  unfolding headerEntry
+  header-entry header = rw (header-as b c same)
+
+  read-entry : (reuse : Bool) (l : Lent) (said : List ℕ) → readEntry b reuse l said ≡ readEntry c reuse l said
+  unfolding readEntry
+  read-entry reuse l said = rw (read-as b c same reuse l)
+
+  masked-entry : (reuse : Bool) (l : Lent) (said : List ℕ) → maskedEntry b reuse l said ≡ maskedEntry c reuse l said
+  unfolding maskedEntry
+  masked-entry reuse l said = rw (masked-as b c same reuse l)
+
+  lent-after : (reuse : Bool) (l : Lent) (said : List ℕ) → lentAfter b reuse l said ≡ lentAfter c reuse l said
+  unfolding lentAfter
+  lent-after reuse l said = rw (read-entry reuse l said, masked-entry reuse l said)
+
+-- ---- behind the size that the header's record holds
+
+module _ (b c header : List ℕ) where
+  -- what follows a record's header is the same where it is so for that header
+  behind-header : {A : Type 0} (f : List ℕ → Header → Res A) → f b (headerAt header) ≡ f c (headerAt header) → (headerFrom header >>= f b) ≡ (headerFrom header >>= f c)
+  unfolding headerFrom
+  behind-header f e = go (fieldsFit header)
+    where
+      go : (fit : Bool) → ((require fit 3 >>= λ _. ok (headerAt header)) >>= f b) ≡ ((require fit 3 >>= λ _. ok (headerAt header)) >>= f c)
+      go true = e
+      go false = refl
+
+  -- and what follows its ranges, where it is so for any
+  behind-ranges : {A : Type 0} (ranges : List ℕ) (f : List ℕ → Header → Ranges → Res A) → ((r : Ranges) → f b (headerAt header) r ≡ f c (headerAt header) r)
+      → (headerFrom header >>= λ h. rangesFrom ranges >>= f b h) ≡ (headerFrom header >>= λ h. rangesFrom ranges >>= f c h)
+  behind-ranges ranges f e = behind-header (λ d h. rangesFrom ranges >>= f d h) (go (rangesFrom ranges))
+    where
+      go : (r : Res Ranges) → (r >>= f b (headerAt header)) ≡ (r >>= f c (headerAt header))
+      go (ok r) = e r
+      go (fail why) = refl
+
+  module _ (same : SameBelow (headerAt header) b c) where
+    prepare-entry : (reuse : Bool) (kept spare said : List ℕ) → prepareEntry b header reuse kept spare said ≡ prepareEntry c header reuse kept spare said
+    unfolding prepareEntry
+    prepare-entry reuse kept spare said = rw (behind-header (λ d h. prepareSays d h reuse kept (length spare)) (prepare-as b c (headerAt header) same reuse kept (length spare)))
+
+    ranges-entry : (ranges : List ℕ) → rangesEntry b header ranges ≡ rangesEntry c header ranges
+    unfolding rangesEntry
+    ranges-entry ranges = rw (behind-header readRangesSays (ranges-as b c (headerAt header) same))
+
+    walk-entry : (ranges mask list said : List ℕ) → walkEntry b header ranges mask list said ≡ walkEntry c header ranges mask list said
+    unfolding walkEntry
+    walk-entry ranges mask list said =
+        rw (behind-ranges {A = Walking} ranges (λ d h r. walkSays d h r mask (length list) >>= λ k. ok (record { header = h; chain = k })) (λ r. rw (walk-as b c (headerAt header) same r mask (length list))))
+
+    fill-entry : (ranges mask list : List ℕ) (block : ℕ) (image said : List ℕ) → fillEntry b header ranges mask list block image said ≡ fillEntry c header ranges mask list block image said
+    unfolding fillEntry
+    fill-entry ranges mask list block image said =
+        rw (behind-ranges {A = Filling} ranges (λ d h r. fillSays d h r mask list block (length image) >>= λ k. ok (record { header = h; block = k })) (λ r. rw (fill-as b c (headerAt header) same r mask list block (length image))))
+
+-- ---- entry by entry
+
+pub unread-in-c : UnreadInC
+unread-in-c = record {
+  read-header = λ b c n m header₀ header₁ header₂ s p q.
+      let d = header-done p in
+      let d = rw (header-entry b c s header₀) at d in
+      let e = header-done q in
+      (d .number ∙ sym (e .number), d .header ∙ sym (e .header));
+  read = λ b c reuse n m lent₀ lent₁ lent₂ said₀ said₁ said₂ s p q.
+      let d = read-done p in
+      let e = read-done q in
+      let i = read-entry b c s reuse lent₀ said₀ in
+      (d .number ∙ rw (i) (sym (e .number)), d .lent ∙ lent-after b c s reuse lent₀ said₀ ∙ sym (e .lent), d .said ∙ rw (i) (sym (e .said)));
+  prepare-mask = λ b c header reuse kept n m spare₀ spare₁ spare₂ said₀ said₁ said₂ s p q.
+      let d = prepare-done p in
+      let d = rw (prepare-entry b c header s reuse kept spare₀ said₀) at d in
+      let e = prepare-done q in
+      (d .number ∙ sym (e .number), d .spare ∙ sym (e .spare), d .said ∙ sym (e .said));
+  read-ranges = λ b c header n m ranges₀ ranges₁ ranges₂ s p q.
+      let d = ranges-done p in
+      let d = rw (ranges-entry b c header s ranges₀) at d in
+      let e = ranges-done q in
+      (d .number ∙ sym (e .number), d .ranges ∙ sym (e .ranges));
+  walk = λ b c header ranges mask n m list₀ list₁ list₂ said₀ said₁ said₂ s p q.
+      let d = walk-done p in
+      let d = rw (walk-entry b c header s ranges mask list₀ said₀) at d in
+      let e = walk-done q in
+      (d .number ∙ sym (e .number), d .list ∙ sym (e .list), d .said ∙ sym (e .said));
+  fill = λ b c header ranges mask list block n m image₀ image₁ image₂ said₀ said₁ said₂ s p q.
+      let d = fill-done p in
+      let d = rw (fill-entry b c header s ranges mask list block image₀ said₀) at d in
+      let e = fill-done q in
+      (d .number ∙ sym (e .number), d .image ∙ sym (e .image), d .said ∙ sym (e .said));
+}
