@@ -55,7 +55,7 @@ inMask x = bytesOf (x .means)
 abbrev pub blocksOf : Case → ℕ
 blocksOf x = blockCount (shape x)
 
--- The blob has a meaning in blocks, with this header and this mask in force (demand 2 has calls that tell so: a whole read, or a walk). The ranges are those read from it.
+-- The blob has a meaning in blocks, with this header and this mask in force (`opened-by-walk` and `opened-by-read` have calls that tell so). The ranges are those read from it.
 -- The lent mask's first bytes are the mask in force, and it may be longer; the list's first count entries are the starts; the image has room.
 pub record Opened (x : Case) : Type 0 where
   pub means : meaning (x .blob) (x .reuse) (x .kept) ≡ ok (record { header = x .header; mask = x .means; body = blocks (x .chain) })

@@ -103,7 +103,7 @@ pub record DemandTwo : Type 0 where
   -- the meaning, or its refusal, depends on the bytes below the declared size alone
   pub below-size : (b c : List ℕ) (reuse : Bool) (kept : List ℕ) (n : ℕ) → headerBytes ≤ n → headerOf b .size ≤ n → take n b ≡ take n c
       → meaning b reuse kept ≡ meaning c reuse kept
-  -- and so do the outcomes of each operation; what walk and fill accept depends on the blocks' own bytes alone
+  -- and so do the outcomes of each operation; what a part of the blob says depends on its own bytes alone
   pub unread : Unread
   -- with reuse it depends on the kept mask's first bytes alone, as many as the mask has
   pub kept-front : (b : List ℕ) (reuse : Bool) (kept other : List ℕ) (h : Header) → headerSays b ≡ ok h → take (maskLength (shapeOf h)) kept ≡ take (maskLength (shapeOf h)) other

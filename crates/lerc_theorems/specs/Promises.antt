@@ -127,7 +127,7 @@ Read = RefT (List ℕ) × (Bool × (RefT (List ℕ) × (RefT (List ℕ) × (RefT
 abbrev pub lent : Read → Lent
 lent a = record { kept = a .1 .1 .0 .now; spare = a .1 .1 .1 .0 .now; list = a .1 .1 .1 .1 .0 .now; image = a .1 .1 .1 .1 .1 .0 .now }
 
--- all public functions, from the ground up
+-- all public functions, from the ground up; the entries for C and the program's `answer` have claims of their own
 pub record NoRoom : Type 0 where
   -- lerc_words
   pub word-refusal : Answers word-refusal.Pre word-refusal.Post

@@ -45,7 +45,7 @@ use Rattle.lerc_theorems.specs.Calls.{FillCall, EachCall}
 abbrev pub RefusalKeeps : {K A R O S : Type 0} → (K → A → R → O → Type 0) → (Refusal → R) → (A → S) → (O → S) → Type 0
 RefusalKeeps {K} {A} {R} {O} Post Refused before left = (k : K) (a : A) (x : O) (why : Refusal) → Post k a (Refused why) x → left x ≡ before a
 
--- every public function that is lent a slice to write, whole read apart
+-- every public function that is lent a slice to write and can refuse, whole read apart
 pub record RefusalsKeep : Type 0 where
   pub decode-plan : RefusalKeeps decode-plan.Post counts.Refused (λ a. a .1 .1 .0 .now) (λ o. o .1 .1 .0 .now)
   pub decode-counts : RefusalKeeps decode-counts.Post counts.Refused (λ a. a .1 .1 .0 .now) (λ o. o .1 .1 .0 .now)
