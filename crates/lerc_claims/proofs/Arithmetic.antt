@@ -16,7 +16,7 @@ use Rattle.lerc_numeric.proofs.Right.{nearest64, even64, infinite64, finite64, 
 use Rattle.lerc_numeric.proofs.Monotone.{less-sides, sum-cancels, sum-zeros, scaled-sign, sum-comm, sum-mono-right, less-asym, less-trans}
 use Rattle.lerc_numeric.proofs.Fits.{cut-integer, held-cut, cut-held}
 use Rattle.lerc_numeric.proofs.RoundTrip.{narrow-wide}
-use Rattle.lerc_claims.specs.Arithmetic.{Arithmetic}
+use Rattle.lerc_claims.specs.Arithmetic.{Rounding, Sums, Order, Conversions, Computes, Arithmetic}
 
 sum-alike : (a b : ℕ) → negative a ≡ negative b → sum a b ≡ signed (negative a) (bits64 (mag a + mag b))
 unfolding sum
@@ -54,8 +54,8 @@ lesser-second : (a b : ℕ) → less a b ≡ false → lesser a b ≡ b
 unfolding lesser
 lesser-second a b e = rw (e)
 
-pub arithmetic : Arithmetic
-arithmetic = record {
+rounding : Rounding
+rounding = record {
   nearest64 = nearest64;
   even64 = even64;
   infinite64 = infinite64;
@@ -66,23 +66,39 @@ arithmetic = record {
   finite32 = finite32;
   own64 = own64;
   own32 = own32;
+}
+
+sums : Sums
+sums = record {
   sum-alike = sum-alike;
   sum-apart = sum-apart;
   scaled-is = scaled-is;
-  narrowed-is = narrowed-is;
-  cut-toward-zero = toward-zero;
   sum-cancels = sum-cancels;
   sum-zeros = sum-zeros;
   scaled-sign = scaled-sign;
   sum-comm = sum-comm;
   sum-grows = sum-mono-right;
+}
+
+order : Order
+order = record {
   less-is = less-sides;
   lesser-first = lesser-first;
   lesser-second = lesser-second;
   less-asym = less-asym;
   less-trans = less-trans;
+}
+
+conversions : Conversions
+conversions = record {
+  narrowed-is = narrowed-is;
+  cut-toward-zero = toward-zero;
   back-integer = cut-integer;
   back32 = narrow-wide;
+}
+
+computes : Computes
+computes = record {
   plus = λ k a r x p. p;
   scale = λ k a r x p. p;
   narrow = λ k a r x p. p;
@@ -92,3 +108,6 @@ arithmetic = record {
   same = λ k a r x p. p;
   minimum = λ k a r x p. p;
 }
+
+pub arithmetic : Arithmetic
+arithmetic = record { rounding = rounding; sums = sums; order = order; conversions = conversions; computes = computes }

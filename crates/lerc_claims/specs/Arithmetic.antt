@@ -41,7 +41,7 @@ above w = cond (negative w) 0 (mag w)
 abbrev pub beneath : ℕ → ℕ
 beneath w = cond (negative w) (mag w) 0
 
-pub record Arithmetic : Type 0 where
+pub record Rounding : Type 0 where
   -- "each nearest with ties to even": no word is nearer to n units than the word that they are rounded to; where another is as near, that word is even
   pub nearest64 : (n w : ℕ) → bits64 n < infinity64 → distance n (mag (bits64 n)) ≤ distance n (mag w)
   pub even64 : (n w : ℕ) → bits64 n < infinity64 → mag w ≢ mag (bits64 n) → distance n (mag (bits64 n)) ≡ distance n (mag w) → bits64 n % 2 ≡ 0
@@ -56,14 +56,12 @@ pub record Arithmetic : Type 0 where
   -- a finite word is its own rounding
   pub own64 : (w : ℕ) → field w < 2047 → w < 2 ^ 64 → signed (negative w) (bits64 (mag w)) ≡ w
   pub own32 : (v : ℕ) → field32 v < 255 → bits32 (units32 v) ≡ v % 2 ^ 31
+
+pub record Sums : Type 0 where
   -- "scaled(a, q) is 2·q·a, sum is a + b", each the exact magnitude rounded; of opposite signs the greater decides
   pub sum-alike : (a b : ℕ) → negative a ≡ negative b → sum a b ≡ signed (negative a) (bits64 (mag a + mag b))
   pub sum-apart : (a b : ℕ) → Bool·beq (negative a) (negative b) ≡ false → mag b < mag a → sum a b ≡ signed (negative a) (bits64 (mag a - mag b))
   pub scaled-is : (a q : ℕ) → scaled a q ≡ signed (negative a) (bits64 (2 * q * mag a))
-  pub narrowed-is : (w : ℕ) → field w < 2047 → narrowed w ≡ cond (negative w) (2 ^ 31) 0 + bits32 (mag w)
-  -- "kinds 0 to 5 cut toward zero and refuse outside the range": the word stands for the whole part
-  pub cut-toward-zero : (kind w v : ℕ) → cut kind w ≡ ok v
-      → (whole w * 2 ^ 1074 ≤ mag w) × (mag w < (whole w + 1) * 2 ^ 1074) × (v ≡ cond (negative w) ((modulus kind - whole w) % modulus kind) (whole w))
   -- "Opposite signs cancelling give +0; two zeros of one sign keep it; a product has the sign of a"
   pub sum-cancels : (a b : ℕ) → Bool·beq (negative a) (negative b) ≡ false → mag a ≡ mag b → sum a b ≡ 0
   pub sum-zeros : (a b : ℕ) → negative a ≡ negative b → mag a ≡ 0 → mag b ≡ 0 → sum a b ≡ signed (negative a) 0
@@ -71,15 +69,26 @@ pub record Arithmetic : Type 0 where
   -- a sum does not depend on the order of its operands, and does not fall where one of them grows
   pub sum-comm : (a b : ℕ) → sum a b ≡ sum b a
   pub sum-grows : (a b c : ℕ) → less c b ≡ false → less (sum a c) (sum a b) ≡ false
+
+pub record Order : Type 0 where
   -- "the lesser of" two, the second on a tie; comparing is by value, and an order
   pub less-is : (a b : ℕ) → less a b ≡ ltb (above a + beneath b) (above b + beneath a)
   pub lesser-first : (a b : ℕ) → less a b ≡ true → lesser a b ≡ a
   pub lesser-second : (a b : ℕ) → less a b ≡ false → lesser a b ≡ b
   pub less-asym : (a b : ℕ) → less a b ≡ true → less b a ≡ false
   pub less-trans : (a b c : ℕ) → less a b ≡ true → less b c ≡ true → less a c ≡ true
+
+pub record Conversions : Type 0 where
+  -- "6 rounds to binary32", of a finite value; what is not finite is converted as `narrowed` says
+  pub narrowed-is : (w : ℕ) → field w < 2047 → narrowed w ≡ cond (negative w) (2 ^ 31) 0 + bits32 (mag w)
+  -- "kinds 0 to 5 cut toward zero and refuse outside the range": the word stands for the whole part
+  pub cut-toward-zero : (kind w v : ℕ) → cut kind w ≡ ok v
+      → (whole w * 2 ^ 1074 ≤ mag w) × (mag w < (whole w + 1) * 2 ^ 1074) × (v ≡ cond (negative w) ((modulus kind - whole w) % modulus kind) (whole w))
   -- a word of a kind comes back from its binary64, non-finite ones of binary32 too
   pub back-integer : (kind v : ℕ) → kind < 6 → v < modulus kind → cut kind (integer kind v) ≡ ok v
   pub back32 : (v : ℕ) → v < 2 ^ 32 → narrowed (widened v) ≡ v
+
+pub record Computes : Type 0 where
   -- the functions compute these, for every operand
   pub plus : (k : _) (a : _) (r : _) (x : _) → plusses.Post k a r x → r ≡ sum (a .0) (a .1 .0)
   pub scale : (k : _) (a : _) (r : _) (x : _) → scales.Post k a r x → r ≡ scaled (a .0) (a .1 .0)
@@ -89,3 +98,10 @@ pub record Arithmetic : Type 0 where
   pub less : (k : _) (a : _) (r : _) (x : _) → compares.Post k a r x → r ≡ Numeric.less (a .0) (a .1 .0)
   pub same : (k : _) (a : _) (r : _) (x : _) → equates.Post k a r x → r ≡ Numeric.same (a .0) (a .1 .0)
   pub minimum : (k : _) (a : _) (r : _) (x : _) → chooses.Post k a r x → r ≡ lesser (a .0) (a .1 .0)
+
+pub record Arithmetic : Type 0 where
+  pub rounding : Rounding
+  pub sums : Sums
+  pub order : Order
+  pub conversions : Conversions
+  pub computes : Computes
