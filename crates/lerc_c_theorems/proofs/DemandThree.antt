@@ -53,7 +53,8 @@ use Rattle.lerc_c_theorems.specs.SameReader.{Tells, rangesTold, wholeNum
 use Rattle.lerc_c_theorems.specs.DemandThree.{Bytes, InHandInC, inHand, shapeIn, toldSlice, ByWalkInC, ByReadInC, StepsAccept, SurveyedInC, by-walk, by-read, Outcome, FillsInC, none, more, Answered, AllAnswered, no-more, one-more, ReadAlikeInC, AnyOrderInC, DemandThreeInC}
 use Rattle.lerc_c_theorems.proofs.Calls.{header-done, prepare-done, ranges-done, walk-done, read-done}
 use Rattle.lerc_c_theorems.proofs.SameReader.{ranges-are, prepare-reads}
-use Rattle.lerc_c_theorems.proofs.Made.{handed-made, header-as, prepare-as, ranges-as, walk-as, fill-as, read-as}
+use Rattle.lerc_theorems.proofs.Made.{handed-made}
+use Rattle.lerc_c_theorems.proofs.Made.{header-as, prepare-as, ranges-as, walk-as, fill-as, read-as}
 
 -- ---- 0 tells that the records were long enough
 

@@ -1,11 +1,10 @@
 -- The premise of demand 3 holds of a blob: two rows, two columns and depth 2 in tiles of one pixel, its mask lent with a byte more than it has.
 -- Assumes nothing.
 use Prim.Native.Nat.{ℕ}
-use mathlib.Core.Path.{_≡_, sym, ap, refl}
+use mathlib.Core.Path.{_≡_, refl}
 use mathlib.Core.Bool.{false}
 use mathlib.Core.List.{List, [], _∷_, _++_}
 use native.Mathlib.Omega.{arith}
-use denote.Ref.{RefT}
 use lib.ListN.{length, replicate, List·getD-append}
 use lib.Ieee.{size, span, climb}
 use Rattle.lerc_words.specs.Res.{Res, ok, fail, _>>=_, refuse, wordAt, little, each}
@@ -20,7 +19,7 @@ use Rattle.lerc_header.specs.Shape.{strips}
 use Rattle.lerc_header.specs.Header.{errorRight, pairRight, fieldsRight, withinCeilings, held, keyRight, headerOf, headerSays}
 use Rattle.lerc_ranges.specs.declared.Ranges.{Ranges}
 use Rattle.lerc_validity.specs.Validity.{new, uniform, maskSays}
-use Rattle.lerc_ranges.specs.Ranges.{numberAt, byDepth, codedRanges, pairsRight, rangesSays, readRangesSays, rangesSaid}
+use Rattle.lerc_ranges.specs.Ranges.{numberAt, byDepth, codedRanges, pairsRight, rangesSays, readRangesSays}
 use Rattle.lerc_block.specs.Block.{levelBlock, offsetAt, finiteOffset, offsetBlock, formed, flagAt, blockSays}
 use Rattle.lerc_image.specs.Geometry.{tileOf, pixelOf, blockOf, placeIn, rank, isValidCell}
 use Rattle.lerc_image.specs.Paint.{painted, inBlock, indexOf}
@@ -32,27 +31,13 @@ use Rattle.lerc_image.specs.Fill.{fillSays, fillCount, fillSaid, fillImage}
 use Rattle.lerc_fills.specs.Each.{fillEach}
 use Rattle.lerc.specs.Meaning.{blockBody, sweptBody, bodySays, meaningFrom, meaning}
 use Rattle.lerc_theorems.specs.Witness.{grid}
-use Rattle.lerc_theorems.specs.Calls.{ReadRanges, FillCall, FillCalls, none, more}
+use Rattle.lerc_theorems.specs.Calls.{FillCalls, none, more}
 use Rattle.lerc_theorems.specs.DemandThree.{Case, Opened, CaseFills}
 use Rattle.lerc_theorems.proofs.Calls.{fill-calls}
+use Rattle.lerc_theorems.proofs.Made.{ranges-made, fill-made}
 use Rattle.lerc_theorems.proofs.OpenedFills.{answered}
 
--- ---- calls, wherever the slices stand
-
-abbrev pub lent : List ℕ → RefT (List ℕ)
-lent s = record { ptr = (0, 0); name = 0; now = s }
-
-ranges-call : (b : List ℕ) (h : Header) (r : Ranges) → readRangesSays b h ≡ ok r → ReadRanges b h r
-ranges-call b h r e = record {
-  lives = (b, tt);
-  inputs = (lent b, (h, tt));
-  answer = rangesSaid (ok r);
-  outputs = (lent b, (h, tt));
-  promised = ap rangesSaid (sym e);
-  inputs-are = refl;
-  answer-is = refl;
-  outputs-are = refl;
-}
+-- ---- calls
 
 abbrev answerOf : Res ℕ → FillAnswer
 answerOf (ok n) = fill-answer.Filled n
@@ -63,18 +48,6 @@ answer-says (ok n) = refl
 answer-says (fail r) = refl
 
 module _ (b : List ℕ) (h : Header) (r : Ranges) (m list : List ℕ) where
-  fill-made : (n : ℕ) (image : List ℕ) → FillCall b h r m list n (answerOf (fillSays b h r m list n (length image) >>= fillCount h m n)) image (fillImage b h r m list n image)
-  fill-made n image = record {
-    lives = (b, (m, (list, (image, tt))));
-    inputs = (lent b, (h, (r, (lent m, (lent list, (n, (lent image, tt)))))));
-    answer = answerOf (fillSays b h r m list n (length image) >>= fillCount h m n);
-    outputs = (lent b, (h, (r, (lent m, (lent list, (n, (lent (fillImage b h r m list n image), tt)))))));
-    promised = record { says = answer-says _; image = refl };
-    inputs-are = refl;
-    answer-is = refl;
-    outputs-are = refl;
-  }
-
   abbrev pub answersMade : List ℕ → List ℕ → List FillAnswer
   answersMade [] image = []
   answersMade (n ∷ ns) image = answerOf (fillSays b h r m list n (length image) >>= fillCount h m n) ∷ answersMade ns (fillImage b h r m list n image)
@@ -83,7 +56,7 @@ module _ (b : List ℕ) (h : Header) (r : Ranges) (m list : List ℕ) where
   pub fills-made : (ns image : List ℕ) → FillCalls b h r m list ns (answersMade ns image) image (fillEach b h r m list ns image)
   unfolding fillEach
   fills-made [] image = none image
-  fills-made (n ∷ ns) image = more n ns _ _ image (fillImage b h r m list n image) (fillEach b h r m list ns (fillImage b h r m list n image)) (fill-made n image) (fills-made ns (fillImage b h r m list n image))
+  fills-made (n ∷ ns) image = more n ns _ _ image (fillImage b h r m list n image) (fillEach b h r m list ns (fillImage b h r m list n image)) (fill-made b h r m list n _ image _ (record { says = answer-says _; image = refl })) (fills-made ns (fillImage b h r m list n image))
 
 -- ---- the blob
 
@@ -115,7 +88,7 @@ unfolding bytesOf wordAt little each from count allTo mag code sum scaled less s
 opened = record {
   means = refl;
   kept = omega arith;
-  ranges = ranges-call grid (headerOf grid) (codedRanges grid (headerOf grid)) refl;
+  ranges = ranges-made grid (headerOf grid) _ refl;
   mask = refl;
   long = omega arith;
   starts = λ n l. List·getD-append gridStarts (9 ∷ []) 0 n l;

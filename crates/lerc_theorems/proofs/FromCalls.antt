@@ -1,8 +1,8 @@
 -- What calls tell before the first fill, and demand 3 from them alone.
 -- Assumes nothing.
-use mathlib.Core.Path.{_≡_, _∙_, sym, ap, refl}
+use mathlib.Core.Path.{_≡_, _∙_, sym, ap}
 use mathlib.Core.Bool.{true}
-use mathlib.Core.List.{List, []}
+use mathlib.Core.List.{List}
 use Prim.Native.Nat.{ℕ, suc, _+_, _≤_, _<_, min}
 use native.Mathlib.Decide.{decLt}
 use native.Mathlib.Numerals.{add-one}
@@ -23,11 +23,11 @@ use Rattle.lerc_image.proofs.Stages.{getD-any}
 use Rattle.lerc_image.specs.Blocks.{Chain}
 use Rattle.lerc.specs.declared.ReadAnswer.the-variants as read-answer
 use Rattle.lerc.specs.Meaning.{Meaning, Body, empty, constant, raw, blocks, startsOf, endOf, meaning}
-use Rattle.lerc.specs.Read.{Lent, ReadTold, room, masked, readSays, readCount}
+use Rattle.lerc.specs.Read.{ReadTold, room, masked, readSays}
 use Rattle.lerc_theorems.specs.Calls.{FillCall, FillCalls}
 use Rattle.lerc_theorems.specs.Unread.{SameWithin}
-use Rattle.lerc_theorems.specs.DemandTwo.{Roomy, Exact, WalkMeans}
-use Rattle.lerc_theorems.specs.DemandThree.{Opened, InHand, ByWalk, ByRead, Surveyed, by-walk, by-read, caseOf, endsAt, Found, AnyOrder}
+use Rattle.lerc_theorems.specs.DemandTwo.{Roomy, Exact}
+use Rattle.lerc_theorems.specs.DemandThree.{InHand, ByWalk, ByRead, Surveyed, by-walk, by-read, caseOf, endsAt, Found, AnyOrder}
 use Rattle.lerc_theorems.proofs.Calls.{read-call}
 use Rattle.lerc_theorems.proofs.Meanings.{meaning-is, mask-kept, read-is, rooms}
 use Rattle.lerc_theorems.proofs.Refusals.{masked-is}

@@ -4,6 +4,7 @@ pub mod Refusals
 pub mod Writes
 pub mod Demands
 pub mod Calls
+pub mod Made
 pub mod Longer
 pub mod Wrong
 pub mod Masks

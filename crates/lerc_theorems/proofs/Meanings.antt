@@ -7,7 +7,7 @@ use Prim.Native.Nat.{ℕ, _+_, _≤_, _<_, min}
 use native.Mathlib.Decide.{decLt}
 use native.Mathlib.Omega.{arith}
 use lib.ListN.{length, take, length-take}
-use lib.Seq.{take-all, take-take, getD-take}
+use lib.Seq.{length-take-le, take-all, take-take, getD-take}
 use borrow.Author.Tests.{le-leb, leb-true}
 use Rattle.lerc_words.specs.Res.{Res, ok, fail, _>>=_, require, little}
 use Rattle.lerc_words.proofs.Binding.{bind-is, ok-is, and-is}
@@ -57,7 +57,7 @@ module _ (b : List ℕ) (reuse : Bool) (kept : List ℕ) (m : Meaning) (k : Mean
   size = let s = held-size (m .header) (length b) keeps in (s .0, s .1)
 
   declared : length (take (m .header .size) b) ≡ m .header .size
-  declared = length-take (m .header .size) b ∙ (let z : min (m .header .size) (length b) ≡ m .header .size = omega (arith, size .1) in z)
+  declared = length-take-le (m .header .size) b (size .1)
 
   pub pairs-kept : (r : Ranges) → rangesSays (take (m .header .size) b) (m .header) ≡ ok r → RangesKept (take (m .header .size) b) (m .header) r
   pairs-kept =

@@ -7,14 +7,13 @@ use Prim.Native.Nat.{ℕ, _+_, _≤_, _<_, min}
 use native.Mathlib.Decide.{decLe}
 use native.Mathlib.Omega.{arith}
 use lib.ListN.{length, getD, take, drop, length-take, length-drop}
-use lib.Seq.{getD-take, getD-drop}
+use lib.Seq.{length-take-le, getD-take, getD-drop}
 use lib.Dec.{leb}
 use borrow.Author.Tests.{le-leb, lt-leb}
 use denote.Ref.{RefT}
-use Rattle.lerc_words.specs.declared.Refusal.{Refusal}
 use Rattle.lerc_words.specs.Res.{Res, ok, fail, _>>=_, require, after, little}
 use Rattle.lerc_words.specs.Lists.{over}
-use Rattle.lerc_words.proofs.Binding.{bind-is, bind-counts, require-is, ok-is}
+use Rattle.lerc_words.proofs.Binding.{bind-is, bind-counts, require-is}
 use Rattle.lerc_words.proofs.Little.{little-same}
 use Rattle.lerc_words.proofs.Tables.{tabulate-same, take-tabulate}
 use Rattle.lerc_numeric.specs.Numeric.{same as same'}
@@ -199,13 +198,14 @@ section-own s t n m p q same =
     ∙ tabulate-same m _ _ (λ i l. getD-drop n s i 0 ∙ same (n + i) (omega arith) (omega arith) ∙ sym (getD-drop n t i 0))
     ∙ sym (take-tabulate m (drop n t) (rw (length-drop n t) (omega arith)))
 
+-- in the slices cut at the size
+cut : (n : ℕ) (b c : List ℕ) {j k : ℕ} → k ≤ n → SameWithin j k b c → SameWithin j k (take n b) (take n c)
+cut n b c l same i o r = let z : i < n = omega arith in getD-take n b i 0 z ∙ same i o r ∙ sym (getD-take n c i 0 z)
+
+agree : (n : ℕ) (b c : List ℕ) → n ≤ length c → {j k : ℕ} → k ≤ n → SameWithin j k b c → Agree (take n b) (take n c) j k
+agree n b c long l same = record { bytes = cut n b c l same; room = rw (length-take n c) (omega arith) }
+
 module _ (b c : List ℕ) (h : Header) (long-b : h .size ≤ length b) (long-c : h .size ≤ length c) where
-  size-of : (d : List ℕ) → h .size ≤ length d → length (take (h .size) d) ≡ h .size
-  size-of d l = length-take (h .size) d ∙ (let z : min (h .size) (length d) ≡ h .size = omega arith in z)
-
-  cut : {j k : ℕ} → k ≤ h .size → SameWithin j k b c → SameWithin j k (take (h .size) b) (take (h .size) c)
-  cut l same i o r = let z : i < h .size = omega arith in getD-take (h .size) b i 0 z ∙ same i o r ∙ sym (getD-take (h .size) c i 0 z)
-
   -- behind an accepted header by value
   behind-held : {A : Type 0} (f : List ℕ → Extent → Res A) → ((e : Extent) → held h (length b) ≡ ok e → f b e ≡ f c e) → (held h (length b) >>= f b) ≡ (held h (length c) >>= f c)
   behind-held f g = rw (← held-any h (length b) (length c) long-b long-c) (go (held h (length b)) refl)
@@ -217,9 +217,9 @@ module _ (b c : List ℕ) (h : Header) (long-b : h .size ≤ length b) (long-c :
   mask-own : rangesAt h ≤ h .size → SameWithin headerBytes (rangesAt h) b c → (reuse : Bool) (kept : List ℕ) → maskSays (take (h .size) b) h reuse kept ≡ maskSays (take (h .size) c) h reuse kept
   unfolding maskSays unrolled
   mask-own l same reuse kept =
-      let p = size-of b long-b in
-      let q = size-of c long-c in
-      rw (section-own (take (h .size) b) (take (h .size) c) headerBytes (h .mask) (omega (arith, p)) (omega (arith, q)) (cut l same))
+      let p = length-take-le (h .size) b long-b in
+      let q = length-take-le (h .size) c long-c in
+      rw (section-own (take (h .size) b) (take (h .size) c) headerBytes (h .mask) (omega (arith, p)) (omega (arith, q)) (cut (h .size) b c l same))
 
   prepare-other : SameWithin headerBytes (rangesAt h) b c → (reuse : Bool) (kept : List ℕ) (room : ℕ) → prepareSays b h reuse kept room ≡ prepareSays c h reuse kept room
   unfolding prepareSays
@@ -229,15 +229,14 @@ module _ (b c : List ℕ) (h : Header) (long-b : h .size ≤ length b) (long-c :
 
   ranges-other : SameWithin (rangesAt h) (rangesEnd h) b c → readRangesSays b h ≡ readRangesSays c h
   unfolding readRangesSays rangesSays
-  ranges-other same = behind-held (λ d e. rangesSays (take (h .size) d) h) (λ e d. rw (size-of b long-b, size-of c long-c) (go (decLe (rangesEnd h) (h .size))))
+  ranges-other same = behind-held (λ d e. rangesSays (take (h .size) d) h) (λ e d. rw (length-take-le (h .size) b long-b, length-take-le (h .size) c long-c) (go (decLe (rangesEnd h) (h .size))))
     where
       abbreviated : List ℕ → Bool → Res Ranges
       abbreviated s x = cond (same' (h .min) (h .max)) (ok (uniformRanges h)) (require x 1 >>= λ _. require (pairsRight (h .depth) (codedRanges s h)) 7 >>= λ _. ok (codedRanges s h))
 
       go : Dec (rangesEnd h ≤ h .size) → abbreviated (take (h .size) b) (leb (rangesEnd h) (h .size)) ≡ abbreviated (take (h .size) c) (leb (rangesEnd h) (h .size))
       go (yes l) =
-          let a : Agree (take (h .size) b) (take (h .size) c) (rangesAt h) (rangesEnd h) = record { bytes = cut l same; room = rw (size-of c long-c) l } in
-          rw (coded-agrees a h (omega arith) (omega arith))
+          rw (coded-agrees (agree (h .size) b c long-c l same) h (omega arith) (omega arith))
       go (no l) = rw (lt-leb (rangesEnd h) (h .size) (omega arith))
 
 -- ---- the blocks' own bytes
@@ -249,15 +248,6 @@ module _ (b c : List ℕ) (h : Header) (long : h .size ≤ length c) (held-b : h
   held-c : held h (length c) ≡ ok (extentOf h)
   held-c = sym (held-any h (length b) (length c) long-b long) ∙ held-b
 
-  size-b : length (take (h .size) b) ≡ h .size
-  size-b = length-take (h .size) b ∙ (let z : min (h .size) (length b) ≡ h .size = omega (arith, long-b) in z)
-
-  agree : (from to : ℕ) → to ≤ h .size → SameWithin from to b c → Agree (take (h .size) b) (take (h .size) c) from to
-  agree from to l same = record {
-    bytes = λ i o k. let z : i < h .size = omega arith in getD-take (h .size) b i 0 z ∙ same i o k ∙ sym (getD-take (h .size) c i 0 z);
-    room = rw (length-take (h .size) c) (omega (arith, long));
-  }
-
 module _ (b c : List ℕ) (h : Header) (r : Ranges) (m : List ℕ) (entries : ℕ) (k : Chain) (w : Walking b h r m entries k) (long : h .size ≤ length c) (same : SameWithin (r .at) (k .end) b c) where
   abbrev s : List ℕ
   s = take (h .size) b
@@ -267,12 +257,12 @@ module _ (b c : List ℕ) (h : Header) (r : Ranges) (m : List ℕ) (entries : �
   inside =
       let p = swept-in s (h .kind) (h .error) (r .at) (blocksFrom (w .from)) (w .sweep) in
       let q = chain-in s h (r .max) m (blockCount (shapeOf h)) 0 (w .from) k (p .1) (w .blocks) in
-      let z = size-b b c h long (w .kept) in
+      let z = length-take-le (h .size) b (long-b b c h long (w .kept)) in
       (omega (arith, p .0), q .0, omega (arith, q .1, z))
 
   walk-other : walkSays c h r m entries ≡ ok k
   walk-other =
-      let a = agree b c h long (w .kept) (r .at) (k .end) (inside .2) same in
+      let a = agree (h .size) b c long (inside .2) same in
       walking-says c h r m entries k
       (record {
         kept = held-c b c h long (w .kept);
@@ -306,8 +296,8 @@ module _ (b c : List ℕ) (h : Header) (r : Ranges) (m list : List ℕ) (n room 
       let i : y ≡ extentOf h = held-is h (length b) p in
       let held-b : held h (length b) ≡ ok (extentOf h) = rw (i) at p in
       let z = block-in (take (h .size) b) h (r .max) m n (getD list n 0) k is in
-      let l : k .next ≤ h .size = omega (arith, z .1, size-b b c h long held-b) in
-      let a = agree b c h long held-b (getD list n 0) (k .next) l same in
+      let l : k .next ≤ h .size = omega (arith, z .1, length-take-le (h .size) b (long-b b c h long held-b)) in
+      let a = agree (h .size) b c long l same in
       let f : blockAt (take (h .size) c) h (r .max) m n (getD list n 0) ≡ ok k = at-agrees a h (r .max) m n (getD list n 0) k (omega arith) (omega arith) is in
       rw (held-c b c h long held-b, f) (rw (held-b, is) at e)
 
