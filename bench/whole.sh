@@ -10,17 +10,6 @@ root=$(cd "$(dirname "$(readlink -f "$0")")/.." && pwd)
 read_words "$@"
 needed cargo
 case " ${words[*]} " in *' --no-counts '*) ;; *) needed valgrind ;; esac
-features=()
-case ${ESRI:-0} in
-0) ;;
-1)
-    features=(--features esri)
-    if ! echo 'int main(void) { return 0; }' | cc -x c - -lLerc -o /dev/null 2>/dev/null; then
-        echo "whole.sh: Esri's library is not there (Debian: liblerc-dev)" >&2
-        exit 2
-    fi
-    ;;
-*) wrong "ESRI=$ESRI: 1 or nothing" ;;
-esac
+read_esri
 cargo build -j1 --release --quiet "${features[@]}" --manifest-path "$root/bench/whole/Cargo.toml"
 "$root/bench/whole/target/release/whole" "${words[@]}"

@@ -16,6 +16,23 @@ needed() { # TOOL...
     done
 }
 
+# Cargo's words for Esri's library as `features`, where ESRI=1 asks for it.
+# shellcheck disable=SC2034
+read_esri() {
+    features=()
+    case ${ESRI:-0} in
+    0) ;;
+    1)
+        features=(--features esri)
+        if ! echo 'int main(void) { return 0; }' | cc -x c - -lLerc -o /dev/null 2>/dev/null; then
+            echo "${0##*/}: Esri's library is not there (Debian: liblerc-dev)" >&2
+            exit 2
+        fi
+        ;;
+    *) wrong "ESRI=$ESRI: 1 or nothing" ;;
+    esac
+}
+
 # The words of whole.sh and arm64.sh as those of the program in bench/whole, with whole paths.
 read_words() {
     local folder=''

@@ -120,6 +120,15 @@ def sum_of(places):
     return s
 
 
+def parts_of(places, pixels):
+    """how many are valid in parts of 1 to 20 pixels, one from each pixel on"""
+    s, valid = 0, set(places)
+    for p in range(pixels):
+        part = range(p, min(p + p % 20 + 1, pixels))
+        s = (s * 31 + sum(q in valid for q in part)) % 1000003
+    return s
+
+
 def expected():
     masks = {int(number): bytes.fromhex(mask) for number, mask in (line.split() for line in open(ESRI))}
     lines, kept = [], bytes(KEPT)
@@ -136,7 +145,8 @@ def expected():
             lines.append('%03d refused 6\n' % i)
             continue
         said = 'kept' if reused else 'new'
-        lines.append('%03d %s bytes %d valid %d sum %d\n' % (i, said, (pixels + 7) // 8, len(places), sum_of(places)))
+        sums = sum_of(places), parts_of(places, pixels)
+        lines.append('%03d %s bytes %d valid %d sum %d parts %d\n' % (i, said, (pixels + 7) // 8, len(places), *sums))
         kept = kept if reused else mask + bytes(KEPT - len(mask))
     return ''.join(lines)
 

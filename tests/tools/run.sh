@@ -303,6 +303,8 @@ wrong_words 'usage: bench/whole.sh' bench/whole.sh nosuch
 wrong_words 'usage: bench/whole.sh' bench/whole.sh --svg "$ROOM/x.svg"
 wrong_words 'usage: bench/whole.sh' bench/whole.sh --rounds many
 wrong_words 'usage: bench/whole.sh' bench/whole.sh --plot "$ROOM/nosuch/x.svg"
+wrong_words 'usage: bench/mask.sh' bench/mask.sh nosuch
+wrong_words 'usage: bench/mask.sh' bench/mask.sh --rounds 3
 wrong_words 'usage: bench/arm64.sh' bench/arm64.sh nosuch
 wrong_words 'usage: bench/arm64.sh' bench/arm64.sh one nosuch
 wrong_words 'usage: bench/measure.sh' bench/measure.sh nosuch
@@ -316,6 +318,10 @@ ln -s "$(command -v bash)" "$ROOM/bare/bash"
 missing() { PATH=$ROOM/bare "$@"; }
 gives 'whole.sh without cargo' 2 missing bench/whole.sh
 says 'whole.sh without cargo' 'cargo is not there'
+gives 'mask.sh without cargo' 2 missing bench/mask.sh
+says 'mask.sh without cargo' 'cargo is not there'
+gives 'mask.sh --help' 0 bench/mask.sh --help
+writes 'mask.sh --help' 'usage: bench/mask.sh'
 gives 'profile.sh without cargo' 2 missing bench/profile.sh README.md
 says 'profile.sh without cargo' 'cargo is not there'
 gives 'native.sh without the kit' 2 missing bench/native.sh lerc_c

@@ -5,14 +5,17 @@
 //!
 //!     whole [--folder FOLDER] [--only NAME] [--rounds N] [--plot FILE] [--no-counts]
 //!           [--counted-by 'EMULATOR AND ITS WORDS' --no-times]
+//!     whole mask                             what valid pixels cost, by callgrind alone
 //!     whole one FILE WAY READER [CALLS]      for the counter; one call is usual
 //!
 //! What is not measured is named at the end, with the reason. Ends with status
 //! 2 where the words are wrong or nothing could be measured.
 
 mod clock;
+mod holes;
 mod left;
 mod make;
+mod mask;
 mod plot;
 mod task;
 mod words;
@@ -72,6 +75,8 @@ fn main() -> ExitCode {
     let words: Vec<String> = std::env::args().skip(1).collect();
     let words: Vec<&str> = words.iter().map(String::as_str).collect();
     let done = match words.as_slice() {
+        ["mask"] => mask::measure(),
+        ["mask", word, ..] => Err(format!("unknown word {word}").into()),
         ["one", file, way, reader] => one(file, way, reader, "1"),
         ["one", file, way, reader, calls] => one(file, way, reader, calls),
         _ => measure(&words),
@@ -83,6 +88,11 @@ fn main() -> ExitCode {
     ExitCode::SUCCESS
 }
 
+/// Begins the stack of a call at a page. Words and environment shift the stack,
+/// and what a copy costs depends on where its bytes lie.
+#[repr(align(4096))]
+struct Page(u8);
+
 fn one(file: &str, way: &str, reader: &str, calls: &str) -> Result<(), Box<dyn Error>> {
     let way = Way::ALL.into_iter().find(|w| w.name() == way);
     let reader = Reader::ALL.iter().find(|r| r.name() == reader);
@@ -90,12 +100,20 @@ fn one(file: &str, way: &str, reader: &str, calls: &str) -> Result<(), Box<dyn E
         return Err("no such way or reader".into());
     };
     let blob = fs::read(file).map_err(|error| format!("{file}: {error}"))?;
-    let mut task = Task::new(&blob).map_err(|number| format!("{file}: refused {number}"))?;
+    let mut task =
+        Task::prepared(&blob, way).map_err(|number| format!("{file}: refused {number}"))?;
+    let page = Page(0);
+    std::hint::black_box(&page.0);
     for _ in 0..calls.parse::<u64>()? {
         task.go(way, reader)
             .map_err(|number| format!("{file}: refused {number}"))?;
     }
     Ok(())
+}
+
+/// A folder of this run alone.
+fn scratch() -> PathBuf {
+    std::env::temp_dir().join(format!("whole-{}", std::process::id()))
 }
 
 /// How to measure: rounds of time, and what counts instructions.
@@ -114,14 +132,14 @@ fn measure(words: &[&str]) -> Result<(), Box<dyn Error>> {
         rounds: words.times.then_some(words.rounds),
         counts: words.counts,
         emulator: words.counted_by,
-        scratch: std::env::temp_dir().join(format!("whole-{}", std::process::id())),
+        scratch: scratch(),
     };
     let images = images(&words)?;
     fs::create_dir_all(&how.scratch)?;
     let mut lines = Vec::new();
     let mut left = LeftOut::default();
     for image in &images {
-        for way in Way::ALL {
+        for way in Way::WHOLE {
             match line(image, way, &how)? {
                 Ok(line) => {
                     eprintln!("{} {}", line.name, line.way.name());
@@ -174,12 +192,12 @@ fn images(words: &Words) -> Result<Vec<Image>, Box<dyn Error>> {
 }
 
 fn made() -> Vec<Image> {
-    let sort = |kind, error, body| Sort { kind, error, body };
+    let sort = Sort::plain;
     let mut images = Vec::new();
     let mut add = |name: &str, sort: Sort, side: usize, sized: bool| {
         images.push(Image {
             name: format!("{name} {side}x{side}"),
-            blob: make::blob(&sort, side),
+            blob: make::blob(&sort, side, side),
             sized,
         });
     };
@@ -199,6 +217,8 @@ fn made() -> Vec<Image> {
     add("raw f64", sort(7, 0.01, Body::Raw), 512, false);
     add("constant u8", sort(1, 0.5, Body::Constant), 512, false);
     add("constant f32", sort(6, 0.01, Body::Constant), 512, false);
+    let masked = sort(3, 0.5, Body::Blocks).with_holes();
+    add("masked u16", masked, 256, false);
     images
 }
 
@@ -326,8 +346,10 @@ fn instructions(file: &Path, way: Way, reader: Reader) -> Result<u64, Box<dyn Er
     let said = text
         .lines()
         .find_map(|line| line.split_once("Collected : "));
-    let (_, count) = said.ok_or_else(|| format!("callgrind said nothing: {text}"))?;
-    Ok(count.trim().parse()?)
+    match said {
+        Some((_, count)) if output.status.success() => Ok(count.trim().parse()?),
+        _ => Err(format!("callgrind counted nothing: {text}").into()),
+    }
 }
 
 /// The same by an emulator that ends with a line `insns N`.
@@ -445,7 +467,7 @@ fn bars(lines: &[Line]) -> String {
         ("float kinds in blocks, at most 6", FLOATS),
         ("raw and constant, at most 1.3", LINEAR),
     ];
-    for way in Way::ALL {
+    for way in Way::WHOLE {
         for (name, bar) in classes {
             let of_class = |line: &&Line| line.way == way && line.bar == bar;
             if !lines.iter().any(|line| of_class(&line)) {
@@ -471,7 +493,7 @@ fn bars(lines: &[Line]) -> String {
 /// Whether a cell of the largest image costs what one of the smallest does.
 fn growths(lines: &[Line]) -> String {
     let mut text = String::new();
-    for way in Way::ALL {
+    for way in Way::WHOLE {
         for kind in ["u16", "f32"] {
             let rows: Vec<&Line> = lines
                 .iter()

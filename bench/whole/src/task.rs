@@ -1,7 +1,7 @@
 //! What is measured: one image, one way to read it, one reader.
 
 use lerc2::raw;
-use second::Header;
+use second::{Header, Mask, Ranges};
 
 #[derive(Clone, Copy, Debug, PartialEq, Eq)]
 pub enum Way {
@@ -9,6 +9,12 @@ pub enum Way {
     Read,
     /// Mask, ranges, walk, and each block filled.
     Steps,
+    /// The walk alone.
+    Walk,
+    /// The mask alone, from the runs of its section.
+    Runs,
+    /// The mask alone, where it is kept and the blob has no section.
+    Reuse,
 }
 
 #[derive(Clone, Copy, Debug, PartialEq, Eq)]
@@ -20,12 +26,17 @@ pub enum Reader {
 }
 
 impl Way {
-    pub const ALL: [Way; 2] = [Way::Read, Way::Steps];
+    pub const ALL: [Way; 5] = [Way::Read, Way::Steps, Way::Walk, Way::Runs, Way::Reuse];
+    /// Those that give every cell of an image.
+    pub const WHOLE: [Way; 2] = [Way::Read, Way::Steps];
 
     pub fn name(self) -> &'static str {
         match self {
             Way::Read => "read",
             Way::Steps => "walk and fills",
+            Way::Walk => "walk",
+            Way::Runs => "mask by runs",
+            Way::Reuse => "mask by reuse",
         }
     }
 }
@@ -60,12 +71,29 @@ impl Reader {
 pub struct Task {
     blob: Vec<u8>,
     pub header: Header,
+    /// What a walk is handed besides the mask, which is the spare.
+    ranges: Option<Ranges>,
+    /// The same as records of the C interface.
+    header_record: [u64; raw::HEADER],
+    ranges_record: [u64; raw::RANGES],
     kept: Vec<u8>,
     spare: Vec<u8>,
     list: Vec<usize>,
     pub image: Vec<u64>,
+    /// What the last call said, as the C interface does; nothing for steps.
+    said: [u64; raw::READ],
     #[cfg(feature = "esri")]
     decoded: compare::esri::Decoded,
+}
+
+/// All that a call can write.
+#[derive(Debug, PartialEq)]
+pub struct Written<'a> {
+    said: &'a [u64],
+    kept: &'a [u8],
+    spare: &'a [u8],
+    list: &'a [usize],
+    image: &'a [u64],
 }
 
 impl Task {
@@ -74,27 +102,113 @@ impl Task {
         let header = second::read_header(blob)?;
         Ok(Task {
             blob: blob.to_vec(),
+            ranges: None,
+            header_record: [0; raw::HEADER],
+            ranges_record: [0; raw::RANGES],
             kept: vec![0; header.mask_length()],
             spare: vec![0; header.mask_length()],
             list: vec![0; header.blocks()],
             image: vec![0; header.cells()],
+            said: [0; raw::READ],
             #[cfg(feature = "esri")]
             decoded: compare::esri::Decoded::new(&header),
             header,
         })
     }
 
+    /// With all that the way asks for beforehand, which is not counted.
+    pub fn prepared(blob: &[u8], way: Way) -> Result<Task, u32> {
+        let mut task = Task::new(blob)?;
+        if way == Way::Reuse {
+            task.keep_mask()?;
+        }
+        accepted(raw::read_header(&task.blob, &mut task.header_record))?;
+        if way == Way::Walk {
+            task.prepare_walk()?;
+        }
+        Ok(task)
+    }
+
+    fn prepare_walk(&mut self) -> Result<(), u32> {
+        let (blob, header) = (&self.blob, &self.header);
+        second::prepare_mask(blob, header, false, &self.kept, &mut self.spare)?;
+        self.ranges = Some(second::read_ranges(blob, header)?);
+        let record = &mut self.ranges_record;
+        accepted(raw::read_ranges(blob, &self.header_record, record))
+    }
+
+    /// Keeps the mask of the section, and takes the section out.
+    fn keep_mask(&mut self) -> Result<(), u32> {
+        let unkept = self.kept.clone();
+        second::prepare_mask(&self.blob, &self.header, false, &unkept, &mut self.kept)?;
+        let size = self.header.size - self.header.mask;
+        self.blob[34..38].copy_from_slice(&size.to_le_bytes());
+        self.blob[66..70].fill(0);
+        self.blob.drain(70..70 + self.header.mask as usize);
+        self.header = second::read_header(&self.blob)?;
+        Ok(())
+    }
+
     /// One call, or all calls of the steps; the refusal's number where there is
-    /// one, or the library's own. Callgrind counts while it is in here.
+    /// one, or the library's own. Callgrind counts while it is in one of the
+    /// functions below.
     #[inline(never)]
     pub fn go(&mut self, way: Way, reader: Reader) -> Result<(), u32> {
         match (way, reader) {
             (Way::Read, Reader::Proved) => measured_proved_read(self),
-            (Way::Read, Reader::Plain) => measured_plain_read(self),
+            (Way::Read, Reader::Plain) => measured_plain_read(self).map(|said| self.say_read(said)),
             (Way::Steps, Reader::Proved) => measured_proved_steps(self),
             (Way::Steps, Reader::Plain) => measured_plain_steps(self),
+            (Way::Walk, Reader::Proved) => measured_proved_walk(self),
+            (Way::Walk, Reader::Plain) => measured_plain_walk(self).map(|said| self.say_walk(said)),
+            (Way::Runs, Reader::Proved) => measured_proved_runs(self),
+            (Way::Runs, Reader::Plain) => measured_plain_runs(self).map(|said| self.say_mask(said)),
+            (Way::Reuse, Reader::Proved) => measured_proved_reuse(self),
+            (Way::Reuse, Reader::Plain) => {
+                measured_plain_reuse(self).map(|said| self.say_mask(said))
+            }
             #[cfg(feature = "esri")]
             (_, Reader::Esri) => measured_esri_read(self),
+        }
+    }
+
+    fn say_read(&mut self, (header, blocks, end): (Header, usize, usize)) {
+        self.said = [
+            header.rows.into(),
+            header.columns.into(),
+            header.depth.into(),
+            header.valid.into(),
+            header.side.into(),
+            header.size.into(),
+            header.kind.into(),
+            header.error,
+            header.min,
+            header.max,
+            header.mask.into(),
+            blocks as u64,
+            end as u64,
+        ];
+    }
+
+    fn say_walk(&mut self, (blocks, end): (usize, usize)) {
+        self.said[..raw::WALK].copy_from_slice(&[blocks as u64, end as u64]);
+    }
+
+    fn say_mask(&mut self, mask: Mask) {
+        let said = match mask {
+            Mask::Kept(length) => [1, length as u64],
+            Mask::Spare(length) => [2, length as u64],
+        };
+        self.said[..raw::MASK].copy_from_slice(&said);
+    }
+
+    pub fn written(&self) -> Written<'_> {
+        Written {
+            said: &self.said,
+            kept: &self.kept,
+            spare: &self.spare,
+            list: &self.list,
+            image: &self.image,
         }
     }
 }
@@ -112,21 +226,21 @@ fn accepted(answer: u32) -> Result<(), u32> {
 #[no_mangle]
 #[inline(never)]
 fn measured_proved_read(task: &mut Task) -> Result<(), u32> {
-    let mut said = [0; raw::READ];
     let Task {
         blob,
         kept,
         spare,
         list,
         image,
+        said,
         ..
     } = task;
-    accepted(raw::read(blob, false, kept, spare, list, image, &mut said))
+    accepted(raw::read(blob, false, kept, spare, list, image, said))
 }
 
 #[no_mangle]
 #[inline(never)]
-fn measured_plain_read(task: &mut Task) -> Result<(), u32> {
+fn measured_plain_read(task: &mut Task) -> Result<(Header, usize, usize), u32> {
     let Task {
         blob,
         kept,
@@ -135,7 +249,7 @@ fn measured_plain_read(task: &mut Task) -> Result<(), u32> {
         image,
         ..
     } = task;
-    second::read(blob, false, kept, spare, list, image).map(|_| ())
+    second::read(blob, false, kept, spare, list, image)
 }
 
 #[no_mangle]
@@ -185,10 +299,108 @@ fn plain_steps(task: &mut Task) -> Result<(), u32> {
     Ok(())
 }
 
+#[no_mangle]
+#[inline(never)]
+fn measured_proved_walk(task: &mut Task) -> Result<(), u32> {
+    let (header, ranges) = (&task.header_record, &task.ranges_record);
+    let (list, said) = (&mut task.list, &mut task.said);
+    accepted(raw::walk(
+        &task.blob,
+        header,
+        ranges,
+        &task.spare,
+        list,
+        said,
+    ))
+}
+
+#[no_mangle]
+#[inline(never)]
+fn measured_plain_walk(task: &mut Task) -> Result<(usize, usize), u32> {
+    let ranges = task.ranges.as_ref().expect("a task prepared for a walk");
+    let list = &mut task.list;
+    second::walk(&task.blob, &task.header, ranges, &task.spare, list)
+}
+
+#[no_mangle]
+#[inline(never)]
+fn measured_proved_runs(task: &mut Task) -> Result<(), u32> {
+    proved_mask(task, false)
+}
+
+#[no_mangle]
+#[inline(never)]
+fn measured_proved_reuse(task: &mut Task) -> Result<(), u32> {
+    proved_mask(task, true)
+}
+
+fn proved_mask(task: &mut Task, reuse: bool) -> Result<(), u32> {
+    let (header, kept) = (&task.header_record, &task.kept);
+    let (spare, said) = (&mut task.spare, &mut task.said);
+    accepted(raw::prepare_mask(
+        &task.blob, header, reuse, kept, spare, said,
+    ))
+}
+
+#[no_mangle]
+#[inline(never)]
+fn measured_plain_runs(task: &mut Task) -> Result<Mask, u32> {
+    plain_mask(task, false)
+}
+
+#[no_mangle]
+#[inline(never)]
+fn measured_plain_reuse(task: &mut Task) -> Result<Mask, u32> {
+    plain_mask(task, true)
+}
+
+fn plain_mask(task: &mut Task, reuse: bool) -> Result<Mask, u32> {
+    let (header, kept) = (&task.header, &task.kept);
+    second::prepare_mask(&task.blob, header, reuse, kept, &mut task.spare)
+}
+
 #[cfg(feature = "esri")]
 #[no_mangle]
 #[inline(never)]
 fn measured_esri_read(task: &mut Task) -> Result<(), u32> {
     let size = task.header.size as usize;
     accepted(task.decoded.decode(&task.blob[..size], &task.header))
+}
+
+#[cfg(test)]
+mod tests {
+    use super::{Reader, Task, Way};
+    use crate::make::{blob, Body, Sort};
+
+    fn done(blob: &[u8], way: Way, reader: Reader) -> Task {
+        let mut task = Task::prepared(blob, way).unwrap();
+        task.go(way, reader).unwrap();
+        task
+    }
+
+    #[test]
+    fn both_readers_write_the_same() {
+        let sort = Sort::plain(3, 0.5, Body::Blocks).with_holes();
+        for depth in [1, 2] {
+            let blob = blob(&Sort { depth, ..sort }, 50, 70);
+            for way in [Way::Read, Way::Walk, Way::Runs, Way::Reuse] {
+                let [proved, plain] =
+                    [Reader::Proved, Reader::Plain].map(|reader| done(&blob, way, reader));
+                assert_eq!(proved.written(), plain.written(), "{way:?}");
+            }
+        }
+    }
+
+    #[test]
+    fn a_mask_is_told_by_runs_or_kept() {
+        let sort = Sort::plain(3, 0.5, Body::Blocks).with_holes();
+        let blob = blob(&sort, 50, 70);
+        let runs = done(&blob, Way::Runs, Reader::Plain);
+        let reuse = done(&blob, Way::Reuse, Reader::Plain);
+        assert!(runs.header.mask > 0 && reuse.header.mask == 0);
+        assert_eq!(runs.said[..2], [2, 438]);
+        assert_eq!(reuse.said[..2], [1, 438]);
+        assert_eq!(runs.spare, reuse.kept);
+        assert!(reuse.spare.iter().all(|&byte| byte == 0));
+    }
 }

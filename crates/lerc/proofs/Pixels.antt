@@ -1,7 +1,7 @@
 -- Cells pixel by pixel: what one cell, and what one pixel, adds to a painted image.
 -- Assumes nothing.
 use mathlib.Core.Path.{_≡_, _∙_, sym, ap, refl}
-use mathlib.Core.Bool.{Bool, true, false, cond, _&&_, _||_, and-false, and-eq-true-iff}
+use mathlib.Core.Bool.{Bool, true, false, _&&_, _||_, and-false, and-eq-true-iff}
 use mathlib.Core.Logic.{_≢_}
 use mathlib.Core.List.{List}
 use Prim.Native.Nat.{ℕ, zero, suc, _+_, _-_, _*_, _/_, _%_, _≤_, _<_}
@@ -13,11 +13,10 @@ use lib.ListN.{length, getD, set}
 use lib.Seq.{paste, paste-zero, paste-suc}
 use borrow.Author.Tests.{lt-ltb, le-ltb, le-leb, lt-leb, ltb-true, leb-true}
 use Rattle.lerc_header.specs.declared.Shape.{Shape}
-use native.Mathlib.Nat.{not-suc-le-zero, mul-le-mul, mul-le-mul-right, suc-mul, add-mul, add-zero, add-assoc}
+use native.Mathlib.Nat.{mul-le-mul, mul-le-mul-right, suc-mul, add-mul, add-zero, add-assoc}
 use native.Mathlib.Numerals.{add-one}
 use Rattle.lerc_words.specs.Res.{little}
-use Rattle.lerc_words.specs.Lists.{count}
-use Rattle.lerc_words.proofs.Counts.{count-more, count-suc, count-le, count-mono}
+use Rattle.lerc_words.proofs.Counts.{count-more, count-mono}
 use Rattle.lerc_header.specs.Shape.{cells, Shaped}
 use Rattle.lerc_mask.specs.Mask.{pixelValid, validBelow}
 use Rattle.lerc_image.specs.Geometry.{isValidCell}
@@ -83,23 +82,6 @@ cells-pasted im from base (suc n) h k =
     let rest : paste im base from n ≡ painted im (within base n) w = cells-pasted im from base n (omega arith) (omega arith) in
     let more : set (painted im (within base n) w) (base + n) (getD from n 0) ≡ painted im (within base (n + 1)) w = rw (e) at (cell-more im w base n l) in
     sym (paste-suc im base from n 0 l (omega arith)) ∙ rw (rest, ← add-one n) more
-
--- ---- as many as there are places hold: all do
-
-pub full-at : (n : ℕ) (f : ℕ → Bool) → count n f ≡ n → (i : ℕ) → i < n → f i ≡ true
-full-at zero f e i l = absurd (not-suc-le-zero l)
-full-at (suc n) f e i l = go (f n) refl (λ z j k. full-at n f z j k)
-  where
-    rest : (b : Bool) → f n ≡ b → count n f + cond b 1 0 ≡ suc n
-    rest b q = rw (← q) (sym (count-suc n f) ∙ e)
-
-    last : f n ≡ true → Dec (i < n) → ((j : ℕ) → j < n → f j ≡ true) → f i ≡ true
-    last q (yes d) below = below i d
-    last q (no d) below = let e : i ≡ n = omega arith in rw (e) q
-
-    go : (b : Bool) → f n ≡ b → (count n f ≡ n → (j : ℕ) → j < n → f j ≡ true) → f i ≡ true
-    go true q below = let r = rest true q in let z : count n f ≡ n = omega (arith, r) in last q (decLt i n) (below z)
-    go false q below = absurd (let r = rest false q in let z : 0 < 0 = omega (arith, r, count-le n f) in not-suc-le-zero z)
 
 -- ---- the valid cells below a pixel
 

@@ -7,6 +7,7 @@ pub mod Cursors
 pub mod WordsSum
 pub mod Fills
 pub mod Below
+pub mod Rows
 pub mod Front
 pub mod Reading
 pub mod Chain

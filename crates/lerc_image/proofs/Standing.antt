@@ -1,6 +1,7 @@
 -- A block at its position, and where a pass over the blocks stands before block n.
 -- Assumes nothing.
 use mathlib.Core.Path.{_≡_, _∙_, sym, ap}
+use mathlib.Core.Bool.{Bool}
 use mathlib.Core.List.{List}
 use Prim.Native.Nat.{ℕ, _+_, _≤_, _<_}
 use native.Mathlib.Omega.{arith}
@@ -9,49 +10,57 @@ use Rattle.lerc_header.specs.declared.Header.{Header}
 use Rattle.lerc_header.specs.declared.Extent.{Extent}
 use Rattle.lerc_header.specs.declared.Shape.{Shape}
 use Rattle.lerc_header.specs.Limits.{cellLimit, depthLimit}
-use Rattle.lerc_header.specs.Shape.{blockCount, cells}
+use Rattle.lerc_header.specs.Shape.{Shaped, pixels, blockCount, cells}
 use Rattle.lerc_header.specs.Header.{shapeOf}
 use Rattle.lerc_header.proofs.Sizes.{blocks-le}
-use Rattle.lerc_block.specs.Block.{blockSays}
+use Rattle.lerc_block.specs.Block.{blockSays, readBlockSays}
 use Rattle.lerc_block.specs.Plan.{planAt, planEnd}
 use Rattle.lerc_image.specs.declared.Tile.{Tile}
 use Rattle.lerc_image.specs.declared.Position.{Position}
 use Rattle.lerc_image.specs.Geometry.{HasTile, tileOf, tileHere, validInTile, positionOf, nextOf}
 use Rattle.lerc_image.specs.Blocks.{blockAt}
 use Rattle.lerc_image.specs.Tiles.{blockEnd}
-use Rattle.lerc_image.specs.Parts.{TileIn, BodyAsked, BlockHere, Asked}
+use Rattle.lerc_image.specs.Parts.{TileIn, BodyAsked, BlockTile, Asked, CountAsked, allValid}
 use Rattle.lerc_image.proofs.Partition.{tile-depth}
 use Rattle.lerc_image.proofs.Steps.{position-first, position-next, position-within, tile-here}
-use Rattle.lerc_image.proofs.Cursors.{tile-in}
+use Rattle.lerc_image.proofs.Cursors.{tile-in, valid-small}
+use Rattle.lerc_image.proofs.Rows.{Carried, carried-next, full-means}
+use Rattle.lerc_image.proofs.Reading.{read-block}
 
--- ---- a block at its position
+-- ---- a block and its tile
 
 pub asked-in : {h : Shape} {t : Tile} {n : ℕ} {start : List ℕ} → Asked h t n start → TileIn h t
 asked-in {h} {n = n} a = rw (a .tile) (tile-in h (a .shaped) n (a .below))
 
-module _ {h : Header} {shape : Shape} {n : ℕ} {p : Position} (b : BlockHere h shape n p) where
-  pub here-within : HasTile shape p
-  here-within = rw (b .position) (position-within shape (b .shaped) n (b .below))
+module _ {h : Header} {shape : Shape} {n : ℕ} {t : Tile} (b : BlockTile h shape n t) where
+  pub here-in : TileIn shape t
+  here-in = rw (b .tile) (tile-in shape (b .shaped) n (b .below))
 
-  module _ {t : Tile} (e : t ≡ tileHere shape p) where
-    here-is : t ≡ tileOf shape n
-    here-is = e ∙ ap (tileHere shape) (b .position) ∙ tile-here shape (b .shaped) n (b .below)
+  pub here-asked : {image : List ℕ} → cells shape ≤ length image → Asked shape t n image
+  here-asked r = record { shaped = b .shaped; below = b .below; tile = b .tile; room = r }
 
-    pub here-in : TileIn shape t
-    here-in = rw (here-is) (tile-in shape (b .shaped) n (b .below))
+  pub here-depth : t .d < depthLimit
+  here-depth = rw (b .tile) (omega (arith, tile-depth shape (b .shaped) n (b .below), b .shaped .depth .1))
 
-    pub here-asked : {image : List ℕ} → cells shape ≤ length image → Asked shape t n image
-    here-asked r = record { shaped = b .shaped; below = b .below; tile = here-is; room = r }
+  pub here-end : (s : List ℕ) (at : ℕ) (m : List ℕ) → planEnd (planAt s at (h .kind) (t .x) (validInTile shape m t)) ≡ blockEnd s h m n at
+  here-end s at m = rw (b .tile, b .same)
 
-    pub here-depth : t .d < depthLimit
-    here-depth = rw (here-is) (omega (arith, tile-depth shape (b .shaped) n (b .below), b .shaped .depth .1))
+  pub here-block : (s : List ℕ) (at : ℕ) (maxima m : List ℕ) → blockSays s at (h .kind) (h .error) (getD maxima (t .d) 0) (t .x) (validInTile shape m t) ≡ blockAt s h maxima m n at
+  unfolding blockAt
+  here-block s at maxima m = rw (b .tile, b .same)
 
-    pub here-end : (s : List ℕ) (at : ℕ) (m : List ℕ) → planEnd (planAt s at (h .kind) (t .x) (validInTile shape m t)) ≡ blockEnd s h m n at
-    here-end s at m = rw (here-is, b .same)
+  -- read with its tile's valid pixels, which are at most 256
+  pub here-read : (s : List ℕ) (at : ℕ) (maxima m : List ℕ) {valid : ℕ} → valid ≡ validInTile shape m t
+      → readBlockSays s at (h .kind) (h .error) (getD maxima (t .d) 0) (t .x) valid ≡ blockAt s h maxima m n at
+  here-read s at maxima m q = rw (q) (read-block _ _ _ _ _ _ _ (valid-small shape t here-in m) ∙ here-block s at maxima m)
 
-    pub here-block : (s : List ℕ) (at : ℕ) (maxima m : List ℕ) → blockSays s at (h .kind) (h .error) (getD maxima (t .d) 0) (t .x) (validInTile shape m t) ≡ blockAt s h maxima m n at
-    unfolding blockAt
-    here-block s at maxima m = rw (here-is, b .same)
+  -- counted once, the next block may have the same tile
+  pub here-carried : (m : List ℕ) {valid : ℕ} → valid ≡ validInTile shape m t → Carried shape m (n + 1) valid
+  here-carried m q = carried-next shape (b .shaped) m n _ (q ∙ ap (validInTile shape m) (b .tile))
+
+-- the tile at the position of block n
+pub tile-at : {shape : Shape} → Shaped shape → {n : ℕ} → n < blockCount shape → {p : Position} → p ≡ positionOf shape n → {t : Tile} → t ≡ tileHere shape p → t ≡ tileOf shape n
+tile-at {shape} s {n} l q e = e ∙ ap (tileHere shape) q ∙ tile-here shape s n l
 
 -- ---- before block n
 
@@ -68,6 +77,9 @@ module _ {h : Header} {e : Extent} (a : BodyAsked h e) where
   pub count-is : e .blocks ≡ blockCount (shapeOf h)
   count-is = ap (λ (x : Extent). x .blocks) (a .sizes)
 
+  pub pixels-are : e .pixels ≡ pixels (e .shape)
+  pixels-are = rw (a .sizes)
+
   pub cells-are : e .cells ≡ cells (shapeOf h)
   cells-are = ap (λ (x : Extent). x .cells) (a .sizes)
 
@@ -78,11 +90,23 @@ module _ {h : Header} {e : Extent} {p : Position} {n : ℕ} (w : Standing h e p 
   below : n < blockCount (e .shape)
   below = rw (w .asked .sizes) (rw (w .asked .sizes) at l)
 
-  pub standing-here : BlockHere h (e .shape) n p
-  standing-here = record { shaped = w .asked .shaped; same = shape-is (w .asked); below = below; position = w .here }
-
   pub standing-within : HasTile (e .shape) p
-  standing-within = here-within standing-here
+  standing-within = rw (w .here) (position-within (e .shape) (w .asked .shaped) n below)
+
+  pub standing-tile : {t : Tile} → t ≡ tileHere (e .shape) p → BlockTile h (e .shape) n t
+  standing-tile q = record { shaped = w .asked .shaped; same = shape-is (w .asked); below = below; tile = tile-at (w .asked .shaped) below (w .here) q }
+
+  -- its valid pixels can be asked for
+  pub standing-count : {t : Tile} → t ≡ tileHere (e .shape) p → {m : List ℕ} {full : Bool} {before : ℕ}
+      → full ≡ allValid (h .valid) (e .pixels) m → Carried (e .shape) m n before → CountAsked (e .shape) t m full before
+  unfolding tileOf
+  standing-count q {m} f c =
+      let b = standing-tile q in
+      record {
+        tile = here-in b;
+        all = λ z. rw (pixels-are (w .asked)) at (full-means (h .valid) (e .pixels) m (sym f ∙ z));
+        same = λ z. rw (b .tile) (c .same (rw (b .tile) at z));
+      }
 
   pub standing-few : n < cellLimit
   standing-few = omega (arith, below, blocks-le (e .shape) (w .asked .shaped), w .asked .shaped .few)

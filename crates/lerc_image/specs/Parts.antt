@@ -2,24 +2,24 @@
 -- Assumes nothing.
 use Prim.Native.Nat.{ℕ, _+_, _-_, _%_, _≤_, _<_}
 use mathlib.Core.Path.{_≡_}
-use mathlib.Core.Bool.{cond}
+use mathlib.Core.Bool.{Bool, true, cond, _&&_}
 use mathlib.Core.List.{List}
 use lib.ListN.{length}
-use lib.Dec.{ltb}
+use lib.Dec.{ltb, eqb}
 use Rattle.lerc_words.specs.Res.{Res, ok, _>>=_, after}
 use Rattle.lerc_words.specs.Lists.{over}
 use Rattle.lerc_header.specs.declared.Header.{Header}
 use Rattle.lerc_header.specs.declared.Shape.{Shape}
 use Rattle.lerc_header.specs.declared.Extent.{Extent}
 use Rattle.lerc_header.specs.Header.{shapeOf, extentOf}
-use Rattle.lerc_header.specs.Shape.{Shaped, cells, blockCount}
+use Rattle.lerc_header.specs.Shape.{Shaped, pixels, cells, blockCount}
+use Rattle.lerc_mask.specs.Mask.{validBelow}
 use Rattle.lerc_block.specs.Block.{Block, tileLimit}
 use Rattle.lerc_image.specs.declared.Tile.{Tile}
-use Rattle.lerc_image.specs.declared.Position.{Position}
 use Rattle.lerc_image.specs.declared.Cursor.{Cursor}
 use Rattle.lerc_image.specs.declared.FillAnswer.{FillAnswer}
 use Rattle.lerc_image.specs.declared.WalkAnswer.{WalkAnswer}
-use Rattle.lerc_image.specs.Geometry.{tileOf, tileSize, pixelOf, validInTile, positionOf}
+use Rattle.lerc_image.specs.Geometry.{tileOf, tileSize, pixelOf, validInTile}
 use Rattle.lerc_image.specs.Paint.{scattered}
 use Rattle.lerc_image.specs.Blocks.{Chain}
 use Rattle.lerc_image.specs.Fill.{fillSaid}
@@ -39,14 +39,24 @@ pub record BodyAsked (h : Header) (e : Extent) : Type 0 where
   pub shaped : Shaped (e .shape)
   pub sizes : e ≡ extentOf h
 
--- block n, whose position is p
-pub record BlockHere (h : Header) (shape : Shape) (n : ℕ) (p : Position) : Type 0 where
+-- every pixel is valid, by the header and by the mask
+unfoldable pub allValid : ℕ → ℕ → List ℕ → Bool
+allValid valid pixels m = eqb valid pixels && eqb (validBelow pixels m) pixels
+
+-- a tile whose valid pixels are asked for: `full` is said only where every pixel is valid, and above depth 0 the block before has the same tile
+pub record CountAsked (h : Shape) (t : Tile) (m : List ℕ) (full : Bool) (before : ℕ) : Type 0 where
+  pub tile : TileIn h t
+  pub all : full ≡ true → validBelow (pixels h) m ≡ pixels h
+  pub same : 0 < t .d → before ≡ validInTile h m t
+
+-- block n of a header, whose tile is t
+pub record BlockTile (h : Header) (shape : Shape) (n : ℕ) (t : Tile) : Type 0 where
   pub shaped : Shaped shape
   pub same : shape ≡ shapeOf h
   pub below : n < blockCount shape
-  pub position : p ≡ positionOf shape n
+  pub tile : t ≡ tileOf shape n
 
--- block n, whose tile is t
+-- block n, whose tile is t, and room for its cells
 pub record Asked (h : Shape) (t : Tile) (n : ℕ) (image : List ℕ) : Type 0 where
   pub shaped : Shaped h
   pub below : n < blockCount h

@@ -8,9 +8,11 @@ ghost use Rattle.lerc_image.specs.Tiles.{checkedTiles, listedTiles, list
 ghost use Rattle.lerc_image.specs.Parts.{BodyAsked};
 use super::Position;
 use super::WalkAnswer;
+use super::all_valid;
 use super::check_blocks;
 use super::fill_at;
 use super::list_starts;
+use super::valid_here;
 use lerc_header::DEPTHS;
 use lerc_header::Extent;
 use lerc_header::Header;
@@ -33,8 +35,13 @@ fn fill_listed(
     let shape = e.shape;
     let mut p = Position::start();
     let mut n: usize = 0;
+    let full = all_valid(h.valid, e.pixels, mask);
+    let mut valid: usize = 0;
     while n < e.blocks {
-        let _filled = fill_at(s, list[n], h, shape, n, p, maxima, mask, &mut image[..]);
+        let t = p.current(shape);
+        valid = valid_here(shape, t, mask, full, valid);
+        let at = list[n];
+        let _filled = fill_at(s, at, h, shape, n, t, valid, maxima, mask, &mut image[..]);
         p = p.advance(shape);
         n += 1;
     }

@@ -7,10 +7,11 @@ ghost use Rattle.lerc_header.specs.Shape.{Shaped, blockCount, cells};
 ghost use Rattle.lerc_image.specs.Geometry.{HasTile, tileHere, nextOf, positionOf, validInTile};
 ghost use Rattle.lerc_image.specs.Fill.{Filled, refusalOfFill};
 ghost use Rattle.lerc_image.specs.Blocks.{blockAt, allBlocks};
+ghost use Rattle.lerc_header.specs.Limits.{depthLimit};
 ghost use Rattle.lerc_image.specs.Walk.{BlocksWalked, bodyWalked, walkSaid, walkOf, refusalOfWalk};
 ghost use Rattle.lerc_image.specs.Tiles.{headStarts};
-ghost use Rattle.lerc_image.specs.Parts.{TileIn, BodyAsked, BlockHere, Asked, FillAsked, cursorOf, cursorNext, BlockScattered, BlockFilled, BodyListed};
-ghost use Rattle.lerc_block.specs.Block.{BlockRead, blockSaid, blockSays, nextBlock};
+ghost use Rattle.lerc_image.specs.Parts.{TileIn, BodyAsked, Asked, allValid, CountAsked, BlockTile, FillAsked, cursorOf, cursorNext, BlockScattered, BlockFilled, BodyListed};
+ghost use Rattle.lerc_block.specs.Block.{blockSaid, blockSays, readBlockSays, nextBlock};
 ghost use Rattle.lerc_block.specs.Plan.{planAt, planEnd};
 use lerc_block::BlockAnswer;
 use lerc_header::DEPTHS;
@@ -197,23 +198,44 @@ impl Cursor {
     }
 }
 
-// How many pixels of a tile are valid.
+// How many pixels of a tile are valid, row by row.
 fn count_valid(h: Shape, t: Tile, mask: &[u8]) -> usize
     requires { ⌜ TileIn h t ⌝ }
     ensures { λ r. ⌜ r ≡ validInTile h (now (mask .entry)) t ⌝ }
 {
-    let pixels = t.h * t.w;
-    let mut here = Cursor::first(h, t);
-    let mut place: usize = 0;
+    let mut first = t.y * h.columns + t.x;
+    let mut row: usize = 0;
     let mut found: usize = 0;
-    while place < pixels {
-        if lerc_mask::is_valid(mask, here.pixel) {
-            found += 1;
-        }
-        here = here.step(t.w, h.columns);
-        place += 1;
+    while row < t.h {
+        found += lerc_mask::count_from(mask, first, t.w);
+        first += h.columns;
+        row += 1;
     }
     found
+}
+
+// Every pixel is valid. Only where the header says so is the mask counted.
+fn all_valid(valid: u32, pixels: usize, mask: &[u8]) -> bool
+    ensures { λ r. ⌜ r ≡ allValid valid pixels (now (mask .entry)) ⌝ }
+{
+    if valid as usize != pixels {
+        return false;
+    }
+    lerc_mask::count(mask, pixels) == pixels
+}
+
+// How many pixels of a tile are valid: above depth 0 as many as `before`, those of the block before, which has the same tile.
+fn valid_here(h: Shape, t: Tile, mask: &[u8], full: bool, before: usize) -> usize
+    requires { ⌜ CountAsked h t (now mask) full before ⌝ }
+    ensures { λ r. ⌜ r ≡ validInTile h (now (mask .entry)) t ⌝ }
+{
+    if 0 < t.d {
+        return before;
+    }
+    if full {
+        return t.h * t.w;
+    }
+    count_valid(h, t, mask)
 }
 
 // The words of block `number`, whose tile is `t`, at its valid cells; how many.
@@ -243,68 +265,52 @@ fn scatter(
     used
 }
 
-// The block of tile `t` at a place: its words, and where the next begins.
-fn read_tile(
-    s: &[u8],
-    at: usize,
-    c: Coding,
-    h: Shape,
-    t: Tile,
-    mask: &[u8],
-    words: &mut [u64; 256],
-) -> BlockAnswer
-    requires { ⌜ TileIn h t ⌝ }
-    ensures { λ r. ⌜ BlockRead (blockSays (now (s .entry)) at (c .kind) (c .error) (c .maximum) (t .x) (validInTile h (now (mask .entry)) t)) r (now (words .entry)) (now (words .exit)) ⌝ }
-{
-    let n = count_valid(h, t, mask);
-    lerc_block::read_block(s, at, c.kind, c.error, c.maximum, t.x, n, words)
-}
-
-// Block `number`, whose tile is `t`, at a place: its words to the image once it is accepted.
+// Block `number`, whose tile is `t` with `valid` valid pixels, at a place: its words to the image once it is accepted.
 fn fill_tile(
     s: &[u8],
     at: usize,
     c: Coding,
     h: Shape,
     t: Tile,
+    valid: usize,
     number: usize,
     mask: &[u8],
     image: &mut [u64],
 ) -> FillAnswer
-    requires { ⌜ Asked h t number (now image) ⌝ }
+    requires { ⌜ Asked h t number (now image) × (valid ≡ validInTile h (now mask) t) ⌝ }
     ensures { λ r. ⌜ BlockFilled h (now (mask .entry)) number (blockSays (now (s .entry)) at (c .kind) (c .error) (c .maximum) (t .x) (validInTile h (now (mask .entry)) t)) r (now (image .entry)) (now (image .exit)) ⌝ }
 {
     let mut words = [0u64; 256];
-    let got = read_tile(s, at, c, h, t, mask, &mut words);
+    let got = lerc_block::read_block(s, at, c.kind, c.error, c.maximum, t.x, valid, &mut words);
     let BlockAnswer::Block(_next) = got else {
         return FillAnswer::Refused(got.refusal());
     };
     FillAnswer::Filled(scatter(h, t, number, mask, &words, &mut image[..]))
 }
 
-// Block n at a place, where p is its position: its words to the image once it is accepted.
+// Block n at a place, whose tile is `t` with `valid` valid pixels: its words to the image once it is accepted.
 fn fill_at(
     s: &[u8],
     at: usize,
     h: Header,
     shape: Shape,
     n: usize,
-    p: Position,
+    t: Tile,
+    valid: usize,
     maxima: &[u64; DEPTHS],
     mask: &[u8],
     image: &mut [u64],
 ) -> FillAnswer
-    requires { ⌜ (BlockHere h shape n p) × (cells shape ≤ length (now image)) ⌝ }
+    requires { ⌜ (BlockTile h shape n t) × (valid ≡ validInTile shape (now mask) t) × (cells shape ≤ length (now image)) ⌝ }
     ensures { λ r. ⌜ BlockFilled shape (now (mask .entry)) n (blockAt (now (s .entry)) h (now (maxima .entry)) (now (mask .entry)) n at) r (now (image .entry)) (now (image .exit)) ⌝ }
 {
-    let t = p.current(shape);
     let depth = t.d;
     let c = Coding {
         kind: h.kind,
         error: h.error,
         maximum: maxima[depth],
     };
-    fill_tile(s, at, c, shape, t, n, mask, &mut image[..])
+    fill_tile(s, at, c, shape, t, valid, n, mask, &mut image[..])
 }
 
 // Block `number` at its listed start, of a blob whose header is held.
@@ -326,7 +332,20 @@ fn fill_number(
     let at = list[number];
     let shape = e.shape;
     let p = Position::of(shape, number);
-    fill_at(s, at, h, shape, number, p, maxima, mask, &mut image[..])
+    let t = p.current(shape);
+    let valid = count_valid(shape, t, mask);
+    fill_at(
+        s,
+        at,
+        h,
+        shape,
+        number,
+        t,
+        valid,
+        maxima,
+        mask,
+        &mut image[..],
+    )
 }
 
 // Block `number` of a blob, at its listed start; the image is written once the block is accepted.
@@ -359,24 +378,20 @@ pub fn fill(
     fill_number(blob, h, e, &ranges.max, mask, list, number, &mut image[..])
 }
 
-// Block n at a place, where p is its position, as it is judged: where the next begins.
+// The block of a tile with `valid` valid pixels at a place, as it is judged: where the next begins.
 fn check_at(
     s: &[u8],
     at: usize,
     h: Header,
-    shape: Shape,
-    n: usize,
-    p: Position,
+    t: Tile,
+    valid: usize,
     maxima: &[u64; DEPTHS],
-    mask: &[u8],
 ) -> BlockAnswer
-    requires { ⌜ BlockHere h shape n p ⌝ }
-    ensures { λ r. ⌜ blockSaid r ≡ nextBlock (blockAt (now (s .entry)) h (now (maxima .entry)) (now (mask .entry)) n at) ⌝ }
+    requires { ⌜ t .d < depthLimit ⌝ }
+    ensures { λ r. ⌜ blockSaid r ≡ nextBlock (readBlockSays (now (s .entry)) at (h .kind) (h .error) (getD (now (maxima .entry)) (t .d) 0) (t .x) valid) ⌝ }
 {
-    let t = p.current(shape);
     let plane = t.d;
     let top = maxima[plane];
-    let valid = count_valid(shape, t, mask);
     lerc_block::check_block(s, at, h.kind, h.error, top, t.x, valid)
 }
 
@@ -396,8 +411,12 @@ fn check_blocks(
     let mut p = Position::start();
     let mut n: usize = 0;
     let mut next = at;
+    let full = all_valid(h.valid, e.pixels, mask);
+    let mut valid: usize = 0;
     while n < e.blocks {
-        let got = check_at(s, next, h, shape, n, p, maxima, mask);
+        let t = p.current(shape);
+        valid = valid_here(shape, t, mask, full, valid);
+        let got = check_at(s, next, h, t, valid, maxima);
         let BlockAnswer::Block(end) = got else {
             return WalkAnswer::Refused(got.refusal());
         };

@@ -1,19 +1,19 @@
 -- Laws of pixels and of the count of those that are valid.
 -- Assumes nothing.
-use mathlib.Core.Path.{_≡_, refl, ap, _∙_}
-use mathlib.Core.Bool.{true, false, cond}
+use mathlib.Core.Path.{_≡_, refl, sym, ap, _∙_}
+use mathlib.Core.Bool.{Bool, true, false, cond}
 use mathlib.Core.List.{List}
 use Prim.Native.Nat.{ℕ, zero, suc, _+_, _-_, _*_, _/_, _%_, _^_, _≤_, _<_}
 use native.Mathlib.Decide.{decLt}
 use native.Mathlib.Omega.{arith}
 use native.Mathlib.Nat.{add-zero, add-suc, zero-div, zero-mod}
 use lib.Dec.{eqb}
-use lib.ListN.{length, getD, take, replicate, length-replicate, getD-replicate, List·getD-eq-default}
-use lib.Seq.{getD-take}
-use Rattle.lerc_words.specs.Lists.{allTo}
+use lib.ListN.{length, getD, take, drop, replicate, length-replicate, getD-replicate, List·getD-eq-default}
+use lib.Seq.{getD-take, getD-drop}
+use Rattle.lerc_words.specs.Lists.{allTo, count}
 use Rattle.lerc_words.proofs.Tables.{all-each}
-use Rattle.lerc_words.proofs.Counts.{count-suc, count-same, count-le, count-all, count-none}
-use Rattle.lerc_mask.specs.Mask.{bit, pixelValid, validBelow}
+use Rattle.lerc_words.proofs.Counts.{count-suc, count-same, count-le, count-plus, count-all, count-none}
+use Rattle.lerc_mask.specs.Mask.{bit, pixelValid, validBelow, validFrom}
 
 -- ---- one pixel
 
@@ -39,11 +39,13 @@ bit-is zero h = refl
 bit-is (suc zero) h = refl
 bit-is (suc (suc x)) h = absurd (omega arith)
 
-pub valid-suc : (p : ℕ) (m : List ℕ) → validBelow (suc p) m ≡ validBelow p m + bit m p
+-- a pixel counts as its bit
+valid-one : (p : ℕ) (m : List ℕ) → cond (pixelValid m p) 1 0 ≡ bit m p
 unfolding pixelValid
-valid-suc p m =
-    let h : bit m p < 2 = omega arith in
-    count-suc p (pixelValid m) ∙ ap (λ (x : ℕ). validBelow p m + x) (bit-is (bit m p) h)
+valid-one p m = let h : bit m p < 2 = omega arith in bit-is (bit m p) h
+
+valid-suc : (p : ℕ) (m : List ℕ) → validBelow (suc p) m ≡ validBelow p m + bit m p
+valid-suc p m = count-suc p (pixelValid m) ∙ ap (λ (x : ℕ). validBelow p m + x) (valid-one p m)
 
 pub valid-le : (p : ℕ) (m : List ℕ) → validBelow p m ≤ p
 valid-le p m = count-le p (pixelValid m)
@@ -57,6 +59,37 @@ valid-past m p (suc q) h =
 -- only the bytes that hold the pixels matter
 pub valid-take : (pixels k : ℕ) (m : List ℕ) → pixels ≤ 8 * k → validBelow pixels (take k m) ≡ validBelow pixels m
 valid-take pixels k m h = count-same pixels (pixelValid (take k m)) (pixelValid m) (λ i l. pixel-take k m i (omega arith))
+
+-- ---- how many are valid from a pixel on
+
+pub from-suc : (p n : ℕ) (m : List ℕ) → validFrom p (suc n) m ≡ validFrom p n m + bit m (p + n)
+from-suc p n m = count-suc n _ ∙ ap (λ (x : ℕ). validFrom p n m + x) (valid-one (p + n) m)
+
+-- before and behind a pixel
+pub valid-split : (p a b : ℕ) (m : List ℕ) → validFrom p (a + b) m ≡ validFrom p a m + validFrom (p + a) b m
+valid-split p a b m =
+    let f : ℕ → Bool = λ i. pixelValid m (p + i) in
+    let e : a + b ≡ b + a = omega arith in
+    let move : count b (λ i. f (i + a)) ≡ validFrom (p + a) b m = count-same b _ _ (λ i l. let z : p + (i + a) ≡ p + a + i = omega arith in rw (z)) in
+    rw (e, count-plus a b f, move)
+
+pub valid-upto : (p n : ℕ) (m : List ℕ) → validBelow (p + n) m ≡ validBelow p m + validFrom p n m
+valid-upto p n m =
+    let zero-on : (k : ℕ) → validFrom 0 k m ≡ validBelow k m = λ k. count-same k _ _ (λ i l. let z : 0 + i ≡ i = omega arith in rw (z)) in
+    let z : 0 + p ≡ p = omega arith in
+    sym (zero-on (p + n)) ∙ valid-split 0 p n m ∙ rw (zero-on p, z)
+
+-- behind whole bytes
+pub valid-drop : (k n : ℕ) (m : List ℕ) → validBelow n (drop k m) ≡ validFrom (8 * k) n m
+unfolding pixelValid
+valid-drop k n m = count-same n _ _ (λ i l.
+    let d : (8 * k + i) / 8 ≡ k + i / 8 = omega arith in
+    let r : (8 * k + i) % 8 ≡ i % 8 = omega arith in
+    rw (d, r, getD-drop))
+
+-- past the end
+pub valid-beyond : (p n : ℕ) (m : List ℕ) → 8 * length m ≤ p → validFrom p n m ≡ 0
+valid-beyond p n m h = count-none n _ (λ i l. pixel-past m (p + i) (omega arith))
 
 -- ---- "Valid 0 gives all 0, valid = pixels all 255"
 

@@ -28,6 +28,10 @@ pixelValid m p = eqb (bit m p) 1
 abbrev pub validBelow : ℕ → List ℕ → ℕ
 validBelow n m = count n (pixelValid m)
 
+-- how many of the n pixels from `first` on are valid
+abbrev pub validFrom : ℕ → ℕ → List ℕ → ℕ
+validFrom first n m = count n (λ i. pixelValid m (first + i))
+
 -- "Length is (pixels+7)/8."
 abbrev pub maskBytes : ℕ → ℕ
 maskBytes pixels = (pixels + 7) / 8

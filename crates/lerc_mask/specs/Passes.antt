@@ -1,8 +1,8 @@
 -- What private functions promise; not part of the rules.
--- The two passes over the runs of a section, run by run.
+-- Bits of bytes, and the two passes over the runs of a section, run by run.
 -- Assumes nothing.
 use Prim.{Unit}
-use Prim.Native.Nat.{ℕ, _+_, _-_, _*_, _^_, _≤_, _<_}
+use Prim.Native.Nat.{ℕ, _+_, _-_, _*_, _/_, _%_, _^_, _≤_, _<_}
 use mathlib.Core.Path.{_≡_}
 use mathlib.Core.List.{List, [], _∷_}
 use lib.ListN.{length, getD, take}
@@ -16,6 +16,10 @@ use Rattle.lerc_mask.specs.declared.Went.the-variants as went
 use Rattle.lerc_mask.specs.declared.Put.{Put}
 use Rattle.lerc_mask.specs.declared.Put.the-variants as put
 use Rattle.lerc_mask.specs.Mask.{stepAt, onStep}
+
+-- n bits of a byte as a number, those behind its first `skip`
+unfoldable pub bitsOf : ℕ → ℕ → ℕ → ℕ
+bitsOf x skip n = x / 2 ^ (8 - skip - n) % 2 ^ n
 
 -- the set bits of a list of bytes
 unfoldable pub onesAll : List ℕ → ℕ

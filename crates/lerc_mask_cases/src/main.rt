@@ -1,5 +1,6 @@
 // Heads of blobs, header and mask section, made by Esri's encoder (liblerc 4.0.0) or by hand: data/names says which.
-// Prints for each the mask in force: reused or new, its length, how many pixels are valid, and a sum over these.
+// Prints for each the mask in force: reused or new, its length, how many pixels are valid, a sum over these, and one over
+// how many are valid in each of many parts.
 // `stdout` has the same of the mask that Esri's decoder gives, and of those by hand what the rules give: tests/mask/make.py wrote it.
 ghost use Prim.Native.Nat.{_≤_};
 use lerc_header::Header;
@@ -32,6 +33,18 @@ fn sum_of(mask: &[u8], pixels: usize) -> usize {
     sum
 }
 
+// how many pixels are valid in parts of 1 to 20 pixels, one from each pixel on
+fn parts_of(mask: &[u8], pixels: usize) -> usize {
+    let mut sum = 0;
+    let mut p = 0;
+    while p < pixels {
+        let n = lesser(p % 20 + 1, pixels - p);
+        sum = (sum * 31 + lerc_mask::count_from(mask, p, n) % 65536) % 1000003;
+        p += 1;
+    }
+    sum
+}
+
 fn print_mask(mask: &[u8], h: Header) {
     let rows = h.rows as usize;
     let columns = h.columns as usize;
@@ -39,6 +52,7 @@ fn print_mask(mask: &[u8], h: Header) {
     print(b" bytes ", mask.len());
     print(b" valid ", lerc_mask::count(mask, pixels));
     print(b" sum ", sum_of(mask, pixels));
+    print(b" parts ", parts_of(mask, pixels));
 }
 
 fn lesser(a: usize, b: usize) -> usize

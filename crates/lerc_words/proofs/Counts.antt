@@ -4,7 +4,7 @@ use mathlib.Core.Path.{_≡_, _∙_, sym, refl}
 use mathlib.Core.Bool.{Bool, true, false, cond}
 use mathlib.Core.Logic.{_≢_}
 use Prim.Native.Nat.{ℕ, zero, suc, _+_, _-_, _*_, _/_, _≤_, _<_}
-use native.Mathlib.Nat.{suc-mul, zero-mul}
+use native.Mathlib.Nat.{suc-mul, zero-mul, not-suc-le-zero}
 use native.Mathlib.Decide.{decLt}
 use lib.Arith.{digits-div}
 use native.Mathlib.Numerals.{add-one}
@@ -114,3 +114,19 @@ pub count-all : (n : ℕ) (p : ℕ → Bool) → ((i : ℕ) → i < n → p i �
 unfolding count
 count-all zero p h = refl
 count-all (suc n) p h = rw (h n (omega arith), count-all n p (λ i l. h i (omega arith))) (omega arith)
+
+-- as many as there are places: all have the property
+pub count-full : (n : ℕ) (f : ℕ → Bool) → count n f ≡ n → (i : ℕ) → i < n → f i ≡ true
+count-full zero f e i l = absurd (not-suc-le-zero l)
+count-full (suc n) f e i l = go (f n) refl (λ z j k. count-full n f z j k)
+  where
+    rest : (b : Bool) → f n ≡ b → count n f + cond b 1 0 ≡ suc n
+    rest b q = rw (← q) (sym (count-suc n f) ∙ e)
+
+    last : f n ≡ true → Dec (i < n) → ((j : ℕ) → j < n → f j ≡ true) → f i ≡ true
+    last q (yes d) below = below i d
+    last q (no d) below = let e : i ≡ n = omega arith in rw (e) q
+
+    go : (b : Bool) → f n ≡ b → (count n f ≡ n → (j : ℕ) → j < n → f j ≡ true) → f i ≡ true
+    go true q below = let r = rest true q in let z : count n f ≡ n = omega (arith, r) in last q (decLt i n) (below z)
+    go false q below = absurd (let r = rest false q in let z : 0 < 0 = omega (arith, r, count-le n f) in not-suc-le-zero z)

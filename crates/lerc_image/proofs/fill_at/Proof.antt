@@ -1,33 +1,25 @@
 use mathlib.Core.Path.{sym}
 use native.Mathlib.Omega.{arith}
 use denote.Ref.{now}
-use Rattle.lerc_image.proofs.Standing.{here-within, here-depth, here-asked, here-block}
+use Rattle.lerc_image.proofs.Standing.{here-depth, here-asked, here-block}
 use borrow.Author.Needs.{needs}
 use Rattle.lerc_image.proofs.fill_at.Statement.{statement}
 use Rattle.lerc_image.proofs.fill_at.Tie as tie
 
-current-requires : tie.Need-current-requires
-current-requires c κs = let b = c .before .before .before .pre .0 in (b .shaped, here-within b)
-
 mul-t13 : tie.Need-mul-t13
-mul-t13 c = omega (arith, here-depth (c .before .before .before .before .pre .0) (c .current .ensures))
+mul-t13 c = omega (arith, here-depth (c .before .before .before .pre .0))
 
 element-copy-out-t16 : tie.Need-element-copy-out-t16
-element-copy-out-t16 c = omega (arith, here-depth (c .before .before .before .before .pre .0) (c .current .ensures))
+element-copy-out-t16 c = omega (arith, here-depth (c .before .before .before .pre .0))
 
 fill-tile-requires : tie.Need-fill-tile-requires
-fill-tile-requires c κs =
-    let b = c .before .before .before .before .before .before .pre in
-    here-asked (b .0) (c .before .before .current .ensures) (b .1)
+fill-tile-requires c κs = let b = c .before .before .before .before .before .pre in (here-asked (b .0) (b .2), b .1)
 
 returns : tie.Need-returns
 returns c =
-    let t = c .before .before .before .before .before in
-    let i = t .before .before .before .before in
+    let i = c .before .before .before .before .before .before .before .before in
     let a = i .args in
-    rw (sym (here-block (i .pre .0) (t .current .ensures) (now (a .s)) (a .at) (now (a .maxima)) (now (a .mask)))) (c .before .before .fill-tile .ensures)
+    rw (sym (here-block (i .pre .0) (now (a .s)) (a .at) (now (a .maxima)) (now (a .mask)))) (c .before .before .fill-tile .ensures)
 
 pub fill-at-spec : {M : Type 1} → statement M
-fill-at-spec =
-    tie.close
-    (tie.spec current-requires mul-t13 element-copy-out-t16 fill-tile-requires (λ c. search needs) returns)
+fill-at-spec = tie.close (tie.spec mul-t13 element-copy-out-t16 fill-tile-requires (λ c. search needs) returns)

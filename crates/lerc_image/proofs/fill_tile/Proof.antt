@@ -1,35 +1,43 @@
+use Prim.Native.Nat.{_≤_}
 use mathlib.Core.Path.{_∙_, ap}
 use denote.Ref.{now}
-use Rattle.lerc_block.specs.Block.{refusalOfBlock}
+use Rattle.lerc_block.specs.Block.{tileLimit, refusalOfBlock}
 use Rattle.lerc_block.proofs.Accepted.{block-words}
 use Rattle.lerc_image.specs.Geometry.{validInTile}
+use Rattle.lerc_image.proofs.Cursors.{valid-small}
 use Rattle.lerc_image.proofs.Standing.{asked-in}
-use Rattle.lerc_image.proofs.Reading.{fill-refused, fill-accepted}
+use Rattle.lerc_image.proofs.Reading.{read-block, fill-refused, fill-accepted}
 use borrow.Author.Needs.{needs}
 use Rattle.lerc_image.proofs.fill_tile.Statement.{statement}
 use Rattle.lerc_image.proofs.fill_tile.Tie as tie
 
-read-tile-requires : tie.Need-read-tile-requires
-read-tile-requires c κs = asked-in (c .before .before .before .before .pre)
+-- a block of so many words is read as it is
+few : (c : tie.After-read-block) → let b = c .before .before .before .before .before in validInTile (b .args .h) (now (b .args .mask)) (b .args .t) ≤ tileLimit
+few c = let b = c .before .before .before .before .before in valid-small (b .args .h) (b .args .t) (asked-in (b .pre .0)) (now (b .args .mask))
 
 returns : tie.Need-returns
 returns c =
     let told = c .before .enum-told .given .1 in
-    rw (c .refusal .ensures ∙ ap refusalOfBlock told) (fill-refused (c .before .before .before .read-tile .ensures) _ _ _ told)
+    let r = c .before .before .before in
+    let b = r .before .before .before .before .before in
+    let read = rw (b .pre .1, read-block _ _ _ _ _ _ _ (few r)) at (r .read-block .ensures) in
+    rw (c .refusal .ensures ∙ ap refusalOfBlock told) (fill-refused read _ _ _ told)
 
 returns-2 : tie.Need-returns-2
 returns-2 c =
     let g = c .before .before .before .before .before .before in
-    let b = g .before .before .before .before .before .before .before in
-    let a = b .pre in
-    fill-accepted (g .before .before .read-tile .ensures) (b .args .h) (a .shaped) (now (b .args .mask)) (b .args .number) (a .below) (g .got .given .1)
+    let r = g .before .before in
+    let b = r .before .before .before .before .before in
+    let a = b .pre .0 in
+    let read = rw (b .pre .1, read-block _ _ _ _ _ _ _ (few r)) at (r .read-block .ensures) in
+    fill-accepted read (b .args .h) (a .shaped) (now (b .args .mask)) (b .args .number) (a .below) (g .got .given .1)
     (λ k e. block-words _ _ _ _ _ _ _ e ∙ ap (validInTile (b .args .h) (now (b .args .mask))) (a .tile)) (c .before .before .scatter .ensures)
 
 pub fill-tile-spec : {M : Type 1} → statement M
 fill-tile-spec =
     tie.close
     (tie.spec
-    read-tile-requires
+    (λ c κs. search needs)
     (λ c. search needs)
     (λ c. search needs)
     (λ c κs. search needs)

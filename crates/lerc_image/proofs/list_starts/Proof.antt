@@ -7,7 +7,7 @@ use lib.ListN.{length-set}
 use borrow.Author.Needs.{needs}
 use Rattle.lerc_block.specs.Block.{blockSaid}
 use Rattle.lerc_image.specs.Tiles.{blockEnd}
-use Rattle.lerc_image.proofs.Standing.{here-in, here-end, Standing, standing-none, standing-here, standing-within, standing-few, standing-next}
+use Rattle.lerc_image.proofs.Standing.{here-in, here-end, Standing, standing-none, standing-tile, standing-within, standing-few, standing-next}
 use Rattle.lerc_image.proofs.list_starts.Proof.Turn.{Listing, listing-none, listing-all, listing-no, listing-next}
 use Rattle.lerc_image.proofs.list_starts.Statement.{statement}
 use Rattle.lerc_image.proofs.list_starts.Tie as tie
@@ -25,7 +25,7 @@ ends : (c : tie.After-end-at Inv-loop μ-loop) →
     blockSaid (c .end-at .result) ≡ blockEnd (now (a .s)) (a .h) (now (a .mask)) (b .loop .k) (b .loop .start)
 ends c =
     let i = c .before .before .before .before .loop .inv in
-    c .end-at .ensures ∙ here-end (standing-here (i .0) (c .before .before .if1 .taken)) (c .before .current .ensures) _ _ _
+    c .end-at .ensures ∙ here-end (standing-tile (i .0) (c .before .before .if1 .taken) (c .before .current .ensures)) _ _ _
 
 loop-holds : tie.Need-loop-holds Inv-loop μ-loop
 loop-holds c =
@@ -42,7 +42,7 @@ current-requires : tie.Need-current-requires Inv-loop μ-loop
 current-requires c κs = let w = c .before .before .loop .inv .0 in (w .asked .shaped, standing-within w (c .if1 .taken))
 
 end-at-requires : tie.Need-end-at-requires Inv-loop μ-loop
-end-at-requires c κs = here-in (standing-here (c .before .before .before .loop .inv .0) (c .before .if1 .taken)) (c .current .ensures)
+end-at-requires c κs = here-in (standing-tile (c .before .before .before .loop .inv .0) (c .before .if1 .taken) (c .current .ensures))
 
 same-length : tie.Need-same-length Inv-loop μ-loop
 same-length c = simp length-set (c .before .before .before .before .before .before .loop .inv .1 .long)

@@ -21,7 +21,7 @@ returns c =
 
 add-result : tie.Need-add-result
 add-result c =
-    omega (arith, c .leading .ensures .1, c .before .before .ones-in2 .ensures .1)
+    omega (arith, c .ones-cut .ensures .1, c .before .before .ones-in2 .ensures .1)
 
 returns-2 : tie.Need-returns-2
 returns-2 c =
@@ -29,7 +29,7 @@ returns-2 c =
     let m = now (a .mask) in
     let b : Bytes m = λ i. omega (arith, c .before .before .before .before .shared-slice-known .given i) in
     let e : a .pixels ≡ 8 * (a .pixels / 8) + a .pixels % 8 = omega arith in
-    rw (c .before .before .ones-in2 .ensures .0, c .leading .ensures .0, ← valid-bytes m (a .pixels / 8) b (omega arith)) (sym (valid-byte m (a .pixels / 8) (a .pixels % 8) b (omega arith)) ∙ ap (λ (x : ℕ). validBelow x m) (sym e))
+    rw (c .before .before .ones-in2 .ensures .0, c .ones-cut .ensures .0, ← valid-bytes m (a .pixels / 8) b (omega arith)) (sym (valid-byte m (a .pixels / 8) (a .pixels % 8) (omega arith)) ∙ ap (λ (x : ℕ). validBelow x m) (sym e))
 
 pub count-spec : {M : Type 1} → statement M
 count-spec =

@@ -1,12 +1,13 @@
 use borrow.Author.Needs.{needs}
-use Prim.Native.Nat.{_≤_, _<_, _-_, _*_}
-use mathlib.Core.Path.{_≡_, sym, refl}
+use Prim.Native.Nat.{_≤_, _+_, _-_, _*_}
+use mathlib.Core.Path.{_≡_, _∙_, sym, ap, refl}
 use native.Mathlib.Omega.{arith}
 use denote.Ref.{now}
-use lib.ListN.{length, take, drop, length-drop}
-use lib.Seq.{getD-drop}
-use Rattle.lerc_mask.proofs.Tally.{all-take}
+use lib.Count.{ones}
+use lib.ListN.{length, take, drop}
+use Rattle.lerc_words.proofs.Little.{Bytes}
 use Rattle.lerc_mask.specs.Passes.{onesAll}
+use Rattle.lerc_mask.proofs.Tally.{all-more, all-rest}
 use Rattle.lerc_mask.proofs.ones_in.Statement.{statement}
 use Rattle.lerc_mask.proofs.ones_in.Tie as tie
 
@@ -18,12 +19,10 @@ abbrev μ-loop : tie.MeasureT-loop
 
 loop-holds : tie.Need-loop-holds Inv-loop μ-loop
 unfolding onesAll
-loop-holds c =
-    (omega arith, omega arith, refl)
+loop-holds c = (omega arith, omega arith, refl)
 
 add-total : tie.Need-add-total Inv-loop μ-loop
-add-total c =
-    omega (arith, c .ones-of .ensures .1, c .before .before .before .before .before .pre .1)
+add-total c = omega (arith, c .ones-word .ensures .1, c .before .before .before .before .before .pre .1)
 
 loop-again : tie.Need-loop-again Inv-loop μ-loop
 loop-again c =
@@ -31,14 +30,27 @@ loop-again c =
     let a = l .before .before .args in
     let s = now (a .s) in
     let k = l .loop .k in
-    let j : k < length (drop (a .from) s) = simp length-drop (omega arith) in
-    (omega arith, omega (arith, c .ones-of .ensures .1), rw (l .loop .inv .2, c .ones-of .ensures .0, ← getD-drop (a .from) s k 0) (sym (all-take (drop (a .from) s) k j)))
+    let b : Bytes s = λ i. omega (arith, l .before .shared-slice-known .given i) in
+    let few : a .from + k + 8 ≤ length s = omega (arith, l .before .before .pre .0) in
+    (omega arith, omega (arith, c .ones-word .ensures .1), rw (l .loop .inv .2, c .ones-word .ensures .0, c .before .peek .ensures) (sym (all-more s (a .from) k 8 b few)))
+
+-- with the bytes behind the last eight
+all : (c : tie.After-ones-word2 Inv-loop μ-loop) →
+    let l = c .before .before .before in
+    let a = l .before .before .args in
+    (l .loop .total + c .ones-word2 .result ≡ onesAll (take (a .n) (drop (a .from) (now (a .s))))) × (c .ones-word2 .result ≤ 8 * (a .n - l .loop .k))
+all c =
+    let l = c .before .before .before in
+    let b = l .before .before in
+    let bytes : Bytes (now (b .args .s)) = λ i. omega (arith, l .before .shared-slice-known .given i) in
+    all-rest (now (b .args .s)) (b .args .from) (b .args .n) (l .loop .k) (l .loop .total) (c .ones-word2 .result)
+    bytes (b .pre .0) (l .loop .inv .0) (omega arith) (l .loop .inv .2) (c .ones-word2 .ensures .0 ∙ ap ones (c .before .bytes .ensures))
+
+add-result : tie.Need-add-result Inv-loop μ-loop
+add-result c = omega (arith, all c .1, c .before .before .before .before .before .pre .1)
 
 returns : tie.Need-returns Inv-loop μ-loop
-returns c =
-    let l = c .before in
-    let e : l .loop .k ≡ l .before .before .args .n = omega arith in
-    (rw (l .loop .inv .2, e), omega arith)
+returns c = (all c .0, omega (arith, all c .1))
 
 pub ones-in-spec : {M : Type 1} → statement M
 ones-in-spec =
@@ -50,8 +62,14 @@ ones-in-spec =
     (λ c. search needs)
     (λ c. search needs)
     (λ c κs. search needs)
+    (λ c κs. search needs)
     add-total
     (λ c. search needs)
     (λ c. search needs)
     loop-again
+    (λ c. search needs)
+    (λ c. search needs)
+    (λ c κs. search needs)
+    (λ c κs. search needs)
+    add-result
     returns)

@@ -15,7 +15,8 @@ use Rattle.lerc_image.specs.Paint.{painted}
 use Rattle.lerc_image.proofs.Painting.{length-painted}
 use Rattle.lerc.specs.Linear.{validUpto, depthWord}
 use Rattle.lerc_mask.specs.Mask.{pixelValid}
-use Rattle.lerc.proofs.Pixels.{full-at, upto-none, upto-all, pixel-skips, pixel-adds, pixel-fits, pixels-few, pixel-depth}
+use Rattle.lerc_words.proofs.Counts.{count-full}
+use Rattle.lerc.proofs.Pixels.{upto-none, upto-all, pixel-skips, pixel-adds, pixel-fits, pixels-few, pixel-depth}
 use Rattle.lerc.proofs.linear.write_constant.Statement.{statement}
 use Rattle.lerc.proofs.linear.write_constant.Tie as tie
 
@@ -74,7 +75,7 @@ loop-again c =
     let here : p < h .rows * h .columns = omega arith in
     let e : (p + 1) * h .depth ≡ p * h .depth + h .depth = rw (add-one) (omega (arith, suc-mul p (h .depth))) in
     let counted = l .before .count .ensures in
-    let every : l .before .count .result ≡ h .rows * h .columns → pixelValid m p ≡ true = λ q. full-at (h .rows * h .columns) (pixelValid m) (sym counted ∙ q) p here in (
+    let every : l .before .count .result ≡ h .rows * h .columns → pixelValid m p ≡ true = λ q. count-full (h .rows * h .columns) (pixelValid m) (sym counted ∙ q) p here in (
       omega arith,
       rw (e, i .1),
       rw (e) (⊎-elim

@@ -3,51 +3,80 @@ mod Turn
 use Prim.Native.Nat.{_-_}
 use native.Mathlib.Omega.{arith}
 use borrow.Author.Needs.{needs}
-use Rattle.lerc_image.proofs.Standing.{Standing, standing-none, standing-here, standing-within, standing-few, standing-next}
+use Rattle.lerc_image.specs.Parts.{BlockTile}
+use Rattle.lerc_image.proofs.Rows.{Carried, carried-none}
+use Rattle.lerc_image.proofs.Standing.{here-carried, Standing, standing-none, standing-within, standing-tile, standing-count, standing-few, standing-next}
 use Rattle.lerc_image.proofs.decode.fill_listed.Proof.Turn.{Filling, filling-none, filling-length, filling-room, filling-more, filling-all}
 use Rattle.lerc_image.proofs.decode.fill_listed.Statement.{statement}
 use Rattle.lerc_image.proofs.decode.fill_listed.Tie as tie
 
 abbrev Inv-loop : tie.InvT-loop
-Inv-loop s h e maxima mask list image₀ shape p₀ n₀ image p n = Standing h e p n × Filling s h maxima mask list image₀ image n
+Inv-loop s h e maxima mask list image₀ shape p₀ n₀ full valid₀ image p n valid =
+    Standing h e p n × Filling s h maxima mask list image₀ image n × Carried (e .shape) mask n valid
 
 abbrev μ-loop : tie.MeasureT-loop
-μ-loop s h e maxima mask list image₀ shape p₀ n₀ image p n = e .blocks - n
+μ-loop s h e maxima mask list image₀ shape p₀ n₀ full valid₀ image p n valid = e .blocks - n
+
+-- block n and its tile
+tile : (c : tie.After-current Inv-loop μ-loop) →
+    let l = c .before .before .before in
+    let a = l .before .before .before .before .before .before .before .before .args in
+    BlockTile (a .h) (a .e .shape) (l .loop .n) (c .current .result)
+tile c = standing-tile (c .before .before .before .loop .inv .0) (c .before .if1 .taken) (c .current .ensures)
 
 loop-holds : tie.Need-loop-holds Inv-loop μ-loop
 loop-holds c =
-    let p = c .before .before .before .before .before .before .pre in
-    (rw (c .start .ensures) (standing-none (p .0)), filling-none _ (p .0) _ _ _ _)
+    let s = c .before in
+    let p = s .before .before .before .before .before .before .pre in
+    (rw (s .start .ensures) (standing-none (p .0)), filling-none _ (p .0) _ _ _ _, carried-none _ _ _)
 
-mul-fill-at : tie.Need-mul-fill-at Inv-loop μ-loop
-mul-fill-at c = omega (arith, standing-few (c .before .before .loop .inv .0) (c .if1 .taken))
+current-requires : tie.Need-current-requires Inv-loop μ-loop
+current-requires c κs = let w = c .before .before .loop .inv .0 in (w .asked .shaped, standing-within w (c .if1 .taken))
 
-shared-slice-read-fill-at : tie.Need-shared-slice-read-fill-at Inv-loop μ-loop
-shared-slice-read-fill-at c =
+valid-here-requires : tie.Need-valid-here-requires Inv-loop μ-loop
+valid-here-requires c κs =
     let l = c .before .before .before in
-    let p = l .before .before .before .before .before .before .before .pre in
-    omega (arith, p .1, c .before .if1 .taken)
+    standing-count (l .loop .inv .0) (c .before .if1 .taken) (c .current .ensures) (l .before .all-valid .ensures) (l .loop .inv .2)
+
+mul-at : tie.Need-mul-at Inv-loop μ-loop
+mul-at c = omega (arith, standing-few (c .before .before .before .before .loop .inv .0) (c .before .before .if1 .taken))
+
+shared-slice-read-at : tie.Need-shared-slice-read-at Inv-loop μ-loop
+shared-slice-read-at c =
+    let v = c .before in
+    let l = v .before .before .before .before in
+    let p = l .before .before .before .before .before .before .before .before .pre in
+    omega (arith, p .1, v .before .before .if1 .taken)
 
 fill-at-requires : tie.Need-fill-at-requires Inv-loop μ-loop
 fill-at-requires c κs =
-    let l = c .before .before .before .before in
+    let v = c .before .before in
+    let l = v .before .before .before .before in
     let i = l .loop .inv in
-    (standing-here (i .0) (c .before .before .if1 .taken), filling-room (i .1) (i .0 .asked) (l .before .before .before .before .before .before .before .pre .2))
+    let p = l .before .before .before .before .before .before .before .before .pre in
+    (tile (v .before), v .valid-here .ensures, filling-room (i .1) (i .0 .asked) (p .2))
 
 advance-requires : tie.Need-advance-requires Inv-loop μ-loop
 advance-requires c κs =
-    let w = c .before .before .before .before .before .before .before .loop .inv .0 in
-    (w .asked .shaped, standing-within w (c .before .before .before .before .before .if1 .taken))
+    let v = c .before .before .before .before .before in
+    let w = v .before .before .before .before .loop .inv .0 in
+    (w .asked .shaped, standing-within w (v .before .before .if1 .taken))
 
 add-n : tie.Need-add-n Inv-loop μ-loop
 add-n c =
-    omega (arith, standing-few (c .before .before .before .before .before .before .before .before .loop .inv .0) (c .before .before .before .before .before .before .if1 .taken))
+    let v = c .before .before .before .before .before .before in
+    omega (arith, standing-few (v .before .before .before .before .loop .inv .0) (v .before .before .if1 .taken))
 
 loop-again : tie.Need-loop-again Inv-loop μ-loop
 loop-again c =
-    let i = c .before .before .before .before .before .before .before .before .loop .inv in
-    let l = c .before .before .before .before .before .before .if1 .taken in
-    (rw (c .advance .ensures) (standing-next (i .0) l), filling-more (i .1) (i .0 .asked) l (c .before .before .before .fill-at .ensures))
+    let f = c .before .before .before in
+    let v = f .before .before .before in
+    let i = v .before .before .before .before .loop .inv in
+    let l = v .before .before .if1 .taken in (
+      rw (c .advance .ensures) (standing-next (i .0) l),
+      filling-more (i .1) (i .0 .asked) l (f .fill-at .ensures),
+      here-carried (tile (v .before)) _ (v .valid-here .ensures),
+    )
 
 same-length : tie.Need-same-length Inv-loop μ-loop
 same-length c = filling-length (c .before .before .loop .inv .1)
@@ -62,9 +91,12 @@ fill-listed-spec =
     Inv-loop
     μ-loop
     (λ c κs. search needs)
+    (λ c κs. search needs)
     loop-holds
-    mul-fill-at
-    shared-slice-read-fill-at
+    current-requires
+    valid-here-requires
+    mul-at
+    shared-slice-read-at
     fill-at-requires
     advance-requires
     add-n
