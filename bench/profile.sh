@@ -9,7 +9,7 @@ if [ $# -lt 1 ] || [ $# -gt 3 ]; then wrong "one to three words"; fi
 case ${2:-read} in read | 'walk and fills') ;; *) wrong "no way $2" ;; esac
 case ${3:-proved} in proved | plain) ;; *) wrong "no reader $3" ;; esac
 needed cargo valgrind callgrind_annotate
-whole=$root/bench/whole/target/release/whole
+whole=${CARGO_TARGET_DIR:-$root/bench/whole/target}/release/whole
 cargo build -j1 --release --quiet --manifest-path "$root/bench/whole/Cargo.toml"
 # first without valgrind, which would not show why a blob is refused
 "$whole" one "$1" "${2:-read}" "${3:-proved}"

@@ -12,4 +12,4 @@ needed cargo
 case " ${words[*]} " in *' --no-counts '*) ;; *) needed valgrind ;; esac
 read_esri
 cargo build -j1 --release --quiet "${features[@]}" --manifest-path "$root/bench/whole/Cargo.toml"
-"$root/bench/whole/target/release/whole" "${words[@]}"
+"${CARGO_TARGET_DIR:-$root/bench/whole/target}/release/whole" "${words[@]}"

@@ -121,10 +121,10 @@ def sum_of(places):
 
 
 def parts_of(places, pixels):
-    """how many are valid in parts of 1 to 20 pixels, one from each pixel on"""
+    """how many are valid in parts of 1 to 21 pixels, one from each pixel on"""
     s, valid = 0, set(places)
     for p in range(pixels):
-        part = range(p, min(p + p % 20 + 1, pixels))
+        part = range(p, min(p + p % 21 + 1, pixels))
         s = (s * 31 + sum(q in valid for q in part)) % 1000003
     return s
 

@@ -8,6 +8,7 @@ pub mod WordsSum
 pub mod Fills
 pub mod Below
 pub mod Rows
+pub mod Squares
 pub mod Front
 pub mod Reading
 pub mod Chain

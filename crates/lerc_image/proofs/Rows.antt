@@ -78,6 +78,7 @@ module _ {h : Shape} {m : List ℕ} {t : Tile} {first row found : ℕ} (c : Rows
         let b : t .w ≤ t .w = omega arith in
         rw (next .found-is) (omega (arith, rank-le h m t ((row + 1) * t .w), mul-le-mul a b, c .tile .small))
 
+    -- at most a row of 4,096 behind the last of 4,194,304 pixels
     pub rows-fit : first + h .columns ≤ 4198400
     rows-fit =
         let next = rows-next in

@@ -1,4 +1,4 @@
--- A block at its position, and where a pass over the blocks stands before block n.
+-- A block and its tile, and where a pass over the blocks stands before block n.
 -- Assumes nothing.
 use mathlib.Core.Path.{_≡_, _∙_, sym, ap}
 use mathlib.Core.Bool.{Bool}

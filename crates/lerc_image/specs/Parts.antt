@@ -1,10 +1,11 @@
 -- What private functions promise; not part of the rules.
 -- Assumes nothing.
-use Prim.Native.Nat.{ℕ, _+_, _-_, _%_, _≤_, _<_}
+use Prim.Native.Nat.{ℕ, _+_, _-_, _*_, _%_, _≤_, _<_}
 use mathlib.Core.Path.{_≡_}
 use mathlib.Core.Bool.{Bool, true, cond, _&&_}
 use mathlib.Core.List.{List}
-use lib.ListN.{length}
+use lib.ListN.{length, getD}
+use lib.Count.{ones}
 use lib.Dec.{ltb, eqb}
 use Rattle.lerc_words.specs.Res.{Res, ok, _>>=_, after}
 use Rattle.lerc_words.specs.Lists.{over}
@@ -39,11 +40,7 @@ pub record BodyAsked (h : Header) (e : Extent) : Type 0 where
   pub shaped : Shaped (e .shape)
   pub sizes : e ≡ extentOf h
 
--- every pixel is valid, by the header and by the mask
-unfoldable pub allValid : ℕ → ℕ → List ℕ → Bool
-allValid valid pixels m = eqb valid pixels && eqb (validBelow pixels m) pixels
-
--- a tile whose valid pixels are asked for: `full` is said only where every pixel is valid, and above depth 0 the block before has the same tile
+-- a tile whose valid pixels are asked for. `full` is said only where every pixel is valid; `before`, the number for the block before, is looked at above depth 0
 pub record CountAsked (h : Shape) (t : Tile) (m : List ℕ) (full : Bool) (before : ℕ) : Type 0 where
   pub tile : TileIn h t
   pub all : full ≡ true → validBelow (pixels h) m ≡ pixels h
@@ -72,6 +69,18 @@ pub record FillAsked (h : Header) (e : Extent) (n : ℕ) (b list image : List �
   pub room : e .cells ≤ length image
 
 -- ---- what they give
+
+-- the set bits of byte i of some, each `step` behind the one before
+abbrev pub onesApart : List ℕ → ℕ → ℕ → ℕ → ℕ
+onesApart m at step i = ones (getD m (at + i * step) 0)
+
+-- eight rows of eight pixels, each a byte of the mask
+unfoldable pub isSquare : Shape → Tile → Bool
+isSquare h t = eqb (t .w) 8 && eqb (t .h) 8 && eqb (t .x % 8) 0 && eqb (h .columns % 8) 0
+
+-- every pixel is valid, by the header and by the mask
+unfoldable pub allValid : ℕ → ℕ → List ℕ → Bool
+allValid valid all m = eqb valid all && eqb (validBelow all m) all
 
 -- the place k of a tile: its pixel, and its column there
 unfoldable pub cursorOf : Shape → Tile → ℕ → Cursor

@@ -2,7 +2,8 @@
 ghost use mathlib.Core.Path.{_≡_};
 ghost use Prim.Native.Nat.{ℕ, _+_, _*_, _^_, _≤_, _<_, min};
 ghost use lib.ListN.{length, getD, take};
-ghost use Rattle.lerc_words.specs.Lists.{over};
+ghost use lib.Count.{ones};
+ghost use Rattle.lerc_words.specs.Lists.{over, total};
 ghost use Rattle.lerc_header.specs.Shape.{Shaped, blockCount, cells};
 ghost use Rattle.lerc_image.specs.Geometry.{HasTile, tileHere, nextOf, positionOf, validInTile};
 ghost use Rattle.lerc_image.specs.Fill.{Filled, refusalOfFill};
@@ -10,7 +11,7 @@ ghost use Rattle.lerc_image.specs.Blocks.{blockAt, allBlocks};
 ghost use Rattle.lerc_header.specs.Limits.{depthLimit};
 ghost use Rattle.lerc_image.specs.Walk.{BlocksWalked, bodyWalked, walkSaid, walkOf, refusalOfWalk};
 ghost use Rattle.lerc_image.specs.Tiles.{headStarts};
-ghost use Rattle.lerc_image.specs.Parts.{TileIn, BodyAsked, Asked, allValid, CountAsked, BlockTile, FillAsked, cursorOf, cursorNext, BlockScattered, BlockFilled, BodyListed};
+ghost use Rattle.lerc_image.specs.Parts.{TileIn, BodyAsked, Asked, onesApart, isSquare, allValid, CountAsked, BlockTile, FillAsked, cursorOf, cursorNext, BlockScattered, BlockFilled, BodyListed};
 ghost use Rattle.lerc_block.specs.Block.{blockSaid, blockSays, readBlockSays, nextBlock};
 ghost use Rattle.lerc_block.specs.Plan.{planAt, planEnd};
 use lerc_block::BlockAnswer;
@@ -198,8 +199,37 @@ impl Cursor {
     }
 }
 
+fn wide(x: u8) -> u64
+    ensures { λ r. ⌜ r ≡ x ⌝ }
+{
+    x as u64
+}
+
+// The bits of eight bytes, each `step` behind the one before, side by side in one number.
+fn side_by_side(mask: &[u8], at: usize, step: usize) -> u64
+    requires { ⌜ (at + 7 * step < length (now mask)) × (at + 8 * step < 2 ^ 64) ⌝ }
+    ensures { λ r. ⌜ ones r ≡ total 8 (onesApart (now (mask .entry)) at step) ⌝ }
+{
+    let mut bits: u64 = 0;
+    let mut k = at;
+    let mut row: usize = 0;
+    while row < 8 {
+        bits = bits * 256 + wide(mask[k]);
+        k += step;
+        row += 1;
+    }
+    bits
+}
+
+// A tile of eight rows that are a byte of the mask each.
+fn is_square(h: Shape, t: Tile) -> bool
+    ensures { λ r. ⌜ r ≡ isSquare h t ⌝ }
+{
+    (t.w == 8) & (t.h == 8) & (t.x % 8 == 0) & (h.columns % 8 == 0)
+}
+
 // How many pixels of a tile are valid, row by row.
-fn count_valid(h: Shape, t: Tile, mask: &[u8]) -> usize
+fn count_rows(h: Shape, t: Tile, mask: &[u8]) -> usize
     requires { ⌜ TileIn h t ⌝ }
     ensures { λ r. ⌜ r ≡ validInTile h (now (mask .entry)) t ⌝ }
 {
@@ -214,6 +244,19 @@ fn count_valid(h: Shape, t: Tile, mask: &[u8]) -> usize
     found
 }
 
+// How many pixels of a tile are valid. Most tiles are squares, whose rows are counted at once.
+fn count_valid(h: Shape, t: Tile, mask: &[u8]) -> usize
+    requires { ⌜ TileIn h t ⌝ }
+    ensures { λ r. ⌜ r ≡ validInTile h (now (mask .entry)) t ⌝ }
+{
+    let step = h.columns / 8;
+    let end = (t.y + 8) * step;
+    if is_square(h, t) & (end <= mask.len()) {
+        return lerc_mask::ones_word(side_by_side(mask, t.y * step + t.x / 8, step));
+    }
+    count_rows(h, t, mask)
+}
+
 // Every pixel is valid. Only where the header says so is the mask counted.
 fn all_valid(valid: u32, pixels: usize, mask: &[u8]) -> bool
     ensures { λ r. ⌜ r ≡ allValid valid pixels (now (mask .entry)) ⌝ }
@@ -224,7 +267,8 @@ fn all_valid(valid: u32, pixels: usize, mask: &[u8]) -> bool
     lerc_mask::count(mask, pixels) == pixels
 }
 
-// How many pixels of a tile are valid: above depth 0 as many as `before`, those of the block before, which has the same tile.
+// How many pixels of a tile are valid. Above depth 0 the block before has the same tile, and `before` is its number; where `full`,
+// every pixel of the image is.
 fn valid_here(h: Shape, t: Tile, mask: &[u8], full: bool, before: usize) -> usize
     requires { ⌜ CountAsked h t (now mask) full before ⌝ }
     ensures { λ r. ⌜ r ≡ validInTile h (now (mask .entry)) t ⌝ }

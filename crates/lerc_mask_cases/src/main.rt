@@ -33,12 +33,12 @@ fn sum_of(mask: &[u8], pixels: usize) -> usize {
     sum
 }
 
-// how many pixels are valid in parts of 1 to 20 pixels, one from each pixel on
+// how many pixels are valid in parts of 1 to 21 pixels, one from each pixel on: every cut at both ends comes up
 fn parts_of(mask: &[u8], pixels: usize) -> usize {
     let mut sum = 0;
     let mut p = 0;
     while p < pixels {
-        let n = lesser(p % 20 + 1, pixels - p);
+        let n = lesser(p % 21 + 1, pixels - p);
         sum = (sum * 31 + lerc_mask::count_from(mask, p, n) % 65536) % 1000003;
         p += 1;
     }

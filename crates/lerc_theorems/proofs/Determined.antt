@@ -99,6 +99,7 @@ no-room = record {
   is-valid = given (λ k a. tt) _ (λ k a r x p. p);
   count-valid = given (λ k a. tt) _ (λ k a r x p. p);
   count-from = given (λ k a. tt) _ (λ k a r x p. p);
+  ones-word = given (λ k a. tt) _ (λ k a r x p. p);
   decode-mask = record { asks-nothing = λ k a. tt; same = λ k a r q x y p s. unrolled-same p s };
   mask-refusal = given (λ k a. tt) _ (λ k a r x p. p);
   ranges-refusal = given (λ k a. tt) _ (λ k a r x p. p);

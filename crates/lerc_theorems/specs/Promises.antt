@@ -55,6 +55,7 @@ use Rattle.lerc_mask.proofs.RunsAnswer.refusal.Reads as runs-refusal
 use Rattle.lerc_mask.proofs.is_valid.Reads as is-valid
 use Rattle.lerc_mask.proofs.count.Reads as count-valid
 use Rattle.lerc_mask.proofs.count_from.Reads as count-from
+use Rattle.lerc_mask.proofs.ones_word.Reads as ones-word
 use Rattle.lerc_mask.proofs.decode.Reads as decode-mask
 use Rattle.lerc_validity.proofs.MaskAnswer.refusal.Reads as mask-refusal
 use Rattle.lerc_ranges.proofs.RangesAnswer.refusal.Reads as ranges-refusal
@@ -180,6 +181,7 @@ pub record NoRoom : Type 0 where
   pub is-valid : Answers is-valid.Pre is-valid.Post
   pub count-valid : Answers count-valid.Pre count-valid.Post
   pub count-from : Answers count-from.Pre count-from.Post
+  pub ones-word : Answers ones-word.Pre ones-word.Post
   pub decode-mask : Writes decode-mask.Pre decode-mask.Post (λ o. o .1 .1 .1 .0 .now)
   -- lerc_validity and lerc_ranges
   pub mask-refusal : Answers mask-refusal.Pre mask-refusal.Post

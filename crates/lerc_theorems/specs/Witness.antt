@@ -13,7 +13,7 @@ use Rattle.lerc_numeric.specs.Kinds.{integer, valueOf, whole, cut}
 use Rattle.lerc_samples.specs.Samples.{sampleAt, stored, offsetKinds, offsetKind}
 use Rattle.lerc_bits.specs.Bits.{tabled, plan, digits, chosen, lookedUp, valuesOf, unpacked, counts}
 use Rattle.lerc_bits.specs.Packing.{bytesOf as bytes}
-use Rattle.lerc_mask.specs.Mask.{pixelValid, copyAt, repeatAt, endAt, signedAt, stepAt, runs, coded}
+use Rattle.lerc_mask.specs.Mask.{pixelValid, validFrom, copyAt, repeatAt, endAt, signedAt, stepAt, runs, coded}
 use Rattle.lerc_header.specs.Shape.{strips}
 use Rattle.lerc_header.specs.Header.{errorRight, pairRight, fieldsRight, withinCeilings, held, keyRight, headerOf, headerSays}
 use Rattle.lerc_validity.specs.Validity.{uniform, kept, unrolled, maskSays}
@@ -184,3 +184,13 @@ unfolding wordAt little each from count allTo mag code sum scaled less same less
     levelBlock stepValue steppedBlock offsetAt finiteOffset offsetBlock formed flagAt blockSays tileOf pixelOf blockOf placeIn rank isValidCell painted indexOf blockAt chain modeAt moded
     swept rawBody blockBody sweptBody constantBody bodySays cellWord meaningFrom room masked readSays published refusedAfter size span climb readRangesSays fillSays
 witnesses = (refl, refl)
+
+-- ---- how many pixels of a part are valid: of the rules' mask of ten pixels, 0, 2 and 9 valid, its spare bits set
+
+abbrev pub inPart : ℕ → ℕ → ℕ
+inPart first n = validFrom first n (0xA0 ∷ 0x7F ∷ [])
+
+-- all ten; one byte cut at both ends; two bytes, cut at both ends; none of them valid; the last; past the end
+pub parts : inPart 0 10 ∷ inPart 1 2 ∷ inPart 2 8 ∷ inPart 3 6 ∷ inPart 9 1 ∷ inPart 16 5 ∷ [] ≡ 3 ∷ 1 ∷ 2 ∷ 0 ∷ 1 ∷ 0 ∷ []
+unfolding count pixelValid
+parts = refl

@@ -7,7 +7,7 @@ use borrow.Rule.Slice.PartAt.{part-to-end}
 use Rattle.lerc_words.proofs.Counts.{count-le}
 use Rattle.lerc_mask.specs.Mask.{validFrom}
 use Rattle.lerc_mask.proofs.Pixels.{valid-drop, valid-beyond}
-use Rattle.lerc_mask.proofs.Cut.{valid-within, valid-across, valid-first}
+use Rattle.lerc_mask.proofs.Cut.{valid-within, valid-across}
 use Rattle.lerc_mask.proofs.count_from.Statement.{statement}
 use Rattle.lerc_mask.proofs.count_from.Tie as tie
 
@@ -27,45 +27,39 @@ across c =
     let a = c .before .before .before .before .before .args in
     rw (c .ones-cut2 .ensures .0) (sym (valid-across (now (a .mask)) (a .first) (a .n) (omega arith)))
 
-returns-3 : tie.Need-returns-3
-returns-3 c =
-    let a = c .before .before .before .before .before .before .args in
-    let none = valid-beyond (8 * (a .first / 8 + 1)) (a .n - (8 - a .first % 8)) (now (a .mask)) (omega arith) in
-    omega (arith, rw (none) at (across (c .before)))
+-- the pixels behind it, where there are few
+few : (c : tie.After-count-two) →
+    let a = c .before .before .before .before .before .before .before .args in
+    c .count-two .result ≤ a .n - (8 - a .first % 8)
+few c = rw (c .count-two .ensures) (count-le _ _)
 
 add-result : tie.Need-add-result
-add-result c = omega (arith, c .ones-cut3 .ensures .1, c .before .before .before .before .ones-cut2 .ensures .1)
+add-result c =
+    let f = c .before .before in
+    omega (arith, f .ones-cut2 .ensures .1, few c, f .before .before .before .before .before .fits .n .fits)
 
--- the pixels of the byte behind it
-beside : (c : tie.After-ones-cut3) →
-    let a = c .before .before .before .before .before .before .before .before .before .args in
-    c .ones-cut3 .result ≡ validFrom (8 * (a .first / 8 + 1)) (a .n - (8 - a .first % 8)) (now (a .mask))
-beside c =
-    let a = c .before .before .before .before .before .before .before .before .before .args in
-    c .ones-cut3 .ensures .0 ∙ sym (valid-first (now (a .mask)) (a .first / 8 + 1) (a .n - (8 - a .first % 8)) (omega arith))
-
-returns-4 : tie.Need-returns-4
-returns-4 c = rw (beside c) (across (c .before .before .before .before))
+returns-3 : tie.Need-returns-3
+returns-3 c = rw (c .count-two .ensures) (across (c .before .before))
 
 -- the pixels behind it, counted as those of a shorter mask
 behind : (c : tie.After-count) →
-    let a = c .before .before .before .before .before .before .before .before .before .args in
+    let a = c .before .before .before .before .before .before .before .before .args in
     c .count .result ≡ validFrom (8 * (a .first / 8 + 1)) (a .n - (8 - a .first % 8)) (now (a .mask))
 behind c =
-    let a = c .before .before .before .before .before .before .before .before .before .args in
+    let a = c .before .before .before .before .before .before .before .before .args in
     let m = now (a .mask) in
     let k = a .first / 8 + 1 in
     (rw (part-to-end m k) at (c .count .ensures)) ∙ valid-drop k (a .n - (8 - a .first % 8)) m
 
 add-result-2 : tie.Need-add-result-2
 add-result-2 c =
-    let f = c .before .before .before .before in
+    let f = c .before .before .before in
     let a = f .before .before .before .before .before .args in
-    let few : c .count .result ≤ a .n - (8 - a .first % 8) = rw (behind c) (count-le _ _) in
-    omega (arith, f .ones-cut2 .ensures .1, few, f .before .before .before .before .before .fits .n .fits)
+    let less : c .count .result ≤ a .n - (8 - a .first % 8) = rw (behind c) (count-le _ _) in
+    omega (arith, f .ones-cut2 .ensures .1, less, f .before .before .before .before .before .fits .n .fits)
 
-returns-5 : tie.Need-returns-5
-returns-5 c = rw (behind c) (across (c .before .before .before .before))
+returns-4 : tie.Need-returns-4
+returns-4 c = rw (behind c) (across (c .before .before .before))
 
 pub count-from-spec : {M : Type 1} → statement M
 count-from-spec =
@@ -79,15 +73,13 @@ count-from-spec =
     (λ c. search needs)
     (λ c κs. search needs)
     (λ c. search needs)
-    returns-3
-    (λ c. search needs)
     (λ c. search needs)
     (λ c κs. search needs)
     add-result
-    returns-4
+    returns-3
     (λ c. search needs)
     (λ c. search needs)
     (λ c. search needs)
     (λ c κs. search needs)
     add-result-2
-    returns-5)
+    returns-4)

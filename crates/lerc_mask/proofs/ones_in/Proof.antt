@@ -7,7 +7,7 @@ use lib.Count.{ones}
 use lib.ListN.{length, take, drop}
 use Rattle.lerc_words.proofs.Little.{Bytes}
 use Rattle.lerc_mask.specs.Passes.{onesAll}
-use Rattle.lerc_mask.proofs.Tally.{all-more, all-rest}
+use Rattle.lerc_mask.proofs.Tally.{all-more, all-rest, little-few}
 use Rattle.lerc_mask.proofs.ones_in.Statement.{statement}
 use Rattle.lerc_mask.proofs.ones_in.Tie as tie
 
@@ -21,8 +21,16 @@ loop-holds : tie.Need-loop-holds Inv-loop μ-loop
 unfolding onesAll
 loop-holds c = (omega arith, omega arith, refl)
 
+-- eight bytes more
+eight : (c : tie.After-ones-word Inv-loop μ-loop) → c .ones-word .result ≤ 64
+eight c =
+    let l = c .before .before .before in
+    let a = l .before .before .args in
+    let b : Bytes (now (a .s)) = λ i. omega (arith, l .before .shared-slice-known .given i) in
+    rw (c .ones-word .ensures, c .before .peek .ensures) (little-few 8 (now (a .s)) (a .from + l .loop .k) b)
+
 add-total : tie.Need-add-total Inv-loop μ-loop
-add-total c = omega (arith, c .ones-word .ensures .1, c .before .before .before .before .before .pre .1)
+add-total c = omega (arith, eight c, c .before .before .before .before .before .pre .1)
 
 loop-again : tie.Need-loop-again Inv-loop μ-loop
 loop-again c =
@@ -32,7 +40,7 @@ loop-again c =
     let k = l .loop .k in
     let b : Bytes s = λ i. omega (arith, l .before .shared-slice-known .given i) in
     let few : a .from + k + 8 ≤ length s = omega (arith, l .before .before .pre .0) in
-    (omega arith, omega (arith, c .ones-word .ensures .1), rw (l .loop .inv .2, c .ones-word .ensures .0, c .before .peek .ensures) (sym (all-more s (a .from) k 8 b few)))
+    (omega arith, omega (arith, eight c), rw (l .loop .inv .2, c .ones-word .ensures, c .before .peek .ensures) (sym (all-more s (a .from) k 8 b few)))
 
 -- with the bytes behind the last eight
 all : (c : tie.After-ones-word2 Inv-loop μ-loop) →
@@ -44,7 +52,7 @@ all c =
     let b = l .before .before in
     let bytes : Bytes (now (b .args .s)) = λ i. omega (arith, l .before .shared-slice-known .given i) in
     all-rest (now (b .args .s)) (b .args .from) (b .args .n) (l .loop .k) (l .loop .total) (c .ones-word2 .result)
-    bytes (b .pre .0) (l .loop .inv .0) (omega arith) (l .loop .inv .2) (c .ones-word2 .ensures .0 ∙ ap ones (c .before .bytes .ensures))
+    bytes (b .pre .0) (l .loop .inv .0) (omega arith) (l .loop .inv .2) (c .ones-word2 .ensures ∙ ap ones (c .before .bytes .ensures))
 
 add-result : tie.Need-add-result Inv-loop μ-loop
 add-result c = omega (arith, all c .1, c .before .before .before .before .before .pre .1)
