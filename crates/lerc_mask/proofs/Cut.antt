@@ -84,13 +84,13 @@ valid-across m first n h =
 -- the first pixels of a byte
 pub valid-first : (m : List ℕ) (k n : ℕ) → n ≤ 8 → validFrom (8 * k) n m ≡ ones (bitsOf (getD m k 0) 0 n)
 valid-first m k n h =
-    let z : 8 * k + 0 ≡ 8 * k = omega arith in
-    let few : 0 + n ≤ 8 = omega arith in
-    rw (z) at (valid-bits m k 0 n few)
+    let d : 8 * k / 8 ≡ k = omega arith in
+    let r : 8 * k % 8 ≡ 0 = omega arith in
+    rw (d, r) at (valid-within m (8 * k) n (omega arith))
 
 -- the pixels of two bytes
 pub valid-two : (m : List ℕ) (k n : ℕ) → 8 ≤ n → validFrom (8 * k) n m ≡ ones (bitsOf (getD m k 0) 0 8) + validFrom (8 * (k + 1)) (n - 8) m
 valid-two m k n h =
-    let z : 8 + (n - 8) ≡ n = omega arith in
-    let w : 8 * k + 8 ≡ 8 * (k + 1) = omega arith in
-    rw (← valid-first m k 8 (omega arith)) (rw (z, w) at (valid-split (8 * k) 8 (n - 8) m))
+    let d : 8 * k / 8 ≡ k = omega arith in
+    let r : 8 * k % 8 ≡ 0 = omega arith in
+    rw (d, r) at (valid-across m (8 * k) n (omega arith))

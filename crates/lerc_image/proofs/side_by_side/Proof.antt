@@ -14,14 +14,16 @@ Inv-loop mask at step bits₀ k₀ row₀ bits k row = BytesJoined mask at step 
 abbrev μ-loop : tie.MeasureT-loop
 μ-loop mask at step bits₀ k₀ row₀ bits k row = 8 - row
 
+bytes : (l : tie.At-loop Inv-loop μ-loop) → Bytes (now (l .before .before .args .mask))
+bytes l = λ i. omega (arith, l .before .shared-slice-known .given i)
+
 loop-holds : tie.Need-loop-holds Inv-loop μ-loop
 loop-holds c = joined-none _ _ _
 
 mul-bits : tie.Need-mul-bits Inv-loop μ-loop
 mul-bits c =
     let l = c .before in
-    let bytes : Bytes (now (l .before .before .args .mask)) = λ i. omega (arith, l .before .shared-slice-known .given i) in
-    omega (arith, joined-fits (l .loop .inv) (c .loop-test .taken) bytes)
+    omega (arith, joined-fits (l .loop .inv) (c .loop-test .taken) (bytes l))
 
 shared-slice-read-wide : tie.Need-shared-slice-read-wide Inv-loop μ-loop
 shared-slice-read-wide c =
@@ -31,8 +33,7 @@ shared-slice-read-wide c =
 add-bits : tie.Need-add-bits Inv-loop μ-loop
 add-bits c =
     let l = c .before .before .before in
-    let bytes : Bytes (now (l .before .before .args .mask)) = λ i. omega (arith, l .before .shared-slice-known .given i) in
-    omega (arith, c .wide .ensures, joined-fits (l .loop .inv) (c .before .before .loop-test .taken) bytes)
+    omega (arith, c .wide .ensures, joined-fits (l .loop .inv) (c .before .before .loop-test .taken) (bytes l))
 
 add-k : tie.Need-add-k Inv-loop μ-loop
 add-k c =
@@ -42,8 +43,7 @@ add-k c =
 loop-again : tie.Need-loop-again Inv-loop μ-loop
 loop-again c =
     let l = c .before .before .before in
-    let bytes : Bytes (now (l .before .before .args .mask)) = λ i. omega (arith, l .before .shared-slice-known .given i) in
-    rw (c .wide .ensures) (joined-next (l .loop .inv) (c .before .before .loop-test .taken) bytes)
+    rw (c .wide .ensures) (joined-next (l .loop .inv) (c .before .before .loop-test .taken) (bytes l))
 
 returns : tie.Need-returns Inv-loop μ-loop
 returns c = joined-all (c .before .loop .inv) (c .loop-test .left)
