@@ -177,6 +177,8 @@ pub struct Wanted {
     pub fault: Fault,
     /// Only forms on which Esri's library agrees by docs/DIFFERENCES.md.
     pub esri: bool,
+    /// Error, offsets, ranges and counts so large that products are infinite.
+    pub huge: bool,
 }
 
 impl Wanted {
@@ -207,6 +209,23 @@ impl Wanted {
             body,
             fault,
             esri,
+            huge: false,
+        }
+    }
+
+    /// Blocks in which products are infinite, mostly of kind 7, whose offsets
+    /// reach as far as the products.
+    pub fn overflowing(random: &mut Random, esri: bool) -> Wanted {
+        let kind = match random.below(8) {
+            0 => random.below(6) as u32,
+            1 => 6,
+            _ => 7,
+        };
+        Wanted {
+            kind,
+            body: Body::Blocks,
+            huge: true,
+            ..Wanted::any(random, esri)
         }
     }
 }
@@ -233,7 +252,11 @@ fn geometry(random: &mut Random) -> (usize, usize, usize) {
 
 /// A form of any sort.
 pub fn any_form(random: &mut Random, esri: bool) -> Form {
-    let wanted = Wanted::any(random, esri);
+    let wanted = if random.once_in(8) {
+        Wanted::overflowing(random, esri)
+    } else {
+        Wanted::any(random, esri)
+    };
     form(random, wanted)
 }
 
@@ -457,48 +480,15 @@ impl<'a> Maker<'a> {
         } else {
             Fault::None
         };
-        let counted = matches!(
-            fault,
-            Fault::CountsNumber
-                | Fault::CountsCode
-                | Fault::CountsMany
-                | Fault::TableBits
-                | Fault::TableEntries
-                | Fault::TableIndex
-        );
-        let offset = matches!(fault, Fault::OffsetCode | Fault::OffsetNotFinite);
-        let low = if counted {
-            1
-        } else if offset {
-            self.random.pick(&[1, 3])
-        } else if self.wanted.esri && valid == 0 {
-            // DIFFERENCES 3.1, 3.2: no counts where no pixel is valid.
-            2
-        } else {
-            self.random.pick(&[0, 1, 1, 1, 1, 2, 3, 3])
-        };
-        let row = OFFSET_KINDS[self.wanted.kind as usize];
-        let codes: Vec<u8> = (0..4).filter(|&code| row[usize::from(code)] < 9).collect();
-        let code = match low {
-            // Not looked at.
-            0 | 2 => self.random.below(4) as u8,
-            _ if fault == Fault::OffsetCode => self.random.below(4) as u8,
-            _ => self.random.pick(&codes),
-        };
-        let mut check = (x / 8 % 16) as u8;
-        if fault == Fault::CheckBits {
-            // The tile's number is a slip that has been made.
-            check = self.random.pick(&[
-                (check + 1) % 16,
-                (x / self.wanted.side % 16) as u8,
-                (check + 8) % 16,
-            ]);
-        }
+        let low = self.low_bits(valid, fault);
+        let code = self.code(low, fault);
+        let check = self.check_bits(x, fault);
         self.form.after.push(low | check << 2 | code << 6);
         match low {
             0 => self.put_raw(valid),
             2 => {}
             _ => {
+                let row = OFFSET_KINDS[self.wanted.kind as usize];
                 let kind = row[usize::from(code)].min(7);
                 let word = self.offset(kind, depth, fault);
                 put_word(&mut self.form.after, word, kind);
@@ -507,6 +497,50 @@ impl<'a> Maker<'a> {
                 }
             }
         }
+    }
+
+    /// The sort of a block.
+    fn low_bits(&mut self, valid: usize, fault: Fault) -> u8 {
+        match fault {
+            Fault::CountsNumber
+            | Fault::CountsCode
+            | Fault::CountsMany
+            | Fault::TableBits
+            | Fault::TableEntries
+            | Fault::TableIndex => 1,
+            Fault::OffsetCode | Fault::OffsetNotFinite => self.random.pick(&[1, 3]),
+            // DIFFERENCES 3.1, 3.2: no counts where no pixel is valid.
+            _ if self.wanted.esri && valid == 0 => 2,
+            _ => self.random.pick(&[0, 1, 1, 1, 1, 2, 3, 3]),
+        }
+    }
+
+    /// The offset's code.
+    fn code(&mut self, low: u8, fault: Fault) -> u8 {
+        // Without an offset it is not looked at.
+        if matches!(low, 0 | 2) || fault == Fault::OffsetCode {
+            return self.random.below(4) as u8;
+        }
+        if self.wanted.huge && self.random.once_in(2) {
+            // The image's own kind: others have no huge numbers.
+            return 0;
+        }
+        let row = OFFSET_KINDS[self.wanted.kind as usize];
+        let codes: Vec<u8> = (0..4).filter(|&code| row[usize::from(code)] < 9).collect();
+        self.random.pick(&codes)
+    }
+
+    fn check_bits(&mut self, x: usize, fault: Fault) -> u8 {
+        let check = (x / 8 % 16) as u8;
+        if fault != Fault::CheckBits {
+            return check;
+        }
+        // The tile's number is a slip that has been made.
+        self.random.pick(&[
+            (check + 1) % 16,
+            (x / self.wanted.side % 16) as u8,
+            (check + 8) % 16,
+        ])
     }
 
     /// An offset, often the least number of the depth.
@@ -518,22 +552,11 @@ impl<'a> Maker<'a> {
         if kind == self.wanted.kind && self.random.once_in(2) {
             return low;
         }
-        any_word(self.random, kind, self.wanted.esri)
+        wanted_word(self.random, &self.wanted, kind)
     }
 
     fn put_counts(&mut self, valid: usize, fault: Fault) {
-        let n = match fault {
-            Fault::CountsNumber => self.random.pick(&[
-                valid + 1,
-                valid.saturating_sub(1),
-                valid + 8,
-                0,
-                256,
-                valid + 256,
-            ]),
-            Fault::CountsMany => self.random.pick(&[257, 258, 65535, 65536, 1 << 31]),
-            _ => valid,
-        };
+        let n = self.counts(valid, fault);
         let codes: &[(u8, usize)] = match n {
             0..=255 => &[(0, 4), (1, 2), (2, 1)],
             256..=65535 => &[(0, 4), (1, 2)],
@@ -548,15 +571,7 @@ impl<'a> Maker<'a> {
             Fault::TableBits | Fault::TableEntries | Fault::TableIndex
         );
         let table = in_table || self.random.once_in(3);
-        // DIFFERENCES 4.3: Esri's reader leaves counts of 0 bits unread.
-        let least = usize::from(table || self.wanted.esri);
-        let mut bits = match self.random.below(3) {
-            0 => self.random.between(least, 31),
-            _ => self.random.between(least, 9),
-        };
-        if fault == Fault::TableBits {
-            bits = 0;
-        }
+        let bits = self.bits(table, fault);
         self.form
             .after
             .push(code << 6 | u8::from(table) << 5 | bits as u8);
@@ -568,6 +583,33 @@ impl<'a> Maker<'a> {
             self.put_table(n, bits, fault);
         } else {
             self.put_run(n, bits, 1 << bits);
+        }
+    }
+
+    /// How many counts are said to be there.
+    fn counts(&mut self, valid: usize, fault: Fault) -> usize {
+        match fault {
+            Fault::CountsNumber => self.random.pick(&[
+                valid + 1,
+                valid.saturating_sub(1),
+                valid + 8,
+                0,
+                256,
+                valid + 256,
+            ]),
+            Fault::CountsMany => self.random.pick(&[257, 258, 65535, 65536, 1 << 31]),
+            _ => valid,
+        }
+    }
+
+    /// The bits of a count.
+    fn bits(&mut self, table: bool, fault: Fault) -> usize {
+        // DIFFERENCES 4.3: Esri's reader leaves counts of 0 bits unread.
+        let least = usize::from(table || self.wanted.esri);
+        match self.random.below(3) {
+            _ if fault == Fault::TableBits => 0,
+            1 | 2 if !self.wanted.huge => self.random.between(least, 9),
+            _ => self.random.between(least, 31),
         }
     }
 
@@ -595,8 +637,10 @@ impl<'a> Maker<'a> {
     /// Values of some bits each, the lowest bit first; bits after the last one
     /// are any.
     fn put_run(&mut self, n: usize, bits: usize, below: u64) {
-        let values: Vec<u64> = match self.random.below(3) {
+        let last = last_finite(self.form.fields.error);
+        let values: Vec<u64> = match self.random.below(4) {
             0 => vec![below - 1; n],
+            1 if last < below - 1 => (0..n).map(|_| last + self.random.word() % 2).collect(),
             _ => (0..n).map(|_| self.random.word() % below).collect(),
         };
         let mut run = packed(&values, bits);
@@ -723,12 +767,11 @@ fn any_pixels(random: &mut Random, wanted: &Wanted) -> Vec<bool> {
 /// An error that a header may have.
 fn any_error(random: &mut Random, wanted: &Wanted) -> u64 {
     let usual = [0.5, 0.5, 1.0, 2.0, 0.3, 1.5, 10.0, 0.01, 0.001, 0.1, 0.25];
-    if wanted.esri {
-        // DIFFERENCES 1.5: no product that passes binary64.
-        return f64::to_bits(random.pick(&usual));
-    }
     if matches!(wanted.fault, Fault::ModeUnread | Fault::ModeWrong) {
         return 0.5f64.to_bits();
+    }
+    if wanted.huge {
+        return huge_error(random);
     }
     match random.below(12) {
         0 => 0,
@@ -744,6 +787,51 @@ fn any_error(random: &mut Random, wanted: &Wanted) -> u64 {
         2 => random.word() % 0x7FE0_0000_0000_0000,
         _ => f64::to_bits(random.pick(&usual)),
     }
+}
+
+/// From 2^900 up to the last one below 2^1023. Below 2^992 no count that is
+/// packed makes the product infinite.
+fn huge_error(random: &mut Random) -> u64 {
+    let power = match random.below(4) {
+        0 => random.between(900, 1022),
+        _ => random.between(992, 1022),
+    };
+    (power as u64 + 1023) << 52 | any_fraction(random, 52)
+}
+
+fn any_fraction(random: &mut Random, bits: u32) -> u64 {
+    let all = (1 << bits) - 1;
+    match random.below(4) {
+        0 => 0,
+        1 => all,
+        _ => random.word() & all,
+    }
+}
+
+/// The greatest count whose product is finite, or one that is never packed.
+fn last_finite(error: u64) -> u64 {
+    (f64::MAX / (2.0 * f64::from_bits(error))) as u64
+}
+
+/// A word of ranges and offsets.
+fn wanted_word(random: &mut Random, wanted: &Wanted, kind: u32) -> u64 {
+    if wanted.huge && kind >= 6 && random.below(4) > 0 {
+        huge_word(random, kind)
+    } else {
+        any_word(random, kind, wanted.esri)
+    }
+}
+
+/// A float of either sign, near the greatest one of its kind. Of kind 7 some
+/// are too small to show beside 2^1024: those below 2^970.
+fn huge_word(random: &mut Random, kind: u32) -> u64 {
+    let (bits, top) = if kind == 6 { (23, 254) } else { (52, 2046) };
+    let below = match random.below(3) {
+        0 => random.below(60) as u64,
+        _ => 0,
+    };
+    let sign = (random.word() & 1) << (8 * word_size(kind) - 1);
+    sign | (top - below) << bits | any_fraction(random, bits)
 }
 
 /// A word of the kind whose number is finite.
@@ -811,7 +899,8 @@ fn any_pairs(random: &mut Random, wanted: &Wanted) -> Vec<(u64, u64)> {
     } = *wanted;
     (0..depth)
         .map(|_| {
-            let (a, b) = (any_word(random, kind, esri), any_word(random, kind, esri));
+            let a = wanted_word(random, wanted, kind);
+            let b = wanted_word(random, wanted, kind);
             if wanted.body == Body::ConstantByRanges {
                 // Zeros of both signs are the same.
                 let zero = !esri && kind >= 6 && number(a, kind) << 1 == 0;

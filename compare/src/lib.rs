@@ -5,6 +5,7 @@
 //! slice must stand.
 
 pub mod case;
+pub mod counted;
 pub mod damage;
 #[cfg(feature = "esri")]
 pub mod esri;

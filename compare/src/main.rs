@@ -17,9 +17,12 @@ compare replay FILE
     one saved call
 compare folder FOLDER..
     every NAME.lerc2 of the folders; calls that differ are saved to failed
-compare esri [--blobs N] [--seed S]
+compare esri [--overflow] [--blobs N] [--seed S]
+    accepted images of blobs made at random (100,000 of them, seed 1) against
+    Esri's library (cargo feature esri); --overflow: of blobs in which products
+    are infinite
 compare esri FOLDER..
-    accepted images against Esri's library (cargo feature esri)
+    the same with every NAME.lerc2 of the folders
 
 Exit status: 0 no disagreement, 1 some, 2 wrong words, or it could not be run.
 ";
@@ -51,22 +54,26 @@ fn main() -> ExitCode {
     }
 }
 
-/// Names with the value behind each; no other word is taken.
+/// Names with the value behind each, and marks without one; no other word is
+/// taken.
 struct Options<'a>(Vec<(&'a str, &'a str)>);
 
 impl<'a> Options<'a> {
-    fn of(rest: &[&'a str], names: &[&str]) -> Result<Options<'a>, Box<dyn Error>> {
+    fn of(rest: &[&'a str], names: &[&str], marks: &[&str]) -> Result<Options<'a>, Box<dyn Error>> {
         let mut options = Vec::new();
-        for pair in rest.chunks(2) {
-            match pair {
-                [name, ..] if !names.contains(name) => {
-                    return Err(
-                        format!("unknown word {name}; known are {}", names.join(", ")).into(),
-                    );
-                }
-                [name, value] => options.push((*name, *value)),
-                _ => return Err(format!("{} needs a value", pair[0]).into()),
-            }
+        let mut words = rest.iter();
+        while let Some(&name) = words.next() {
+            let value = if marks.contains(&name) {
+                ""
+            } else if names.contains(&name) {
+                words
+                    .next()
+                    .ok_or_else(|| format!("{name} needs a value"))?
+            } else {
+                let known = [names, marks].concat().join(", ");
+                return Err(format!("unknown word {name}; known are {known}").into());
+            };
+            options.push((name, value));
         }
         Ok(Options(options))
     }
@@ -104,7 +111,7 @@ fn blobs(folder: &str) -> Result<Vec<PathBuf>, Box<dyn Error>> {
 
 fn run(rest: &[&str]) -> Result<bool, Box<dyn Error>> {
     let now = SystemTime::now().duration_since(UNIX_EPOCH)?.as_nanos() as u64;
-    let options = Options::of(rest, &["--calls", "--seed", "--from", "--out"])?;
+    let options = Options::of(rest, &["--calls", "--seed", "--from", "--out"], &[])?;
     let run = Run {
         seed: options.number("--seed", now)?,
         from: options.number("--from", 0)?,
@@ -190,12 +197,16 @@ fn esri(rest: &[&str]) -> Result<bool, Box<dyn Error>> {
     use compare::esri;
     let mut tally = esri::Tally::default();
     if rest.is_empty() || rest[0].starts_with("--") {
-        let options = Options::of(rest, &["--blobs", "--seed"])?;
+        let options = Options::of(rest, &["--blobs", "--seed"], &["--overflow"])?;
+        let made = match options.word("--overflow") {
+            Some(_) => esri::made_to_overflow,
+            None => esri::made,
+        };
         let seed = options.number("--seed", 1)?;
+        let blobs = options.number("--blobs", 100_000)?;
         println!("seed {seed}");
-        for blob in 0..options.number("--blobs", 100_000)? {
-            let bytes = esri::made(seed, blob);
-            tally.count(&format!("blob {blob}"), &bytes);
+        for blob in 0..blobs {
+            tally.count(&format!("blob {blob}"), &made(seed, blob));
         }
     } else {
         for folder in rest {

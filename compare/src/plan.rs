@@ -359,6 +359,9 @@ fn exact(random: &mut Random, blob: &Blob, op: Op) -> Case {
 /// Sums, products and conversions. Kinds above 7 are taken as 7 on both sides.
 fn arithmetic(random: &mut Random) -> Case {
     let op = random.pick(&[Op::Sum, Op::Scaled, Op::Narrow, Op::Number, Op::Stored]);
+    if op == Op::Sum && random.once_in(3) {
+        return Case::arithmetic(op, any_sort(random), any_sort(random));
+    }
     let a = any_number(random);
     let b = match op {
         Op::Sum => near(random, a),
@@ -416,6 +419,32 @@ fn near(random: &mut Random, a: u64) -> u64 {
     random.word() & 1 << 63 | exponent << 52 | fraction & ((1 << 52) - 1)
 }
 
+/// Numbers of either sign that sums tell apart: infinite ones, exponent fields
+/// of 2047 with a fraction, and finite ones from 0 to the largest.
+fn any_sort(random: &mut Random) -> u64 {
+    let any = random.word() >> 12;
+    let other = any_number(random) & !(1 << 63);
+    let magnitude = match random.below(4) {
+        0 => 0x7FF0_0000_0000_0000,
+        1 => random.pick(&[
+            0x7FF0_0000_0000_0001,
+            0x7FF8_0000_0000_0000,
+            0x7FFF_FFFF_FFFF_FFFF,
+            0x7FF0_0000_0000_0000 | any,
+        ]),
+        2 => random.pick(&[
+            0x7FEF_FFFF_FFFF_FFFF,
+            0x7FEF_FFFF_FFFF_FFFF,
+            0x7FE0_0000_0000_0000 | any,
+            // 2^970, half the last place of the largest one.
+            0x7C90_0000_0000_0000,
+            0x7C90_0000_0000_0001,
+        ]),
+        _ => random.pick(&[0, 0, 1, (1 << 52) - 1, other]),
+    };
+    random.word() & 1 << 63 | magnitude
+}
+
 /// Numbers at the ends of the integer kinds.
 fn whole_edge(random: &mut Random) -> u64 {
     let ends = [
@@ -467,6 +496,7 @@ pub fn large(random: &mut Random, out: &mut Vec<Case>) {
         body: random.pick(&[Body::ConstantByHeader, Body::Raw, Body::Blocks]),
         fault: Fault::None,
         esri: false,
+        huge: false,
     };
     let form = form(random, wanted);
     let blob = Blob::new(&form, form.bytes());

@@ -1,8 +1,14 @@
 //! The generator makes every form, and what it makes without a fault is read.
 
-use compare::form::{form, Body, Fault, Wanted, OFFSET_KINDS};
+mod common;
+
+use common::sum_by_count;
+use compare::case::Op;
+use compare::counted::{counted, Counted};
+use compare::form::{any_form, form, Body, Fault, Wanted, OFFSET_KINDS};
+use compare::plan;
 use compare::random::Random;
-use std::collections::HashSet;
+use std::collections::{HashMap, HashSet};
 
 #[test]
 fn every_form_comes_up() {
@@ -62,4 +68,82 @@ fn every_form_comes_up() {
     assert_eq!(packs.len(), 3 * (32 + 31));
     assert_eq!(entries.len(), 254);
     assert!(numbers.len() > 150, "{}", numbers.len());
+}
+
+/// The counted cells of a blob whose product is infinite, once it is seen that
+/// each is the maximum; none if the blob is refused.
+fn infinite(bytes: &[u8]) -> Vec<Counted> {
+    let Ok(header) = second::read_header(bytes) else {
+        return Vec::new();
+    };
+    let (mut kept, mut spare) = (vec![0; header.mask_length()], vec![0; header.mask_length()]);
+    let (mut list, mut image) = (vec![0; header.blocks()], vec![0; header.cells()]);
+    let read = second::read(bytes, false, &mut kept, &mut spare, &mut list, &mut image);
+    let Ok((_, blocks, _)) = read else {
+        return Vec::new();
+    };
+    let mut cells = counted(bytes, &kept, &list[..blocks]);
+    cells.retain(Counted::is_infinite);
+    for cell in &cells {
+        assert_eq!(image[cell.cell], cell.word(cell.maximum, header.kind));
+    }
+    cells
+}
+
+/// Blobs with infinite products, and among them those in which an infinity that
+/// counts as 2^1024 would show.
+#[test]
+fn infinite_products_come_up() {
+    let mut random = Random::new(8);
+    let mut kinds = [0; 8];
+    let mut signs = [0; 2];
+    let mut shown = 0;
+    for _ in 0..20_000 {
+        let form = any_form(&mut random, false);
+        let cells = infinite(&form.bytes());
+        if cells.is_empty() {
+            continue;
+        }
+        kinds[form.fields.kind as usize] += 1;
+        signs[(cells[0].offset >> 63) as usize] += 1;
+        let shows =
+            |cell: &Counted| second::less(sum_by_count(cell.offset, cell.product), cell.maximum);
+        shown += usize::from(cells.iter().any(shows));
+    }
+    assert!(kinds.iter().all(|&blobs| blobs > 10), "{kinds:?}");
+    assert!(kinds[7] > 500 && shown > 100, "{kinds:?}, {shown}");
+    assert!(signs.iter().all(|&blobs| blobs > 200), "{signs:?}");
+}
+
+/// What a sum tells apart.
+fn sort(word: u64) -> (bool, usize) {
+    let ends = [
+        0,
+        (1 << 52) - 1,
+        // 2^970.
+        0x7C90_0000_0000_0000,
+        0x7FEF_FFFF_FFFF_FFFE,
+        0x7FEF_FFFF_FFFF_FFFF,
+        0x7FF0_0000_0000_0000,
+        u64::MAX >> 1,
+    ];
+    let magnitude = word & !(1 << 63);
+    let sort = ends.iter().position(|&end| magnitude <= end);
+    (word >> 63 == 1, sort.unwrap())
+}
+
+#[test]
+fn every_pairing_of_a_sum_comes_up() {
+    let mut pairings = HashMap::new();
+    let mut cases = Vec::new();
+    for blob in 0..20_000 {
+        plan::calls(&mut Random::of(1, blob), &mut cases);
+        for case in cases.drain(..).filter(|case| case.op == Op::Sum) {
+            *pairings.entry(case.numbers.map(sort)).or_insert(0) += 1;
+        }
+    }
+    // Both signs of seven sorts, in both orders.
+    assert_eq!(pairings.len(), 14 * 14);
+    let (pairing, least) = pairings.iter().min_by_key(|entry| entry.1).unwrap();
+    assert!(*least > 3, "{pairing:?}: {least}");
 }

@@ -143,6 +143,13 @@ fn word(negative: bool, magnitude: &Whole) -> u64 {
 
 pub fn sum(a: u64, b: u64) -> u64 {
     let (x, y) = (units(a), units(b));
+    // An infinity has just these units; finite numbers have fewer.
+    let infinite = Whole::new(1).shifted_up(1024 + 1074);
+    match (x.compare(&infinite), y.compare(&infinite)) {
+        (Ordering::Equal, Ordering::Less) => return a,
+        (Ordering::Less, Ordering::Equal) => return b,
+        _ => {}
+    }
     if is_negative(a) == is_negative(b) {
         return word(is_negative(a), &x.plus(&y));
     }

@@ -1,8 +1,9 @@
 //! Arithmetic on the bits of a binary64, and native words of each kind.
 //!
 //! Finite operands use the machine's own operations, each of which rounds
-//! once. An operand with exponent field 2047 is counted as if it were finite
-//! with the next exponent; no machine does that, so it has its own path.
+//! once. The sum of an infinity and a finite number is that infinity. Else an
+//! operand with exponent field 2047 is counted as if it were finite with the
+//! next exponent; no machine does that, so it has its own path.
 
 use crate::refusal::{Refusal, DOES_NOT_FIT};
 
@@ -36,6 +37,11 @@ pub fn is_finite(v: u64) -> bool {
     v & INFINITY != INFINITY
 }
 
+/// Exponent field 2047 and no fraction.
+fn is_infinite(v: u64) -> bool {
+    v & !SIGN == INFINITY
+}
+
 /// Equal bits, or both zero.
 pub fn same(a: u64, b: u64) -> bool {
     order(a) == order(b)
@@ -56,9 +62,17 @@ fn order(v: u64) -> i64 {
 }
 
 pub fn sum(a: u64, b: u64) -> u64 {
-    if is_finite(a) && is_finite(b) {
-        return (f64::from_bits(a) + f64::from_bits(b)).to_bits();
+    match (is_finite(a), is_finite(b)) {
+        (true, true) => (f64::from_bits(a) + f64::from_bits(b)).to_bits(),
+        (false, true) if is_infinite(a) => a,
+        (true, false) if is_infinite(b) => b,
+        _ => sum_past_finite(a, b),
     }
+}
+
+/// At least one operand has exponent field 2047, and each that has is counted
+/// as if it were finite.
+fn sum_past_finite(a: u64, b: u64) -> u64 {
     if (a ^ b) & SIGN == 0 {
         // At least 2^1024.
         return a & SIGN | INFINITY;

@@ -5,7 +5,8 @@
 
 Nothing here is taken from the proofs. A magnitude is a whole number of units of 2^-1074. The bits of a sum or a product are
 found by bisection: the greatest word whose value does not pass the exact result, then the nearer of it and the next, the even
-one of two equally near. Where the operands are finite, the results are compared with those of the machine's own doubles.
+one of two equally near. An infinity plus a finite number is that infinity. Where the operands are finite, and in a sum also where one
+of them is infinite, the results are compared with those of the machine's own doubles.
 """
 import random
 import struct
@@ -55,7 +56,19 @@ def whole(w):
     return -units(w) if w >= SIGN else units(w)
 
 
+def is_finite(w):
+    return w % SIGN < INF
+
+
+def is_infinite(w):
+    return w % SIGN == INF
+
+
 def plus(a, b):
+    if is_infinite(a) and is_finite(b):
+        return a
+    if is_infinite(b) and is_finite(a):
+        return b
     exact = whole(a) + whole(b)
     both = a >= SIGN and b >= SIGN
     return signed(exact < 0 or (exact == 0 and both), abs(exact))
@@ -126,12 +139,12 @@ def single(x):
 
 def check(a, b, q, kind):
     """the machine's own arithmetic, where it says the same thing"""
-    if a % SIGN < INF:
+    if is_finite(a):
         assert bits(double(a) * float(2 * q)) == scale(a, q), (hex(a), q)
         assert single(double(a)) == narrow(a), hex(a)
-        if b % SIGN < INF:
-            assert bits(double(a) + double(b)) == plus(a, b), (hex(a), hex(b))
-            assert (double(a) < double(b)) == (whole(a) < whole(b))
+    if (is_finite(a) or is_finite(b)) and a % SIGN <= INF and b % SIGN <= INF:
+        assert bits(double(a) + double(b)) == plus(a, b), (hex(a), hex(b))
+        assert (double(a) < double(b)) == (whole(a) < whole(b))
     if kind < 6:
         n = double(number(b, kind))
         assert n == int(n) and integer(bits(n), kind) == b % (1 << 8 * size(kind))
@@ -180,6 +193,25 @@ def partner(a):
     ])()
 
 
+def infinities():
+    """infinities in sums; field 2047 with a fraction is no infinity, and counts as finite as ever"""
+    signs, fractions, high = (0, SIGN), [INF + 1, SIGN - 1], bits(2.0 ** 1023)
+    # were an infinity counted as 2^1024, a finite number of the other sign would show in the sum where it is above 2^970
+    finite = [0, 1, (1 << 52) - 1, bits(1.0), bits(2.0 ** 970), bits(2.0 ** 970) + 1, bits(3 * 2.0 ** 970), high, INF - 1]
+    met = [(INF, y) for y in [*finite, INF, *fractions]] + [(x, y) for x in fractions for y in (0, high, INF - 1)]
+    for x, y in met:
+        for s in signs:
+            for t in signs:
+                yield x + s, y + t, 1, 7
+                yield y + t, x + s, 1, 7
+    # offset -2^1023, error 2^1000, count 2^30: the product, the sum, the lesser of it and a maximum
+    error, low = bits(2.0 ** 1000), high + SIGN
+    product = scale(error, 1 << 30)
+    yield error, low, 1 << 30, 7
+    yield low, product, 1, 7
+    yield plus(low, product), bits(1.5 * 2.0 ** 1023), 1, 7
+
+
 def cases():
     for a in SPECIAL:
         for s in (0, SIGN):
@@ -189,6 +221,7 @@ def cases():
         a = word()
         q = random.choice([random.randrange(0, 16), random.getrandbits(random.randrange(1, 33)), 0xffffffff, (1 << 32) - (1 << random.randrange(0, 20))])
         yield a, partner(a), q, random.randrange(0, 9)
+    yield from infinities()
 
 
 def shown(x):
@@ -203,7 +236,7 @@ def main():
         less, same = whole(a) < whole(b), a == b or whole(a) == whole(b) == 0
         o = offset(kind, q % 5)
         lines.append('%016x %016x %016x %x %x %x %08x %016x %x %s %s %s \n' % (
-            plus(a, b), scale(a, q), a if less else b, less, same, a % SIGN < INF, narrow(a), number(b, kind),
+            plus(a, b), scale(a, q), a if less else b, less, same, is_finite(a), narrow(a), number(b, kind),
             size(kind), shown(integer(a, kind)), shown(stored(a, kind)), 'r8' if o is REFUSED else '%x' % o))
     assert len(lines) >= 2000 and len(data) <= 65536
     folder = 'crates/lerc_numeric_cases/'

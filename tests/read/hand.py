@@ -1,5 +1,6 @@
 """Blobs by hand and what the rules say of them, the sentence of the rules beside each."""
 import struct
+import sys
 
 import blobs
 from blobs import changed, made
@@ -26,6 +27,7 @@ COUNTS = 'counts must number the tile\'s valid pixels, else 8'
 PACKED = 'h/64 = 3 is 8; n above 256 is 8'
 ENTRIES = 'set: bits 0 is, once n has been read, 8; one byte entries, under 2 is 8; an index at or above entries is 8'
 VALUE = 'kinds 0 to 5 cut toward zero and refuse outside the range'
+INFINITE = 'finite plus infinity, either way round, is that infinity'
 SPARE = 'where the mask section was accepted and no mask was reused, the spare holds the new mask'
 
 P7 = bytes.fromhex('0200A0400080')
@@ -119,9 +121,38 @@ def bodies():
     yield 'two-tiles-two-depths', made(hexed('0A0A0C0C00 030A 030B 070C 070D'), columns=9, depth=2), [10, 11] * 8 + [12, 13], x
 
 
+def stepped(kind, error, low, highs, bits, *counts):
+    """a row of pixels in one block for each depth: the offset is the minimum, a maximum for each depth, counts of so many bits"""
+    depth, n, code = len(highs), len(counts), blobs.CODES[kind]
+    ranges = struct.pack('<%d%s' % (2 * depth, code), *[low] * depth, *highs)
+    run = sum(q << bits * i for i, q in enumerate(counts)).to_bytes((n * bits + 7) // 8, 'little')
+    block = b'\1' + struct.pack('<' + code, low) + bytes([128 + bits, n]) + run
+    return made(ranges + b'\0' + block * depth, columns=n, depth=depth, kind=kind, error=error, low=float(low), high=float(max(highs)))
+
+
+def products():
+    """Products that become infinite: the clamp gives the maximum. With a true checksum Esri's library reads the same words."""
+    high, most, error, third = 2.0 ** 1023, sys.float_info.max, 2.0 ** 1022, 0x15555555555555 * 2.0 ** 969
+    word = 0x7FE8000000000000
+    yield 'product-2^1024', stepped(7, error, -high, [1.5 * high], 2, 2), [word], INFINITE + ' (the shortest blob that tells)'
+    yield 'product-2^1031', stepped(7, 2.0 ** 1000, -high, [1.5 * high], 31, 1 << 30), [word], INFINITE
+    yield 'product-rounded', stepped(7, third, -high, [1.5 * high], 2, 3), [word], '2^1024 - 2^970 and above becoming infinity; ' + INFINITE
+    both = stepped(7, 2.0 ** 1000, -high, [1.5 * high], 24, (1 << 23) - 1, 1 << 23)
+    yield 'product-beside-finite', both, [0x7FDFFFFF80000000, word], INFINITE + ' (the first product is finite)'
+    depths = stepped(7, error, -high, [1.25 * high, 1.5 * high], 2, 2)
+    yield 'product-two-depths', depths, [0x7FE4000000000000, word], INFINITE + ' (a maximum for each depth)'
+    # with an infinity counted as 2^1024 these sums would be infinity, the greatest finite number for two offsets, and the one before it
+    for name, low in (('2^970', 2.0 ** 970), ('2^970-next', 2.0 ** 970 + 2.0 ** 918), ('3*2^970-before', 3 * 2.0 ** 970 - 2.0 ** 919),
+                      ('3*2^970', 3 * 2.0 ** 970)):
+        yield 'product-offset-' + name, stepped(7, error, -low, [most], 2, 2), [0x7FEFFFFFFFFFFFFF], INFINITE
+    single = (2 - 2.0 ** -23) * 2.0 ** 127
+    for kind, low, top, last in ((1, 10, 12, 12), (4, -1 << 31, (1 << 31) - 1, (1 << 31) - 1), (6, -single, single, 0x7F7FFFFF)):
+        yield 'product-kind-%d' % kind, stepped(kind, error, low, [top], 2, 2), [last], INFINITE
+
+
 def accepted():
     """name, blob, words of all cells (those of invalid pixels do not matter), sentence"""
-    return [*constants(), *empties(), *bodies()]
+    return [*constants(), *empties(), *bodies(), *products()]
 
 
 def reused():

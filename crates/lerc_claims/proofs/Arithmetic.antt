@@ -2,29 +2,34 @@
 -- Assumes nothing.
 use Prim.Native.Nat.{ℕ, _+_, _-_, _*_, _/_, _%_, _^_, _≤_, _<_}
 use mathlib.Core.Path.{_≡_, _∙_, sym, refl}
-use mathlib.Core.Bool.{Bool·beq, true, false, cond, and-true}
+use mathlib.Core.Bool.{true, false, cond}
 use native.Mathlib.Omega.{arith}
-use native.Mathlib.Nat.{le-refl, le-of-lt, le-div-iff-mul-le, div-lt-iff-lt-mul}
-use borrow.Author.Tests.{lt-ltb, le-ltb, ne-eqb}
+use native.Mathlib.Nat.{le-refl, le-div-iff-mul-le, div-lt-iff-lt-mul}
+use borrow.Author.Tests.{ltb-true, ne-eqb}
 use lib.Dec.{lit<}
+use lib.Ieee.{size}
 use Rattle.lerc_words.specs.Res.{ok}
 use Rattle.lerc_words.proofs.Binding.{ok-is}
-use Rattle.lerc_numeric.specs.Numeric.{negative, field, mag, bits64, bits32, signed, sum, scaled, less, lesser}
+use Rattle.lerc_numeric.specs.Numeric.{negative, field, finite, infinite, mag, code, bits64, bits32, signed, sum, countedSum, scaled, less, lesser}
 use Rattle.lerc_numeric.specs.Kinds.{modulus, narrowed, whole, cut}
-use Rattle.lerc_numeric.proofs.Sums.{beq-refl}
+use Rattle.lerc_numeric.proofs.Infinity.{sum-left, sum-right, absorbs-both}
+use Rattle.lerc_numeric.proofs.Sums.{sum-comm, sum-alike, sum-apart, sum-cancels, sum-zeros}
 use Rattle.lerc_numeric.proofs.Right.{nearest64, even64, infinite64, finite64, nearest32, even32, infinite32, finite32, own64, own32}
-use Rattle.lerc_numeric.proofs.Monotone.{less-sides, sum-cancels, sum-zeros, scaled-sign, sum-comm, sum-mono-right, less-asym, less-trans}
+use Rattle.lerc_numeric.proofs.Monotone.{less-sides, scaled-sign, sum-mono-right, less-asym, less-trans}
+use Rattle.lerc_numeric.proofs.NearestSum.{sum-nearest, sum-even, sum-own}
 use Rattle.lerc_numeric.proofs.Fits.{cut-integer, held-cut, cut-held}
 use Rattle.lerc_numeric.proofs.RoundTrip.{narrow-wide}
-use Rattle.lerc_claims.specs.Arithmetic.{Rounding, Sums, Order, Conversions, Computes, Arithmetic}
+use Rattle.lerc_claims.specs.Arithmetic.{Rounding, Sums, NearestSums, InfiniteSums, Order, Conversions, Computes, Arithmetic}
 
-sum-alike : (a b : ℕ) → negative a ≡ negative b → sum a b ≡ signed (negative a) (bits64 (mag a + mag b))
-unfolding sum
-sum-alike a b e = rw (e, beq-refl)
+is-finite : (w : ℕ) → finite w ≡ true → field w < 2047
+is-finite w e = ltb-true (field w) 2047 e
 
-sum-apart : (a b : ℕ) → Bool·beq (negative a) (negative b) ≡ false → mag b < mag a → sum a b ≡ signed (negative a) (bits64 (mag a - mag b))
-unfolding sum
-sum-apart a b e l = rw (e, le-ltb (mag a) (mag b) (le-of-lt l), lt-ltb (mag b) (mag a) l, and-true)
+sum-infinite : (a b : ℕ) → infinite a ≡ true → finite b ≡ true → (sum a b ≡ a) × (sum b a ≡ a)
+sum-infinite a b i f = let x = absorbs-both a b i (is-finite b f) in (sum-left a b x, sum-right b a x)
+
+sum-falls : (less 0x7FF0000000000001 0x7FF0000000000000 ≡ false) × (less (sum 0xFFEFFFFFFFFFFFFF 0x7FF0000000000001) (sum 0xFFEFFFFFFFFFFFFF 0x7FF0000000000000) ≡ true)
+unfolding less sum countedSum mag code size
+sum-falls = (refl, refl)
 
 scaled-is : (a q : ℕ) → scaled a q ≡ signed (negative a) (bits64 (2 * q * mag a))
 unfolding scaled
@@ -80,6 +85,16 @@ sums = record {
   sum-grows = sum-mono-right;
 }
 
+nearest-sums : NearestSums
+nearest-sums = record {
+  sum-nearest = λ a b w fa fb fs. sum-nearest a b (is-finite a fa) (is-finite b fb) (is-finite (sum a b) fs) w;
+  sum-even = λ a b w fa fb fs. sum-even a b (is-finite a fa) (is-finite b fb) (is-finite (sum a b) fs) w;
+  sum-own = sum-own;
+}
+
+infinite-sums : InfiniteSums
+infinite-sums = record { sum-infinite = sum-infinite; sum-falls = sum-falls }
+
 order : Order
 order = record {
   less-is = less-sides;
@@ -110,4 +125,4 @@ computes = record {
 }
 
 pub arithmetic : Arithmetic
-arithmetic = record { rounding = rounding; sums = sums; order = order; conversions = conversions; computes = computes }
+arithmetic = record { rounding = rounding; sums = sums; nearest-sums = nearest-sums; infinite-sums = infinite-sums; order = order; conversions = conversions; computes = computes }

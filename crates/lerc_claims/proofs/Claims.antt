@@ -1,10 +1,11 @@
 -- All that is claimed, proved.
 -- Assumes nothing.
-use Rattle.lerc_theorems.specs.Cases.{cases}
+use Rattle.lerc_theorems.specs.Cases.{cases, infinities}
 use Rattle.lerc_theorems.proofs.DemandOne.{demand-one}
 use Rattle.lerc_theorems.proofs.DemandTwo.{demand-two}
 use Rattle.lerc_theorems.proofs.DemandThree.{demand-three}
 use Rattle.lerc_c_theorems.proofs.InC.{demands-in-c}
+use Rattle.lerc_overflow.proofs.Changes.{changes}
 use Rattle.lerc_contracts.proofs.Upstream.{upstream}
 use Rattle.lerc_program.proofs.Example.{computed}
 use Rattle.lerc_claims.specs.Claims.{Claims}
@@ -18,8 +19,10 @@ claims = record {
   three = demand-three;
   in-c = demands-in-c;
   arithmetic = arithmetic;
+  changes = changes;
   upstream = upstream;
   program = program;
   worked = cases;
+  infinities = infinities;
   printed = computed;
 }

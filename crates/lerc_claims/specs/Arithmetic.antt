@@ -8,7 +8,7 @@ use mathlib.Core.Logic.{_≢_}
 use mathlib.Core.Bool.{Bool·beq, true, false, cond}
 use lib.Dec.{ltb}
 use Rattle.lerc_words.specs.Res.{ok}
-use Rattle.lerc_numeric.specs.Numeric.{negative, field, mag, bits64, bits32, signed, sum, scaled, less, lesser}
+use Rattle.lerc_numeric.specs.Numeric.{negative, field, finite, infinite, mag, bits64, bits32, signed, absorbs, sum, scaled, less, lesser}
 use Rattle.lerc_numeric.specs.Numeric as Numeric
 use Rattle.lerc_numeric.specs.Kinds.{modulus, integer, field32, mag32, widened, valueOf, narrowed, whole, cut, integerSaid}
 use Rattle.lerc_numeric.proofs.plus.Reads as plusses
@@ -41,6 +41,14 @@ above w = cond (negative w) 0 (mag w)
 abbrev pub beneath : ℕ → ℕ
 beneath w = cond (negative w) (mag w) 0
 
+-- how far a word is from the exact a + b
+abbrev pub offBy : ℕ → ℕ → ℕ → ℕ
+offBy a b w = distance (above a + above b + beneath w) (beneath a + beneath b + above w)
+
+-- finite or infinite: a field of 2047 has no fraction
+abbrev pub IsNumber : ℕ → Type 0
+IsNumber w = w % 2 ^ 63 ≤ infinity64
+
 pub record Rounding : Type 0 where
   -- "each nearest with ties to even": no word is nearer to n units than the word that they are rounded to; where another is as near, that word is even
   pub nearest64 : (n w : ℕ) → bits64 n < infinity64 → distance n (mag (bits64 n)) ≤ distance n (mag w)
@@ -58,17 +66,31 @@ pub record Rounding : Type 0 where
   pub own32 : (v : ℕ) → field32 v < 255 → bits32 (units32 v) ≡ v % 2 ^ 31
 
 pub record Sums : Type 0 where
-  -- "scaled(a, q) is 2·q·a, sum is a + b", each the exact magnitude rounded; of opposite signs the greater decides
-  pub sum-alike : (a b : ℕ) → negative a ≡ negative b → sum a b ≡ signed (negative a) (bits64 (mag a + mag b))
-  pub sum-apart : (a b : ℕ) → Bool·beq (negative a) (negative b) ≡ false → mag b < mag a → sum a b ≡ signed (negative a) (bits64 (mag a - mag b))
+  -- "scaled(a, q) is 2·q·a, sum is a + b", each the exact magnitude rounded; of opposite signs the greater decides, unless it is an infinity that meets a finite number
+  pub sum-alike : (a b : ℕ) → a < 2 ^ 64 → b < 2 ^ 64 → negative a ≡ negative b → sum a b ≡ signed (negative a) (bits64 (mag a + mag b))
+  pub sum-apart : (a b : ℕ) → Bool·beq (negative a) (negative b) ≡ false → mag b < mag a → absorbs a b ≡ false → sum a b ≡ signed (negative a) (bits64 (mag a - mag b))
   pub scaled-is : (a q : ℕ) → scaled a q ≡ signed (negative a) (bits64 (2 * q * mag a))
   -- "Opposite signs cancelling give +0; two zeros of one sign keep it; a product has the sign of a"
   pub sum-cancels : (a b : ℕ) → Bool·beq (negative a) (negative b) ≡ false → mag a ≡ mag b → sum a b ≡ 0
   pub sum-zeros : (a b : ℕ) → negative a ≡ negative b → mag a ≡ 0 → mag b ≡ 0 → sum a b ≡ signed (negative a) 0
   pub scaled-sign : (a q : ℕ) → negative (scaled a q) ≡ negative a
-  -- a sum does not depend on the order of its operands, and does not fall where one of them grows
+  -- a sum does not depend on the order of its operands, and does not fall where one of them grows from a number to a number, infinities among them
   pub sum-comm : (a b : ℕ) → sum a b ≡ sum b a
-  pub sum-grows : (a b c : ℕ) → less c b ≡ false → less (sum a c) (sum a b) ≡ false
+  pub sum-grows : (a b c : ℕ) → IsNumber b → IsNumber c → less c b ≡ false → less (sum a c) (sum a b) ≡ false
+
+pub record NearestSums : Type 0 where
+  -- "nearest with ties to even": no word is nearer to the exact a + b than a finite sum of finite numbers; where another value is as near, the sum is even
+  pub sum-nearest : (a b w : ℕ) → finite a ≡ true → finite b ≡ true → finite (sum a b) ≡ true → offBy a b (sum a b) ≤ offBy a b w
+  pub sum-even : (a b w : ℕ) → finite a ≡ true → finite b ≡ true → finite (sum a b) ≡ true
+      → above w + beneath (sum a b) ≢ above (sum a b) + beneath w → offBy a b (sum a b) ≡ offBy a b w → sum a b % 2 ≡ 0
+  -- a number, infinities among them, is its own sum with a zero, unless it is one
+  pub sum-own : (a z : ℕ) → a < 2 ^ 64 → z < 2 ^ 64 → IsNumber a → mag a ≢ 0 → mag z ≡ 0 → sum a z ≡ a
+
+pub record InfiniteSums : Type 0 where
+  -- "finite plus infinity, either way round, is that infinity"
+  pub sum-infinite : (a b : ℕ) → infinite a ≡ true → finite b ≡ true → (sum a b ≡ a) × (sum b a ≡ a)
+  -- between an infinity and a pattern with a fraction, which is counted farther out, it can fall: to the greatest finite number, negated, infinity adds to infinity, and the next pattern to less
+  pub sum-falls : (less 0x7FF0000000000001 0x7FF0000000000000 ≡ false) × (less (sum 0xFFEFFFFFFFFFFFFF 0x7FF0000000000001) (sum 0xFFEFFFFFFFFFFFFF 0x7FF0000000000000) ≡ true)
 
 pub record Order : Type 0 where
   -- "the lesser of" two, the second on a tie; comparing is by value, and an order
@@ -102,6 +124,8 @@ pub record Computes : Type 0 where
 pub record Arithmetic : Type 0 where
   pub rounding : Rounding
   pub sums : Sums
+  pub nearest-sums : NearestSums
+  pub infinite-sums : InfiniteSums
   pub order : Order
   pub conversions : Conversions
   pub computes : Computes

@@ -7,6 +7,7 @@ use Rattle.lerc_theorems.specs.DemandOne.{DemandOne}
 use Rattle.lerc_theorems.specs.DemandTwo.{DemandTwo}
 use Rattle.lerc_theorems.specs.DemandThree.{DemandThree}
 use Rattle.lerc_c_theorems.specs.InC.{DemandsInC}
+use Rattle.lerc_overflow.specs.Changes.{Changes}
 use Rattle.lerc_contracts.specs.Upstream.{Upstream}
 use Rattle.lerc_program.proofs.Example.{Computed}
 use Rattle.lerc_claims.specs.Arithmetic.{Arithmetic}
@@ -23,11 +24,15 @@ pub record Claims : Type 0 where
   pub in-c : DemandsInC
   -- rounding, sums, products, order and conversions
   pub arithmetic : Arithmetic
+  -- what "finite plus infinity, either way round, is that infinity" changes, and what not
+  pub changes : Changes
   -- upstream's contracts, clause by clause
   pub upstream : Upstream
   -- the program's text
   pub program : ProgramClaims
   -- "These twelve stand in a single table with a single claim."
   pub worked : map (λ (c : cases.Case). c .got) cases.table ≡ map (λ (c : cases.Case). c .want) cases.table
+  -- the numbers of that sentence, both ways round
+  pub infinities : map (λ (c : cases.Case). c .got) cases.infinityTable ≡ map (λ (c : cases.Case). c .want) cases.infinityTable
   -- the text that the rules print, and two more, as the checker computes them
   pub printed : Computed

@@ -1,5 +1,5 @@
--- lerc_block.rs: its clauses from ours. "THE BLOCK" says that upstream's mode and cells are our block, but for the number of a
--- refusal.
+-- lerc_block.rs: its clauses from ours. "THE BLOCK" says that upstream's mode and cells are our block over its own sum, but for the
+-- number of a refusal.
 -- Assumes nothing.
 use mathlib.Core.Path.{_≡_, refl, sym, ap, _∙_}
 use mathlib.Core.Bool.{Bool, true, false, cond, _||_}
@@ -14,34 +14,45 @@ use native.Mathlib.Decide.{decLt, decLe}
 use borrow.Author.Tests.{le-leb, lt-leb, eq-eqb, ne-eqb, eqb-true, eqb-false}
 use lib.Dec.{eqb}
 use lib.ListN.{length, getD, replicate, length-replicate, getD-replicate}
+use Rattle.lerc_words.specs.declared.Refusal.{Refusal}
 use Rattle.lerc_words.specs.Res.{Res, ok, fail, _>>=_, require, little, each}
 use Rattle.lerc_words.specs.Lists.{tabulate}
 use Rattle.lerc_words.proofs.Little.{Bytes, wordAt-no}
 use Rattle.lerc_words.proofs.Tables.{getD-tabulate}
-use Rattle.lerc_numeric.specs.Numeric.{finite, lesser}
+use Rattle.lerc_words.proofs.Each.{each-at, each-not}
+use Rattle.lerc_numeric.specs.Numeric.{finite, countedSum, lesser}
 use Rattle.lerc_numeric.specs.Kinds.{typeSize}
 use Rattle.lerc_samples.specs.Samples.{sampleAt, stored, offsetKind}
 use Rattle.lerc_header.specs.declared.Header.{Header}
 use Rattle.lerc_header.specs.Header.{shapeOf}
 use Rattle.lerc_header.specs.Shape.{Shaped, cells, blockCount}
 use Rattle.lerc_bits.specs.Bits.{Counts, counts}
-use Rattle.lerc_block.specs.Block.{Block, Offset, rawWords, levelBlock, stepValue, steppedBlock, offsetAt, finiteOffset, offsetBlock, formed, flagAt, blockSays}
+use Rattle.lerc_block.specs.Block.{Block, Offset, rawWords, levelBlock, offsetAt, finiteOffset, flagAt}
 use Rattle.lerc_image.specs.declared.Tile.{Tile}
 use Rattle.lerc_image.specs.Geometry.{tileOf}
 use Rattle.lerc_image.specs.Paint.{scattered}
+use Rattle.lerc_overflow.specs.By.{stepBy, steppedBy, offsetBy, formedBy, blockBy}
+use Rattle.lerc_overflow.proofs.Steps.{step-same}
 use Rattle.lerc_contracts.specs.Outside.{said, onSome, lengthMax}
 use Rattle.lerc_contracts.specs.Block.{Mode, mode, modeOffset, value, ResultModel, finished, finish, countsOf, block}
 use Rattle.lerc_contracts.specs.Between.{validOf, result}
 use Rattle.lerc_contracts.specs.BlockClauses.{BlockIs, ValueCases, ModeCases, OffsetCases}
-use Rattle.lerc_contracts.proofs.WithoutNumber.{each-at, each-not}
 use Rattle.lerc_contracts.proofs.Bits.{byte-ok, decoded-is}
 use Rattle.lerc_contracts.proofs.Walking.{run-all, run-none}
 
 -- ---- `value`
 
 module _ (s : List ℕ) (h : Header) (m : Mode) (q : List ℕ) (at index maximum : ℕ) where
+  counted-word : m .flag ≡ 1 → index < length q → (w : ℕ) → stored (h .kind) (stepBy countedSum (h .error) maximum (m .offset) (getD q index 0)) ≡ ok w → value s h m q at index maximum ≡ some (record { value = w; at = at; q = index + 1 })
+  unfolding value stepBy lesser
+  counted-word f l w e = rw (ne-eqb (m .flag) 0 (λ e. omega arith), ne-eqb (m .flag) 2 (λ e. omega arith), ne-eqb (m .flag) 3 (λ e. omega arith), eq-eqb (m .flag) 1 f, lt-leb (length q) index l, e)
+
+  counted-none : m .flag ≡ 1 → index < length q → (r : Refusal) → stored (h .kind) (stepBy countedSum (h .error) maximum (m .offset) (getD q index 0)) ≡ fail r → value s h m q at index maximum ≡ none
+  unfolding value stepBy lesser
+  counted-none f l r e = rw (ne-eqb (m .flag) 0 (λ e. omega arith), ne-eqb (m .flag) 2 (λ e. omega arith), ne-eqb (m .flag) 3 (λ e. omega arith), eq-eqb (m .flag) 1 f, lt-leb (length q) index l, e)
+
   pub value-cases : ValueCases s h m q at index maximum
-  unfolding value stepValue lesser
+  unfolding value
   value-cases = record {
     raw-past = λ f l. rw (eq-eqb (m .flag) 0 f, lt-leb (at + typeSize (h .kind)) (length s) l);
     raw-word = λ f l. rw (eq-eqb (m .flag) 0 f, le-leb (at + typeSize (h .kind)) (length s) l);
@@ -49,8 +60,10 @@ module _ (s : List ℕ) (h : Header) (m : Mode) (q : List ℕ) (at index maximum
     level-word = λ f w e. rw (ne-eqb (m .flag) 0 (λ e. omega arith), ne-eqb (m .flag) 2 (λ e. omega arith), eq-eqb (m .flag) 3 f, ne-eqb (m .flag) 1 (λ e. omega arith), e);
     level-none = λ f r e. rw (ne-eqb (m .flag) 0 (λ e. omega arith), ne-eqb (m .flag) 2 (λ e. omega arith), eq-eqb (m .flag) 3 f, ne-eqb (m .flag) 1 (λ e. omega arith), e);
     step-past = λ f l. rw (ne-eqb (m .flag) 0 (λ e. omega arith), ne-eqb (m .flag) 2 (λ e. omega arith), eq-eqb (m .flag) 1 f, le-leb (length q) index l);
-    step-word = λ f l w e. rw (ne-eqb (m .flag) 0 (λ e. omega arith), ne-eqb (m .flag) 2 (λ e. omega arith), ne-eqb (m .flag) 3 (λ e. omega arith), eq-eqb (m .flag) 1 f, lt-leb (length q) index l, e);
-    step-none = λ f l r e. rw (ne-eqb (m .flag) 0 (λ e. omega arith), ne-eqb (m .flag) 2 (λ e. omega arith), ne-eqb (m .flag) 3 (λ e. omega arith), eq-eqb (m .flag) 1 f, lt-leb (length q) index l, e);
+    counted-word = counted-word;
+    counted-none = counted-none;
+    step-word = λ f l o i w e. counted-word f l w (rw (step-same (h .error) maximum (m .offset) (getD q index 0) o i) at e);
+    step-none = λ f l o i r e. counted-none f l r (rw (step-same (h .error) maximum (m .offset) (getD q index 0) o i) at e);
   }
 
 -- ---- `mode`
@@ -185,20 +198,20 @@ module _ (h : Header) (mask : List ℕ) (n : ℕ) (start : List ℕ) (g : Shaped
 
     -- the counts were read: their number, then each value
     abbrev told : List ℕ → Res Block
-    told q = require (eqb (length q) many) 8 >>= λ _. each (λ c. stored (h .kind) (stepValue (h .error) maximum (m .offset) c)) q >>= λ words. ok (record { words = words; next = m .at })
+    told q = require (eqb (length q) many) 8 >>= λ _. each (λ c. stored (h .kind) (stepBy countedSum (h .error) maximum (m .offset) c)) q >>= λ words. ok (record { words = words; next = m .at })
 
     stepped-is : (q : List ℕ) → m .flag ≡ 1 → cellsOf q ≡ said (result h mask n start) (told q)
     stepped-is q f = go (eqb (length q) many) refl
       where
         to : ℕ → Res ℕ
-        to c = stored (h .kind) (stepValue (h .error) maximum (m .offset) c)
+        to c = stored (h .kind) (stepBy countedSum (h .error) maximum (m .offset) c)
 
         step : (i : ℕ) → (value s h m q (m .at) i maximum ≡ none) ⊎ ((w : ℕ) × (value s h m q (m .at) i maximum ≡ some (record { value = w; at = m .at; q = i + 1 })))
         step i = here (decLt i (length q))
           where
             judged : i < length q → (w : Res ℕ) → to (getD q i 0) ≡ w → (value s h m q (m .at) i maximum ≡ none) ⊎ ((w : ℕ) × (value s h m q (m .at) i maximum ≡ some (record { value = w; at = m .at; q = i + 1 })))
-            judged l (ok w) e = inr (w, value-cases s h m q (m .at) i maximum .step-word f l w e)
-            judged l (fail r) e = inl (value-cases s h m q (m .at) i maximum .step-none f l r e)
+            judged l (ok w) e = inr (w, value-cases s h m q (m .at) i maximum .counted-word f l w e)
+            judged l (fail r) e = inl (value-cases s h m q (m .at) i maximum .counted-none f l r e)
 
             here : Dec (i < length q) → (value s h m q (m .at) i maximum ≡ none) ⊎ ((w : ℕ) × (value s h m q (m .at) i maximum ≡ some (record { value = w; at = m .at; q = i + 1 })))
             here (yes l) = judged l (to (getD q i 0)) refl
@@ -207,12 +220,12 @@ module _ (h : Header) (mask : List ℕ) (n : ℕ) (start : List ℕ) (g : Shaped
         right : length q ≡ many → (x : Res (List ℕ)) → each to q ≡ x → cellsOf q ≡ said (result h mask n start) (x >>= λ words. ok (record { words = words; next = m .at }))
         right e (ok words) d =
             run-all h mask n start g below room s m q maximum (λ i. m .at) (λ i. i) refl refl words
-            (λ i k. value-cases s h m q (m .at) i maximum .step-word f (omega arith) (getD words i 0) (each-at to q i 0 0 d (omega arith)))
+            (λ i k. value-cases s h m q (m .at) i maximum .counted-word f (omega arith) (getD words i 0) (each-at to q i 0 0 d (omega arith)))
             ∙ rw (eq-eqb (m .flag) 1 f, eq-eqb many (length q) (sym e))
         right e (fail r) d =
             let (j, k, b) = each-not to q 0 d in
             run-none h mask n start g below room s m q maximum (λ i. m .at) (λ i. i) refl refl (λ i _. step i)
-            (inl (j, omega arith, omega arith, value-cases s h m q (m .at) j maximum .step-none f k r b))
+            (inl (j, omega arith, omega arith, value-cases s h m q (m .at) j maximum .counted-none f k r b))
 
         wrong : (length q ≡ many → ⊥) → Dec (length q < many) → cellsOf q ≡ none
         wrong d (yes l) = run-none h mask n start g below room s m q maximum (λ i. m .at) (λ i. i) refl refl (λ i _. step i)
@@ -232,11 +245,11 @@ module _ (h : Header) (mask : List ℕ) (n : ℕ) (start : List ℕ) (g : Shaped
     rest m = finish s h (tileOf (shapeOf h) n) m (countsOf s m) mask maximum 0 (m .at) 0 start 256
 
     steps-rest : (f k v : ℕ) → f ≡ 1 → finite v ≡ true → eqb f 3 ≡ false
-        → onSome (modeOffset s at f k v) rest ≡ said (result h mask n start) (steppedBlock s (at + 1 + typeSize k) (h .kind) (h .error) maximum v many)
-    unfolding steppedBlock
+        → onSome (modeOffset s at f k v) rest ≡ said (result h mask n start) (steppedBy countedSum s (at + 1 + typeSize k) (h .kind) (h .error) maximum v many)
+    unfolding steppedBy
     steps-rest f k v o e d = go (counts s (at + 1 + typeSize k)) refl
       where
-        go : (c : Res Counts) → counts s (at + 1 + typeSize k) ≡ c → onSome (modeOffset s at f k v) rest ≡ said (result h mask n start) (steppedBlock s (at + 1 + typeSize k) (h .kind) (h .error) maximum v many)
+        go : (c : Res Counts) → counts s (at + 1 + typeSize k) ≡ c → onSome (modeOffset s at f k v) rest ≡ said (result h mask n start) (steppedBy countedSum s (at + 1 + typeSize k) (h .kind) (h .error) maximum v many)
         go (ok c) q =
             rw (offset-cases s at f k v .offset-steps e d y few c q, q, eq-eqb f 1 o, decoded-is s (at + 1 + typeSize k) y few, q)
             (stepped-is s (record { at = c .next; flag = f; offset = v; quant = at + 1 + typeSize k; next = c .next }) maximum (c .values) o)
@@ -246,7 +259,7 @@ module _ (h : Header) (mask : List ℕ) (n : ℕ) (start : List ℕ) (g : Shaped
     abbrev left : ℕ → ℕ → ℕ → Res Block
     left f k v =
         let o : Offset = record { value = v; next = at + 1 + typeSize k } in
-        (require (finite v) 8 >>= λ _. ok o) >>= λ o. cond (eqb f 3) (levelBlock (o .next) (h .kind) (o .value) many) (steppedBlock s (o .next) (h .kind) (h .error) maximum (o .value) many)
+        (require (finite v) 8 >>= λ _. ok o) >>= λ o. cond (eqb f 3) (levelBlock (o .next) (h .kind) (o .value) many) (steppedBy countedSum s (o .next) (h .kind) (h .error) maximum (o .value) many)
 
     offset-rest : (f k v : ℕ) → f < 4 → (eqb f 0 || eqb f 2) ≡ false → onSome (modeOffset s at f k v) rest
         ≡ said (result h mask n start) (left f k v)
@@ -266,7 +279,7 @@ module _ (h : Header) (mask : List ℕ) (n : ℕ) (start : List ℕ) (g : Shaped
             rw (e, d) (rw (e, d) at (steps-rest f k v f1 e d))
 
     pub block-is : BlockIs h mask n start s maximum at
-    unfolding block blockSays flagAt formed offsetBlock finiteOffset offsetAt
+    unfolding block blockBy flagAt formedBy offsetBy finiteOffset offsetAt
     block-is = within (decLt at (length s))
       where
         t : Tile
@@ -279,25 +292,25 @@ module _ (h : Header) (mask : List ℕ) (n : ℕ) (start : List ℕ) (g : Shaped
         freeMode = record { at = at + 1; flag = flag % 4; offset = 0; quant = 0; next = at + 1 }
 
         numbers : at < length s → eqb (flag / 4 % 16) (t .x / 8 % 16) ≡ true → (eqb (flag % 4) 0 || eqb (flag % 4) 2) ≡ false → (k : ℕ) → offsetKind (h .kind) (flag / 64) ≡ ok k → (v : Res ℕ) → sampleAt k s (at + 1) ≡ v
-            → block s h t mask maximum at start ≡ said (result h mask n start) (offsetBlock s (at + 1) (h .kind) (h .error) maximum flag many)
+            → block s h t mask maximum at start ≡ said (result h mask n start) (offsetBy countedSum s (at + 1) (h .kind) (h .error) maximum flag many)
         numbers l c o k e (ok v) d = rw (mode-offset s at h t l c o k e v d, e, d) (offset-rest (flag % 4) k v (omega arith) o)
         numbers l c o k e (fail r) d = rw (mode-cases s at h t .mode-number l c o k e r d, e, d)
 
         kinds : at < length s → eqb (flag / 4 % 16) (t .x / 8 % 16) ≡ true → (eqb (flag % 4) 0 || eqb (flag % 4) 2) ≡ false → (k : Res ℕ) → offsetKind (h .kind) (flag / 64) ≡ k
-            → block s h t mask maximum at start ≡ said (result h mask n start) (offsetBlock s (at + 1) (h .kind) (h .error) maximum flag many)
+            → block s h t mask maximum at start ≡ said (result h mask n start) (offsetBy countedSum s (at + 1) (h .kind) (h .error) maximum flag many)
         kinds l c o (ok k) e = numbers l c o k e (sampleAt k s (at + 1)) refl
         kinds l c o (fail r) e = rw (mode-cases s at h t .mode-kind l c o r e, e)
 
         free : at < length s → eqb (flag / 4 % 16) (t .x / 8 % 16) ≡ true → (u : Bool) → eqb (flag % 4) 0 ≡ u → (w : Bool) → eqb (flag % 4) 2 ≡ w
-            → block s h t mask maximum at start ≡ said (result h mask n start) (formed s (at + 1) (h .kind) (h .error) maximum flag many)
+            → block s h t mask maximum at start ≡ said (result h mask n start) (formedBy countedSum s (at + 1) (h .kind) (h .error) maximum flag many)
         free l c true e w d = rw (mode-cases s at h t .mode-free l c (rw (e)), e) (raw-is s freeMode maximum (countsOf s freeMode) (eqb-true _ _ e) (omega arith))
         free l c false e true d = rw (mode-cases s at h t .mode-free l c (rw (e, d)), e, d) (zero-is s freeMode maximum (countsOf s freeMode) (eqb-true _ _ d))
         free l c false e false d = rw (e, d) (kinds l c (rw (e, d)) (offsetKind (h .kind) (flag / 64)) refl)
 
-        checked : at < length s → (c : Bool) → eqb (flag / 4 % 16) (t .x / 8 % 16) ≡ c → block s h t mask maximum at start ≡ said (result h mask n start) (blockSays s at (h .kind) (h .error) maximum (t .x) many)
+        checked : at < length s → (c : Bool) → eqb (flag / 4 % 16) (t .x / 8 % 16) ≡ c → block s h t mask maximum at start ≡ said (result h mask n start) (blockBy countedSum s at (h .kind) (h .error) maximum (t .x) many)
         checked l false c = rw (mode-cases s at h t .mode-check l c, byte-ok s at l, c)
         checked l true c = rw (byte-ok s at l, c) (free l c (eqb (flag % 4) 0) refl (eqb (flag % 4) 2) refl)
 
-        within : Dec (at < length s) → block s h t mask maximum at start ≡ said (result h mask n start) (blockSays s at (h .kind) (h .error) maximum (t .x) many)
+        within : Dec (at < length s) → block s h t mask maximum at start ≡ said (result h mask n start) (blockBy countedSum s at (h .kind) (h .error) maximum (t .x) many)
         within (yes l) = checked l (eqb (flag / 4 % 16) (t .x / 8 % 16)) refl
         within (no l) = rw (mode-cases s at h t .mode-past (omega arith), wordAt-no 1 s at (omega arith))

@@ -15,7 +15,7 @@ use lib.ListN.{length, getD, set, take}
 use Rattle.lerc_words.specs.Res.{Res, ok, fail, _>>=_, refuse, accepts}
 use Rattle.lerc_words.proofs.Binding.{ok-is, and-is, cond-elim}
 use Rattle.lerc_words.proofs.Little.{Bytes, wordAt-no}
-use Rattle.lerc_numeric.specs.Numeric.{sum, scaled, less}
+use Rattle.lerc_numeric.specs.Numeric.{countedSum, scaled, less}
 use Rattle.lerc_numeric.specs.Kinds.{typeSize}
 use Rattle.lerc_header.specs.declared.Header.{Header}
 use Rattle.lerc_header.specs.declared.Extent.{Extent}
@@ -27,19 +27,22 @@ use Rattle.lerc_mask.proofs.Steps.{bytes-part}
 use Rattle.lerc_ranges.specs.declared.Ranges.{Ranges}
 use Rattle.lerc_ranges.specs.Ranges.{pairsRight}
 use Rattle.lerc_block.specs.declared.BlockAnswer.{BlockAnswer}
-use Rattle.lerc_block.specs.Block.{Block, flagAt, blockSays, readBlockSays, blockSaid, BlockRead, tileLimit}
+use Rattle.lerc_block.specs.Block.{Block, flagAt, blockSays, readBlockSays, blockSaid, nextBlock, BlockRead, tileLimit}
 use Rattle.lerc_block.proofs.Accepted.{block-ends}
 use Rattle.lerc_image.specs.declared.Tile.{Tile}
 use Rattle.lerc_image.specs.declared.FillAnswer.{FillAnswer}
 use Rattle.lerc_image.specs.Geometry.{tileOf, validInTile}
 use Rattle.lerc_image.specs.Paint.{inBlock, wordOf, scattered}
 use Rattle.lerc_image.specs.Blocks.{blockAt}
-use Rattle.lerc_image.specs.Fill.{fillSays, fillImage, Filled}
+use Rattle.lerc_image.specs.Fill.{fillSays, fillCount, fillImage, Filled}
 use Rattle.lerc_image.proofs.Partition.{tile-wide, tile-high, tile-depth}
 use Rattle.lerc_image.proofs.Cursors.{tile-in, valid-small}
 use Rattle.lerc_image.proofs.Reading.{read-block}
 use Rattle.lerc_image.proofs.Painting.{length-painted, painted-cell}
 use Rattle.lerc_image.proofs.Upto.{inside}
+use Rattle.lerc_overflow.specs.By.{blockBy, blockAtBy}
+use Rattle.lerc_overflow.proofs.Blocks.{block-next}
+use Rattle.lerc_overflow.proofs.Chains.{at-next, at-calm}
 use Rattle.lerc_contracts.specs.Outside.{said, is-some, onSome, lengthMax, storage, width, height}
 use Rattle.lerc_contracts.specs.Block.{TileValid, pixel, target, Mode, mode, Step, value, ResultModel, finished, finish, block}
 use Rattle.lerc_contracts.specs.Between.{validOf, theirFill, roomFor, result}
@@ -103,7 +106,7 @@ module _ (s : List ℕ) (h : Header) (m : Mode) (q : List ℕ) (at index maximum
       (λ _. cond-elim Moves (eqb (m .flag) 1 && leb (length q) index) (λ _. tt) (λ e. go (storage (cond (eqb (m .flag) 3) (m .offset) (cond (less total maximum) total maximum)) (h .kind)) (eqb (m .flag) 1) e)))
     where
       total : ℕ
-      total = sum (m .offset) (scaled (h .error) (getD q index 0))
+      total = countedSum (m .offset) (scaled (h .error) (getD q index 0))
 
       not-false : (b : Bool) → not b ≡ false → b ≡ true
       not-false true e = refl
@@ -182,12 +185,19 @@ module _ (h : Header) (mask : List ℕ) (n : ℕ) (image : List ℕ) (g : Shaped
   abbrev ours : Res Block
   ours = blockSays s at (h .kind) (h .error) maximum (tileOf (shapeOf h) n .x) (validInTile (shapeOf h) mask (tileOf (shapeOf h) n))
 
-  same-block : theirs ≡ said (result h mask n image) ours
+  -- ours over upstream's sum, which has the same end
+  abbrev counted : Res Block
+  counted = blockBy countedSum s at (h .kind) (h .error) maximum (tileOf (shapeOf h) n .x) (validInTile (shapeOf h) mask (tileOf (shapeOf h) n))
+
+  same-next : nextBlock counted ≡ nextBlock ours
+  same-next = block-next s at (h .kind) (h .error) maximum (tileOf (shapeOf h) n .x) (validInTile (shapeOf h) mask (tileOf (shapeOf h) n))
+
+  same-block : theirs ≡ said (result h mask n image) counted
   same-block = block-is h mask n image g below room s y few maximum at
 
-  -- a result of upstream's is a block of ours
-  found : (r : ResultModel) → theirs ≡ some r → (b : Block) × (ours ≡ ok b) × (result h mask n image b ≡ r)
-  found r e = said-is (result h mask n image) ours (sym same-block ∙ e)
+  -- a result of upstream's is such a block
+  found : (r : ResultModel) → theirs ≡ some r → (b : Block) × (counted ≡ ok b) × (result h mask n image b ≡ r)
+  found r e = said-is (result h mask n image) counted (sym same-block ∙ e)
 
   module _ (r : BlockAnswer) (old new : List ℕ)
       (promise : BlockRead (readBlockSays s at (h .kind) (h .error) maximum (tileOf (shapeOf h) n .x) (validInTile (shapeOf h) mask (tileOf (shapeOf h) n))) r old new) where
@@ -198,7 +208,7 @@ module _ (h : Header) (mask : List ℕ) (n : ℕ) (image : List ℕ) (g : Shaped
 
     -- 4.67 and 4.82, with 4.23: a block is accepted where upstream has a mode and finishes its cells
     pub read-block-ok : accepts (blockSaid r) ≡ is-some theirs
-    read-block-ok = rw (says, same-block) (told-some (λ b. b .next) (result h mask n image) ours)
+    read-block-ok = rw (says, ← same-next, same-block) (told-some (λ b. b .next) (result h mask n image) counted)
 
     -- 4.23: where upstream has no mode, ours is refused
     pub read-mode-none : mode s at h (tileOf (shapeOf h) n) ≡ none → accepts (blockSaid r) ≡ false
@@ -221,7 +231,7 @@ module _ (h : Header) (mask : List ℕ) (n : ℕ) (image : List ℕ) (g : Shaped
       read-mode-none = read-mode-none;
       read-block-end = λ next t e d.
           let (b, o, f) = found t d in
-          let w : ok next ≡ ok (b .next) = sym e ∙ says ∙ ap (λ (m : Res Block). m >>= λ b. ok (b .next)) o in
+          let w : ok next ≡ ok (b .next) = sym e ∙ says ∙ sym same-next ∙ ap nextBlock o in
           ok-is w ∙ ap (λ (x : ResultModel). x .at) f;
       read-block-inside = read-block-inside;
     }
@@ -247,12 +257,23 @@ module _ (b : List ℕ) (h : Header) (ranges : Ranges) (mask list : List ℕ) (n
     unfolding fillSays
     judged = rw (k, lt-ltb n (e .blocks) below, wide, right)
 
-    same-fill : theirFill b h ranges mask list n old ≡ said (result h mask n old) (fillSays b h ranges mask list n (length old))
-    unfolding blockAt
+    -- ours over upstream's sum
+    abbrev counted-fill : Res Block
+    counted-fill = blockAtBy countedSum (take (h .size) b) h (ranges .max) mask n (getD list n 0)
+
+    same-fill : theirFill b h ranges mask list n old ≡ said (result h mask n old) counted-fill
+    unfolding blockAtBy
     same-fill =
         let i : e ≡ extentOf h = held-is h (length b) k in
         let room : cells (shapeOf h) ≤ length old = rw (i) at (leb-true (e .cells) (length old) (and-is (leb (e .mask) (length mask) && leb (e .blocks) (length list)) (leb (e .cells) (length old)) wide .1)) in
-        rw (judged) (block-is h mask n old (held-shaped h (length b) k) (rw (i) at below) room (take (h .size) b) (bytes-part b 0 (h .size) y) (blob-short b h k) (getD (ranges .max) (tileOf (shapeOf h) n .d) 0) (getD list n 0))
+        (block-is h mask n old (held-shaped h (length b) k) (rw (i) at below) room (take (h .size) b) (bytes-part b 0 (h .size) y) (blob-short b h k) (getD (ranges .max) (tileOf (shapeOf h) n .d) 0) (getD list n 0))
+
+  -- one end, one acceptance
+  accepted : (ours counted : Res Block) → nextBlock counted ≡ nextBlock ours → accepts (ours >>= fillCount h mask n) ≡ is-some (said (result h mask n old) counted)
+  accepted (ok a) (ok b) e = refl
+  accepted (fail q) (fail r) e = refl
+  accepted (ok a) (fail r) e = absurd (let z : _≡_ {A = ℕ} 0 1 = cc in omega arith)
+  accepted (fail q) (ok b) e = absurd (let z : _≡_ {A = ℕ} 0 1 = cc in omega arith)
 
   pub reconstruct-clauses : ReconstructClauses b h ranges mask list n r old new
   unfolding fillSays fillImage
@@ -262,8 +283,9 @@ module _ (b : List ℕ) (h : Header) (ranges : Ranges) (mask list : List ℕ) (n
     fill-room = λ e k l t. promise .says ∙ rw (k, lt-ltb n (e .blocks) l, t);
     fill-length = left (fillSays b h ranges mask list n (length old)) refl .0;
     fill-rest = λ j l o. left (fillSays b h ranges mask list n (length old)) refl .1 j (rw (← mul-comm (h .columns) (h .rows)) l) o;
-    fill-ok = λ e k l w p y. rw (promise .says, same-fill e k l w p y) (told-some (λ c. validOf h mask n) (result h mask n old) (fillSays b h ranges mask list n (length old)));
-    fill-image = λ e k l w p y t d.
-        let (c, o, f) = said-is (result h mask n old) (fillSays b h ranges mask list n (length old)) (sym (same-fill e k l w p y) ∙ d) in
-        promise .image ∙ rw (o) (ap (λ (x : ResultModel). x .image) f);
+    fill-ok = λ e k l w p y. rw (promise .says, judged e k l w p y, same-fill e k l w p y) (accepted (blockAt (take (h .size) b) h (ranges .max) mask n (getD list n 0)) (counted-fill e k l w p y) (at-next (take (h .size) b) h (ranges .max) mask n (getD list n 0)));
+    fill-image = λ e k l w p y calm t d.
+        let (c, o, f) = said-is (result h mask n old) (counted-fill e k l w p y) (sym (same-fill e k l w p y) ∙ d) in
+        let ours = judged e k l w p y ∙ sym (at-calm (take (h .size) b) h (ranges .max) mask n (getD list n 0) calm) ∙ o in
+        promise .image ∙ rw (ours) (ap (λ (x : ResultModel). x .image) f);
   }

@@ -1,4 +1,4 @@
--- lerc_image.rs: its clauses from ours. "THE TILES" says that upstream's walk over all tiles is our chain of blocks, painted.
+-- lerc_image.rs: its clauses from ours. "THE TILES" says that upstream's walk over all tiles is our chain of blocks over its own sum, painted.
 -- Assumes nothing.
 use mathlib.Core.Path.{_≡_, refl, sym, ap, _∙_}
 use mathlib.Core.Bool.{Bool, true, false, cond, _&&_, and-true}
@@ -22,13 +22,16 @@ use Rattle.lerc_block.specs.Block.{Block}
 use Rattle.lerc_image.specs.declared.Tile.{Tile}
 use Rattle.lerc_image.specs.declared.Position.{Position}
 use Rattle.lerc_image.specs.Geometry.{tileOf, positionOf, HasTile, tileHere, nextOf, blockOf, isValidCell}
-use Rattle.lerc_image.specs.Blocks.{blockAt, Chain, chain, allBlocks}
+use Rattle.lerc_image.specs.Blocks.{Chain}
 use Rattle.lerc_image.specs.Paint.{painted, inBlock, indexOf, wordOf, scattered}
 use Rattle.lerc_image.proofs.Partition.{block-lt}
 use Rattle.lerc_image.proofs.Steps.{position-first, position-last, position-within, position-next, tile-here}
 use Rattle.lerc_image.proofs.Painting.{length-painted, painted-cell, is-painted, painted-none, painted-same, painted-words}
 use Rattle.lerc_image.proofs.Upto.{valid-below}
-use Rattle.lerc_image.proofs.Chain.{chain-none, chain-front, fronted}
+use Rattle.lerc_image.proofs.Chain.{fronted}
+use Rattle.lerc_numeric.specs.Numeric.{countedSum}
+use Rattle.lerc_overflow.specs.By.{blockAtBy, chainBy, allBlocksBy}
+use Rattle.lerc_overflow.proofs.Chains.{counted-none, counted-front}
 use Rattle.lerc_contracts.specs.Outside.{said, onSome, lengthMax}
 use Rattle.lerc_contracts.specs.Block.{block}
 use Rattle.lerc_contracts.specs.Image.{PositionValid, tile, next, tiles}
@@ -135,8 +138,8 @@ module _ (s : List ℕ) (y : Bytes s) (few : length s ≤ lengthMax) (h : Header
   tiles-step p at out fuel d = rw (ne-eqb (p .y) (h .rows) d)
 
   block-here : (n at : ℕ) (out : List ℕ) → n < blockCount (shapeOf h) → cells (shapeOf h) ≤ length out
-      → block s h (tile (positionOf (shapeOf h) n) h) mask (getD max (positionOf (shapeOf h) n .d) 0) at out ≡ said (result h mask n out) (blockAt s h max mask n at)
-  unfolding blockAt
+      → block s h (tile (positionOf (shapeOf h) n) h) mask (getD max (positionOf (shapeOf h) n .d) 0) at out ≡ said (result h mask n out) (blockAtBy countedSum s h max mask n at)
+  unfolding blockAtBy
   block-here n at out l r =
       let t : tile (positionOf (shapeOf h) n) h ≡ tileOf (shapeOf h) n = tile-is (positionOf (shapeOf h) n) h ∙ tile-here (shapeOf h) g n l in
       let d : positionOf (shapeOf h) n .d ≡ tileOf (shapeOf h) n .d = ap (λ (x : Tile). x .d) t in
@@ -146,7 +149,7 @@ module _ (s : List ℕ) (y : Bytes s) (few : length s ≤ lengthMax) (h : Header
   pub tiles-from : TilesFrom s h mask max
   tiles-from fuel zero n at out e l r =
       let z : n ≡ blockCount (shapeOf h) = omega arith in
-      rw (chain-none s h max mask n at, z)
+      rw (counted-none s h max mask n at, z)
       (tiles-end (positionOf (shapeOf h) (blockCount (shapeOf h))) at out fuel (ap (λ (p : Position). p .y) (position-last (shapeOf h) g))
       ∙ ap (λ (o : List ℕ). some (record { at = at; image = o })) (from-none h g mask out))
   tiles-from zero (suc f) n at out e l r = absurd (omega arith)
@@ -155,16 +158,16 @@ module _ (s : List ℕ) (y : Bytes s) (few : length s ≤ lengthMax) (h : Header
       let p = positionOf (shapeOf h) n in
       let d : p .y ≡ h .rows → ⊥ = λ z. omega (arith, position-within (shapeOf h) g n k .y) in
       let q : next p h ≡ positionOf (shapeOf h) (n + 1) = next-is p h ∙ position-next (shapeOf h) g n k in
-      tiles-step p at out fuel d ∙ rw (block-here n at out k r, q, chain-front s h max mask f n at, add-one) (go k (blockAt s h max mask n at) (λ b o. tiles-from fuel f (suc n) (b .next) o (omega arith) (omega arith)))
+      tiles-step p at out fuel d ∙ rw (block-here n at out k r, q, counted-front s h max mask f n at, add-one) (go k (blockAtBy countedSum s h max mask n at) (λ b o. tiles-from fuel f (suc n) (b .next) o (omega arith) (omega arith)))
     where
       go : n < blockCount (shapeOf h) → (m : Res Block)
-          → ((b : Block) (o : List ℕ) → cells (shapeOf h) ≤ length o → tiles s h mask max (positionOf (shapeOf h) (suc n)) (b .next) o fuel ≡ said (painting h mask (suc n) o) (chain s h max mask f (suc n) (b .next)))
+          → ((b : Block) (o : List ℕ) → cells (shapeOf h) ≤ length o → tiles s h mask max (positionOf (shapeOf h) (suc n)) (b .next) o fuel ≡ said (painting h mask (suc n) o) (chainBy countedSum s h max mask f (suc n) (b .next)))
           → onSome (said (result h mask n out) m) (λ b. tiles s h mask max (positionOf (shapeOf h) (suc n)) (b .at) (b .image) fuel)
-          ≡ said (painting h mask n out) (m >>= λ b. chain s h max mask f (suc n) (b .next) >>= λ c. ok (fronted at b c))
+          ≡ said (painting h mask n out) (m >>= λ b. chainBy countedSum s h max mask f (suc n) (b .next) >>= λ c. ok (fronted at b c))
       go k (fail w) rest = refl
       go k (ok b) rest =
           let o = scattered (shapeOf h) mask n (b .words) out in
-          rest b o (rw (length-painted out (wordOf (shapeOf h) mask (λ i. b .words)) (inBlock (shapeOf h) mask n)) r) ∙ more (chain s h max mask f (suc n) (b .next))
+          rest b o (rw (length-painted out (wordOf (shapeOf h) mask (λ i. b .words)) (inBlock (shapeOf h) mask n)) r) ∙ more (chainBy countedSum s h max mask f (suc n) (b .next))
         where
           more : (m : Res Chain) → said (painting h mask (suc n) (scattered (shapeOf h) mask n (b .words) out)) m ≡ said (painting h mask n out) (m >>= λ c. ok (fronted at b c))
           more (ok c) = rw (from-more h g mask n (b .words) (c .words) out)
@@ -175,7 +178,7 @@ module _ (s : List ℕ) (y : Bytes s) (few : length s ≤ lengthMax) (h : Header
   tiles-is at out r =
       let n : blockCount (shapeOf h) ≤ h .columns * h .rows * h .depth = rw (mul-comm (h .columns) (h .rows)) (blocks-le (shapeOf h) g) in
       rw (← position-first (shapeOf h) g)
-      (tiles-from (h .columns * h .rows * h .depth) (blockCount (shapeOf h)) 0 at out (omega arith) n r ∙ go (allBlocks s h max mask at))
+      (tiles-from (h .columns * h .rows * h .depth) (blockCount (shapeOf h)) 0 at out (omega arith) n r ∙ go (allBlocksBy countedSum s h max mask at))
     where
       go : (m : Res Chain) → said (painting h mask 0 out) m ≡ said (tiledImage h mask out) m
       go (ok c) = ap (λ (o : List ℕ). some (record { at = c .end; image = o })) (from-first h mask (c .words) out)

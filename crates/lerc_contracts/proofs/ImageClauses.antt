@@ -41,11 +41,14 @@ use Rattle.lerc.specs.declared.ReadAnswer.{ReadAnswer}
 use Rattle.lerc.specs.Meaning.{Body, rawBody, constantBody, endOf, startsOf, cellWord}
 use Rattle.lerc.specs.Read.{Lent, room, masked, readSays, ReadTold, readSaid, WholeRead}
 use Rattle.lerc.specs.Parts.{Ready, bodyImage, BodyRead}
+use Rattle.lerc_numeric.specs.Numeric.{countedSum}
+use Rattle.lerc_overflow.specs.By.{allBlocksBy}
+use Rattle.lerc_overflow.proofs.Chains.{Ends, ends, chain-ends, chain-still}
 use Rattle.lerc_contracts.specs.Outside.{said, is-some}
 use Rattle.lerc_contracts.specs.Block.{ResultModel}
 use Rattle.lerc_contracts.specs.Between.{tiledImage, roomFor, theirTiles, theirRaw, theirConstant, bodied}
 use Rattle.lerc_contracts.specs.ImageClauses.{DecodeTilesClauses, DecodeLinearClauses, RawBodyClauses, ConstantBodyClauses, WholeReadClauses}
-use Rattle.lerc_contracts.proofs.WithoutNumber.{told-some}
+use Rattle.lerc_contracts.proofs.WithoutNumber.{told-some, said-is}
 use Rattle.lerc_contracts.proofs.Refusals.{blob-short}
 use Rattle.lerc_contracts.proofs.Image.{tiles-is}
 use Rattle.lerc_contracts.proofs.Linear.{constant-is, raw-is}
@@ -65,9 +68,9 @@ result-is p q = rw (p, q)
 
 -- ---- `decode_tiles`
 
-ends : (s : List ℕ) (h : Header) (maxima m : List ℕ) (n at : ℕ) {b : Block} → blockAt s h maxima m n at ≡ ok b → (at < b .next) × (b .next ≤ length s)
+at-inside : (s : List ℕ) (h : Header) (maxima m : List ℕ) (n at : ℕ) {b : Block} → blockAt s h maxima m n at ≡ ok b → (at < b .next) × (b .next ≤ length s)
 unfolding blockAt
-ends s h maxima m n at d =
+at-inside s h maxima m n at d =
     let t = tileOf (shapeOf h) n in
     block-ends s at (h .kind) (h .error) (getD maxima (t .d) 0) (t .x) (validInTile (shapeOf h) m t) d
 
@@ -79,12 +82,15 @@ chain-inside s h maxima m zero n at c l e =
     (omega arith, omega arith)
 chain-inside s h maxima m (suc f) n at c l e =
     let p = chain-parts s h maxima m f n at c e in
-    let b = ends s h maxima m n at (p .first-is) in
+    let b = at-inside s h maxima m n at (p .first-is) in
     let r = chain-inside s h maxima m f (suc n) (p .block .next) (p .others) (b .1) (p .others-are) in
     let z : c .end ≡ p .others .end = ap (λ (x : Chain). x .end) (p .whole) in
     (omega (arith, b .0, r .0), omega (arith, r .1))
 
 module _ (b : List ℕ) (h : Header) (mask maxima : List ℕ) (at : ℕ) (r : WalkAnswer) (list list′ old new : List ℕ) (promise : Tiled (tilesSays b h mask maxima at (length list) (length old)) h mask r list list′ old new) where
+  abbrev walkedTo : Chain → Walk
+  walkedTo c = record { blocks = blockCount (shapeOf h); end = c .end }
+
   left : (m : Res Chain) → tilesSays b h mask maxima at (length list) (length old) ≡ m → (length new ≡ length old) × ((j : ℕ) → h .columns * h .rows * h .depth ≤ j → j < length old → getD new j 0 ≡ getD old j 0)
   left (fail q) e = let p : new ≡ old = promise .image ∙ rw (e) in rw (p) (refl, λ j _ _. refl)
   left (ok c) e =
@@ -96,11 +102,19 @@ module _ (b : List ℕ) (h : Header) (mask maxima : List ℕ) (at : ℕ) (r : Wa
     unfolding tilesSays
     judged = rw (k, wide)
 
-    same-tiles : theirTiles b h mask maxima at old ≡ said (tiledImage h mask old) (tilesSays b h mask maxima at (length list) (length old))
+    -- ours over upstream's sum
+    abbrev counted : Res Chain
+    counted = allBlocksBy countedSum (take (h .size) b) h maxima mask at
+
+    same-tiles : theirTiles b h mask maxima at old ≡ said (tiledImage h mask old) counted
     same-tiles =
         let i : e ≡ extentOf h = held-is h (length b) k in
         let room : cells (shapeOf h) ≤ length old = rw (i) at (leb-true (e .cells) (length old) (and-is (leb (e .mask) (length mask) && leb (e .blocks) (length list)) (leb (e .cells) (length old)) wide .1)) in
-        rw (judged) (tiles-is (take (h .size) b) (bytes-part b 0 (h .size) y) (blob-short b h k) h (held-shaped h (length b) k) mask maxima at old room)
+        (tiles-is (take (h .size) b) (bytes-part b 0 (h .size) y) (blob-short b h k) h (held-shaped h (length b) k) mask maxima at old room)
+
+    -- which has the same ends
+    same-ends : (counted >>= ends) ≡ (tilesSays b h mask maxima at (length list) (length old) >>= ends)
+    same-ends = chain-ends (take (h .size) b) h maxima mask (blockCount (shapeOf h)) 0 at ∙ ap (λ (x : Res Chain). x >>= ends) (sym judged)
 
     module _ (w : Walk) (a : walkSaid r ≡ ok w) where
       -- what was walked
@@ -110,6 +124,13 @@ module _ (b : List ℕ) (h : Header) (mask maxima : List ℕ) (at : ℕ) (r : Wa
           (c, d, ap (λ (x : Walk). x .end) (ok-is z), promise .image ∙ rw (d))
       walked (fail q) d = absurd (let z : _≡_ {A = Res Walk} (ok w) (fail q) = sym a ∙ promise .says ∙ rw (d) in let o : _≡_ {A = ℕ} 0 1 = cc in omega arith)
 
+  -- the same ends, one acceptance
+  accepted : (ours theirs : Res Chain) → (theirs >>= ends) ≡ (ours >>= ends) → accepts (ours >>= λ c. ok (walkedTo c)) ≡ is-some (said (tiledImage h mask old) theirs)
+  accepted (ok c) (ok d) e = refl
+  accepted (fail q) (fail r) e = refl
+  accepted (ok c) (fail r) e = absurd (let z : _≡_ {A = ℕ} 0 1 = cc in omega arith)
+  accepted (fail q) (ok d) e = absurd (let z : _≡_ {A = ℕ} 0 1 = cc in omega arith)
+
   pub decode-tiles-clauses : DecodeTilesClauses b h mask maxima at r list old new
   unfolding tilesSays
   decode-tiles-clauses = record {
@@ -117,10 +138,16 @@ module _ (b : List ℕ) (h : Header) (mask maxima : List ℕ) (at : ℕ) (r : Wa
     tiles-room = λ e k t. promise .says ∙ rw (k, t);
     tiles-length = left (tilesSays b h mask maxima at (length list) (length old)) refl .0;
     tiles-rest = left (tilesSays b h mask maxima at (length list) (length old)) refl .1;
-    tiles-ok = λ e k l y. rw (promise .says, same-tiles e k l y) (told-some {B = Walk} (λ c. record { blocks = blockCount (shapeOf h); end = c .end }) (tiledImage h mask old) (tilesSays b h mask maxima at (length list) (length old)));
-    tiles-result = λ e k l y w a.
+    tiles-ok = λ e k l y. rw (promise .says, same-tiles e k l y) (accepted (tilesSays b h mask maxima at (length list) (length old)) (counted e k l y) (same-ends e k l y));
+    tiles-next = λ e k l y w a t x.
         let (c, d, p, q) = walked e k l y w a (tilesSays b h mask maxima at (length list) (length old)) refl in
-        same-tiles e k l y ∙ ap (said (tiledImage h mask old)) d ∙ sym (result-is p q);
+        let (u, v, f) = said-is (tiledImage h mask old) (counted e k l y) (sym (same-tiles e k l y) ∙ x) in
+        let z : ends u ≡ ends c = ap (λ (x : Res Chain). x >>= ends) (sym v) ∙ same-ends e k l y ∙ ap (λ (x : Res Chain). x >>= ends) d in
+        p ∙ ap (λ (x : Ends). x .end) (sym (ok-is z)) ∙ ap (λ (x : ResultModel). x .at) f;
+    tiles-result = λ e k l y calm w a.
+        let (c, d, p, q) = walked e k l y w a (tilesSays b h mask maxima at (length list) (length old)) refl in
+        let z : counted e k l y ≡ ok c = chain-still (take (h .size) b) h maxima mask (blockCount (shapeOf h)) 0 at calm ∙ sym (judged e k l y) ∙ d in
+        same-tiles e k l y ∙ ap (said (tiledImage h mask old)) z ∙ sym (result-is p q);
     tiles-inside = λ e k l y w a i.
         let (c, d, p, q) = walked e k l y w a (tilesSays b h mask maxima at (length list) (length old)) refl in
         rw (p) (chain-inside (take (h .size) b) h maxima mask (blockCount (shapeOf h)) 0 at c i (sym (judged e k l y) ∙ d));

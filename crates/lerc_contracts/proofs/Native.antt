@@ -11,7 +11,7 @@ use native.Mathlib.Decide.{decLt}
 use borrow.Author.Tests.{lt-ltb, le-ltb, le-leb, lt-leb, eq-eqb, ne-eqb, eqb-true, eqb-false}
 use lib.Dec.{leb, eqb}
 use lib.ListN.{length, getD, drop, replicate}
-use Rattle.lerc_words.specs.Res.{Res, ok, fail, _>>=_}
+use Rattle.lerc_words.specs.Res.{Res, ok, fail, _>>=_, accepts}
 use Rattle.lerc_words.specs.Lists.{tabulate, over}
 use Rattle.lerc_words.proofs.Little.{Bytes, wordAt-no}
 use Rattle.lerc_header.specs.declared.Header.{Header}
@@ -23,17 +23,20 @@ use Rattle.lerc_ranges.specs.declared.Ranges.{Ranges}
 use Rattle.lerc_ranges.specs.Ranges.{rangesSays, constantWords}
 use Rattle.lerc_ranges.proofs.Judged.{ranges-kept, length-constants}
 use Rattle.lerc_sweep.specs.Sweep.{modeAt, moded, swept}
-use Rattle.lerc_image.specs.Blocks.{Chain, allBlocks}
-use Rattle.lerc.specs.Meaning.{blockBody, bodyFrom, sweptBody, constantBody, bodySays, cellWord}
+use Rattle.lerc_image.specs.Blocks.{Chain}
+use Rattle.lerc.specs.Meaning.{constantBody, bodySays, cellWord}
 use Rattle.lerc.specs.Meaning as body
 use Rattle.lerc.proofs.Bodies.{image-empty}
-use Rattle.lerc_contracts.specs.Outside.{said, onSome, lengthMax}
+use Rattle.lerc_numeric.specs.Numeric.{countedSum}
+use Rattle.lerc_overflow.specs.By.{allBlocksBy, blockBodyBy, bodyFromBy, sweptBodyBy, bodyBy}
+use Rattle.lerc_overflow.proofs.Meanings.{bodyEnds, body-ends, body-calm}
+use Rattle.lerc_contracts.specs.Outside.{said, is-some, onSome, lengthMax}
 use Rattle.lerc_contracts.specs.Planes.{constants}
 use Rattle.lerc_contracts.specs.Block.{ResultModel}
 use Rattle.lerc_contracts.specs.Image.{tiles, linear}
 use Rattle.lerc_contracts.specs.Native.{entropy, unswept, ranged, pixels}
 use Rattle.lerc_contracts.specs.Between.{Alike, tiledImage, bodied, model}
-use Rattle.lerc_contracts.specs.NativeClauses.{PixelsIs}
+use Rattle.lerc_contracts.specs.NativeClauses.{PixelsIs, ReadAlike}
 use Rattle.lerc_contracts.proofs.Bits.{byte-ok}
 use Rattle.lerc_contracts.proofs.Planes.{ranges-is, constants-is}
 use Rattle.lerc_contracts.proofs.Image.{tiles-is}
@@ -45,9 +48,9 @@ module _ (s : List ℕ) (y : Bytes s) (few : length s ≤ lengthMax) (h : Header
   room = let e : h .columns * h .rows * h .depth ≡ cells (shapeOf h) = rw (mul-comm (h .columns) (h .rows)) in omega (arith, size)
 
   -- blocks
-  tiled : (max : List ℕ) (at : ℕ) → tiles s h mask max (record { x = 0; y = 0; d = 0 }) at initial (length initial) ≡ said (bodied h mask initial) (blockBody s h max mask at)
-  unfolding blockBody cellWord
-  tiled max at = rw (size) (tiles-is s y few h g mask max at initial room ∙ go (allBlocks s h max mask at))
+  tiled : (max : List ℕ) (at : ℕ) → tiles s h mask max (record { x = 0; y = 0; d = 0 }) at initial (length initial) ≡ said (bodied h mask initial) (blockBodyBy countedSum s h max mask at)
+  unfolding blockBodyBy cellWord
+  tiled max at = rw (size) (tiles-is s y few h g mask max at initial room ∙ go (allBlocksBy countedSum s h max mask at))
     where
       go : (m : Res Chain) → said (tiledImage h mask initial) m ≡ said (bodied h mask initial) (m >>= λ c. ok (body.blocks c))
       go (ok c) = refl
@@ -55,24 +58,24 @@ module _ (s : List ℕ) (y : Bytes s) (few : length s ≤ lengthMax) (h : Header
 
   -- a mode byte, where there is one
   unswept-is : (r : Ranges) → (entropy h ≡ true → getD s (r .at + 1) 0 < 3 → getD s (r .at + 1) 0 ≡ 0)
-      → unswept s h mask (model r) initial huffman ≡ said (bodied h mask initial) (moded s (h .kind) (h .error) (r .at + 1) >>= bodyFrom s h r mask)
+      → unswept s h mask (model r) initial huffman ≡ said (bodied h mask initial) (moded s (h .kind) (h .error) (r .at + 1) >>= bodyFromBy countedSum s h r mask)
   unfolding moded modeAt
   unswept-is r plain = coded (entropy h) refl
     where
       at : ℕ
       at = r .at + 1
 
-      small : entropy h ≡ true → at < length s → Dec (getD s at 0 < 3) → unswept s h mask (model r) initial huffman ≡ said (bodied h mask initial) (moded s (h .kind) (h .error) at >>= bodyFrom s h r mask)
+      small : entropy h ≡ true → at < length s → Dec (getD s at 0 < 3) → unswept s h mask (model r) initial huffman ≡ said (bodied h mask initial) (moded s (h .kind) (h .error) at >>= bodyFromBy countedSum s h r mask)
       small e l (yes k) =
           let z : getD s at 0 ≡ 0 = plain e k in
           rw (e, lt-leb (length s) at l, byte-ok s at l, z) (tiled (r .max) (at + 1))
       small e l (no k) = rw (e, lt-leb (length s) at l, byte-ok s at l, lt-ltb 2 (getD s at 0) (omega arith), le-ltb (getD s at 0) 3 (omega arith))
 
-      inside : entropy h ≡ true → Dec (at < length s) → unswept s h mask (model r) initial huffman ≡ said (bodied h mask initial) (moded s (h .kind) (h .error) at >>= bodyFrom s h r mask)
+      inside : entropy h ≡ true → Dec (at < length s) → unswept s h mask (model r) initial huffman ≡ said (bodied h mask initial) (moded s (h .kind) (h .error) at >>= bodyFromBy countedSum s h r mask)
       inside e (yes l) = small e l (decLt (getD s at 0) 3)
       inside e (no l) = rw (e, le-leb (length s) at (omega arith), wordAt-no 1 s at (omega arith))
 
-      coded : (t : Bool) → entropy h ≡ t → unswept s h mask (model r) initial huffman ≡ said (bodied h mask initial) (moded s (h .kind) (h .error) at >>= bodyFrom s h r mask)
+      coded : (t : Bool) → entropy h ≡ t → unswept s h mask (model r) initial huffman ≡ said (bodied h mask initial) (moded s (h .kind) (h .error) at >>= bodyFromBy countedSum s h r mask)
       coded true e = inside e (decLt at (length s))
       coded false e = rw (e, add-zero at) (tiled (r .max) at)
 
@@ -83,11 +86,11 @@ module _ (s : List ℕ) (y : Bytes s) (few : length s ≤ lengthMax) (h : Header
       (cond (not (eqb (getD s (r .at) 0) 0)) (linear s h mask (tabulate 64 (λ i. 0)) true 0 (r .at + 1) initial (length initial))
       (unswept s h mask (model r) initial huffman))
 
-  swept-is : (r : Ranges) → Alike s h (r .at) → announced r ≡ said (bodied h mask initial) (sweptBody s h r mask)
-  unfolding sweptBody swept
+  swept-is : (r : Ranges) → Alike s h (r .at) → announced r ≡ said (bodied h mask initial) (sweptBodyBy countedSum s h r mask)
+  unfolding sweptBodyBy swept
   swept-is r a = inside (decLt (r .at) (length s))
     where
-      which : r .at < length s → (t : Bool) → eqb (getD s (r .at) 0) 0 ≡ t → announced r ≡ said (bodied h mask initial) (sweptBody s h r mask)
+      which : r .at < length s → (t : Bool) → eqb (getD s (r .at) 0) 0 ≡ t → announced r ≡ said (bodied h mask initial) (sweptBodyBy countedSum s h r mask)
       which l true e =
           let z : getD s (r .at) 0 ≡ 0 = eqb-true (getD s (r .at) 0) 0 e in
           rw (lt-leb (length s) (r .at) l, byte-ok s (r .at) l, lt-ltb (getD s (r .at) 0) 2 (a .sweep), e, ne-eqb (getD s (r .at) 0) 1 (λ o. omega arith)) (unswept-is r (a .mode))
@@ -96,7 +99,7 @@ module _ (s : List ℕ) (y : Bytes s) (few : length s ≤ lengthMax) (h : Header
           rw (lt-leb (length s) (r .at) l, byte-ok s (r .at) l, lt-ltb (getD s (r .at) 0) 2 (a .sweep), e, eq-eqb (getD s (r .at) 0) 1 (omega (arith, a .sweep)), size)
           (raw-is s h g mask initial room (tabulate 64 (λ i. 0)) (r .at + 1) (omega arith) counts)
 
-      inside : Dec (r .at < length s) → announced r ≡ said (bodied h mask initial) (sweptBody s h r mask)
+      inside : Dec (r .at < length s) → announced r ≡ said (bodied h mask initial) (sweptBodyBy countedSum s h r mask)
       inside (yes l) = which l (eqb (getD s (r .at) 0) 0) refl
       inside (no l) = rw (le-leb (length s) (r .at) (omega arith), wordAt-no 1 s (r .at) (omega arith))
 
@@ -114,22 +117,35 @@ module _ (s : List ℕ) (y : Bytes s) (few : length s ≤ lengthMax) (h : Header
           constant-is s h g mask initial room ws (drop (length ws) (replicate 64 0)) (r .at) n
 
   -- THE BODY
-  pub pixels-is : PixelsIs s h mask initial huffman
-  unfolding pixels bodySays
-  pixels-is pair begins plain alike = none? (eqb (h .valid) 0) refl
+  pixels-counted : ReadAlike s h → pixels s h mask initial huffman ≡ said (bodied h mask initial) (bodyBy countedSum s h mask)
+  unfolding pixels bodyBy
+  pixels-counted a = none? (eqb (h .valid) 0) refl
     where
       formed : (r : Ranges) → rangesSays s h ≡ ok r → (t : Bool)
-          → cond t (onSome (constants (r .min) (h .depth) (h .kind)) (λ c. linear s h mask c false 0 (r .at) initial (length initial))) (announced r) ≡ said (bodied h mask initial) (cond t (constantBody h r) (sweptBody s h r mask))
-      formed r e true = constant-body r (ranges-kept s h (g .depth .1) pair begins r e .low)
-      formed r e false = swept-is r (alike r e)
+          → cond t (onSome (constants (r .min) (h .depth) (h .kind)) (λ c. linear s h mask c false 0 (r .at) initial (length initial))) (announced r) ≡ said (bodied h mask initial) (cond t (constantBody h r) (sweptBodyBy countedSum s h r mask))
+      formed r e true = constant-body r (ranges-kept s h (g .depth .1) (a .pair) (a .begins) r e .low)
+      formed r e false = swept-is r (a .alike r e)
 
-      read : (m : Res Ranges) → rangesSays s h ≡ m → onSome (said model m) (ranged s h mask initial huffman) ≡ said (bodied h mask initial) (m >>= λ r. cond (r .constant) (constantBody h r) (sweptBody s h r mask))
+      read : (m : Res Ranges) → rangesSays s h ≡ m → onSome (said model m) (ranged s h mask initial huffman) ≡ said (bodied h mask initial) (m >>= λ r. cond (r .constant) (constantBody h r) (sweptBodyBy countedSum s h r mask))
       read (ok r) e = formed r e (r .constant)
       read (fail q) e = refl
 
-      none? : (t : Bool) → eqb (h .valid) 0 ≡ t → pixels s h mask initial huffman ≡ said (bodied h mask initial) (bodySays s h mask)
+      none? : (t : Bool) → eqb (h .valid) 0 ≡ t → pixels s h mask initial huffman ≡ said (bodied h mask initial) (bodyBy countedSum s h mask)
       none? true e =
           let z : h .valid ≡ 0 = eqb-true (h .valid) 0 e in
-          let m : rangesAt h ≡ headerBytes = rw (plain z) in
+          let m : rangesAt h ≡ headerBytes = rw (a .plain z) in
           rw (e, m) (ap (λ (o : List ℕ). some (record { at = headerBytes; image = o })) (image-empty (shapeOf h) mask initial (cellWord h mask body.empty) (g .depth .0) (counts ∙ z)))
       none? false e = rw (e, ranges-is s h) (read (rangesSays s h) refl)
+
+  pub pixels-is : ReadAlike s h → PixelsIs s h mask initial huffman
+  pixels-is a = record {
+    pixels-counted = pixels-counted a;
+    pixels-ok = rw (pixels-counted a) (accepted (bodySays s h mask) (bodyBy countedSum s h mask) (body-ends s h mask));
+    pixels-same = λ calm. pixels-counted a ∙ ap (said (bodied h mask initial)) (body-calm s h mask calm);
+  }
+    where
+      accepted : (ours theirs : Res body.Body) → (theirs >>= bodyEnds) ≡ (ours >>= bodyEnds) → accepts ours ≡ is-some (said (bodied h mask initial) theirs)
+      accepted (ok x) (ok y) e = refl
+      accepted (fail q) (fail r) e = refl
+      accepted (ok x) (fail r) e = absurd (let z : _≡_ {A = ℕ} 0 1 = cc in omega arith)
+      accepted (fail q) (ok y) e = absurd (let z : _≡_ {A = ℕ} 0 1 = cc in omega arith)

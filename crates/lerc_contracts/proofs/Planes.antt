@@ -18,8 +18,8 @@ use Rattle.lerc_words.specs.Lists as our
 use Rattle.lerc_words.proofs.Tables.{replicate-from, tabulate-same, all-same, all-true, all-fails}
 use Rattle.lerc_words.proofs.Binding.{each-length}
 use Rattle.lerc_words.proofs.Little.{wordAt-ok}
+use Rattle.lerc_words.proofs.Each.{each-at, each-not}
 use Rattle.lerc_contracts.proofs.Lists.{over-out, length-over, padded}
-use Rattle.lerc_contracts.proofs.WithoutNumber.{each-at, each-not}
 use Rattle.lerc_numeric.specs.Numeric.{same}
 use Rattle.lerc_numeric.specs.Kinds.{typeSize}
 use Rattle.lerc_numeric.proofs.Compare.{same-bits, same-zeros}

@@ -2,23 +2,23 @@
 -- nothing is cut off, or the sum and the difference round as the exact ones do.
 -- Assumes nothing.
 use mathlib.Core.Path.{_≡_, refl, sym, ap, _∙_}
-use mathlib.Core.Bool.{Bool, true, false, not, cond, _&&_, _||_, Bool·beq}
+use mathlib.Core.Bool.{Bool, true, false, not, cond, _&&_, _||_, Bool·beq, and-false, and-true}
 use Prim.Native.Nat.{ℕ, zero, suc, _+_, _-_, _*_, _/_, _%_, _^_, _≤_, _<_, min}
 use native.Mathlib.Omega.{arith}
 use native.Mathlib.Nat.{zero-mul, suc-mul, add-comm, add-zero, add-mul, mul-one, mul-assoc, mul-right-comm, mul-mod-left, mul-le-mul, mul-lt-mul-of-pos-right, lt-of-mul-lt-mul-right, eq-of-mul-eq-mul-right, lt-of-le-of-lt, lt-of-lt-of-le, le-of-lt}
 use native.Mathlib.Decide.{decLt, decLe}
 use borrow.Author.Tests.{lt-ltb, le-ltb, le-leb, lt-leb, ne-eqb}
-use lib.Dec.{leb, ltb, eqb, lit≤}
+use lib.Dec.{leb, ltb, eqb, lit≤, lit<}
 use lib.Pow.{pow-add, pow-pos, pow-mono, shl-lt, add-lt-pow, shl-shr, shr-shr, mod-pow-add}
 use lib.Ieee.{size}
 use lib.Ieee.Digits.{size-lt}
-use Rattle.lerc_numeric.specs.Numeric.{negative, sig, exp, mag, code, bits64, signed, sum}
+use Rattle.lerc_numeric.specs.Numeric.{negative, infinite, sig, exp, mag, code, bits64, signed, sum, countedSum}
 use Rattle.lerc_numeric.specs.Inside.{jam}
 use Rattle.lerc_numeric.proofs.Digits.{pow-lt-back}
 use Rattle.lerc_numeric.proofs.Format.{sub-mul}
 use Rattle.lerc_numeric.proofs.Jam.{StandsFor, jam-round, jam-is, jam-add, jam-sub, jam-none, jam-le, jam-zero}
 use Rattle.lerc_numeric.proofs.Magnitude.{sig-lt, mag-lt}
-use Rattle.lerc_numeric.proofs.Sums.{and-false}
+use Rattle.lerc_numeric.proofs.Infinity.{sum-counted, absorbs-not}
 use Rattle.lerc_contracts.proofs.Numeric.{mantissa-is, exponent-is, jam-small}
 use Rattle.lerc_contracts.proofs.Rounding.{highest64-is, jammed-is}
 use Rattle.lerc_contracts.proofs.Pack.{pack-is, normal-is, code-same}
@@ -199,10 +199,6 @@ abbrev sumOf : Bool → Bool → ℕ → ℕ → ℕ
 sumOf sa sb A B = cond (Bool·beq sa sb) (signed sa (bits64 (A + B))) (cond (ltb A B) (signed sb (bits64 (B - A))) (signed (sa && ltb B A) (bits64 (A - B))))
 
 module _ (W : ℕ → Type 0) (k e x y A B : ℕ) (f : Fits W k e x y A B) where
-  and-true : (t : Bool) → (t && true) ≡ t
-  and-true true = refl
-  and-true false = refl
-
   unlike : (sa sb : Bool) → W (cond (leb y x) (x - y) (y - x)) → Order x y A B
       → (let m = cond (leb y x) (x - y) (y - x) in signed (cond (eqb m 0 && true) false (cond (leb y x) sa sb)) (over k e m))
       ≡ cond (ltb A B) (signed sb (bits64 (B - A))) (signed (sa && ltb B A) (bits64 (A - B)))
@@ -297,10 +293,10 @@ module _ (a b : ℕ) (la : a < 2 ^ 64) (lb : b < 2 ^ 64) where
       go (yes l) = rw (lt-ltb (exp b) (exp a) l, same a) (by a b (omega arith))
       go (no l) = let o : exp a ≤ exp b = omega arith in rw (le-ltb (exp b) (exp a) o, same b) (swap (by b a o))
 
-  -- 1.31, 1.43
-  pub plus-is : plusSoftware a b ≡ sum a b
-  unfolding plusSoftware sum
-  plus-is =
+  -- section 0
+  pub plus-counted : plusSoftware a b ≡ countedSum a b
+  unfolding plusSoftware countedSum
+  plus-counted =
       paths (negative a) (negative b) e (lined 64 8 e a) (lined 64 8 e b) (lined 128 64 e a) (lined 128 64 e b) (mag a) (mag b)
       (fits-at (λ n. 2 ^ 54 ≤ n) 64 8 (lit≤ tt) (lit≤ tt) (λ p q m f l w. w))
       (fits-at (λ _. Unit) 128 64 (lit≤ tt) (lit≤ tt) (λ p q m f l w. enough (sig p * 2 ^ 64) m (mul-le-mul {n₁ = 2 ^ 52} {m₁ = 2 ^ 8} {n₂ = sig p} (sig-least p q 64 f) (lit≤ tt)) l))
@@ -309,3 +305,12 @@ module _ (a b : ℕ) (la : a < 2 ^ 64) (lb : b < 2 ^ 64) where
     where
       enough : (big n : ℕ) → 2 ^ 60 ≤ big → big - 2 ^ 53 ≤ n → 2 ^ 54 ≤ n
       enough big n a b = omega arith
+
+-- 1.31, 1.43
+pub plus-is : (a b : ℕ) → a < 2 ^ 64 → b < 2 ^ 64 → infinite a ≡ false → infinite b ≡ false → plusSoftware a b ≡ sum a b
+plus-is a b la lb ia ib = plus-counted a b la lb ∙ sym (sum-counted a b (absorbs-not a b ia) (absorbs-not b a ib))
+
+-- an infinity is counted as 2^1024 there
+pub plus-differs : (plusSoftware 0xFFE0000000000000 0x7FF0000000000000 ≡ 0x7FE0000000000000) × (sum 0xFFE0000000000000 0x7FF0000000000000 ≡ 0x7FF0000000000000)
+unfolding sum countedSum mag code size
+plus-differs = (plus-counted 0xFFE0000000000000 0x7FF0000000000000 (lit< tt) (lit< tt), refl)

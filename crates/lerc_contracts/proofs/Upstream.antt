@@ -11,7 +11,7 @@ use Rattle.lerc_contracts.proofs.Numeric.{finite-is, parts-clauses, top
 use Rattle.lerc_contracts.proofs.Rounding.{highest64-is, highest-is, highest-most, highest-zero, round-is, round-most, jammed-is}
 use Rattle.lerc_contracts.proofs.Pack.{normal-is, pack-is, pack-units}
 use Rattle.lerc_contracts.proofs.Software.{scale-is, number-is}
-use Rattle.lerc_contracts.proofs.Plus.{plus-is}
+use Rattle.lerc_contracts.proofs.Plus.{plus-counted, plus-is, plus-differs}
 use Rattle.lerc_contracts.proofs.Narrow.{narrow-is}
 use Rattle.lerc_contracts.proofs.Bits.{ceil-bytes-is, width-is, plan-is, item-cases, decoded-is, inspect-clauses, decode-clauses}
 use Rattle.lerc_contracts.proofs.Refusals.{header-refusals, blob-short, blob-holds}
@@ -46,7 +46,9 @@ numeric-clauses = record {
   pack-is = pack-is;
   pack-units = pack-units;
   scale-is = scale-is;
+  plus-counted = plus-counted;
   plus-is = plus-is;
+  plus-differs = plus-differs;
   minimum-is = minimum-is;
   less-is = less-is;
   size-is = numeric-size-is;

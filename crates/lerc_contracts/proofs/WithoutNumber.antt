@@ -1,4 +1,4 @@
--- Answers without their number, and each answer of a list.
+-- Answers without their number.
 -- Assumes nothing.
 use mathlib.Core.Path.{_≡_, refl, ap, _∙_}
 use mathlib.Core.List.{List, [], _∷_}
@@ -25,38 +25,3 @@ told-some f g (fail r) = refl
 pub said-is : {A B : Type 0} (f : A → B) (m : Res A) {b : B} → said f m ≡ some b → (a : A) × (m ≡ ok a) × (f a ≡ b)
 said-is f (ok a) e = (a, refl, cc)
 said-is f (fail r) e = absurd (let z : _≡_ {A = ℕ} 0 1 = cc in omega arith)
-
-module _ {A B : Type 0} (f : A → Res B) where
-  -- where all are accepted, each is
-  pub each-at : (xs : List A) {ys : List B} (i : ℕ) (d : A) (z : B) → each f xs ≡ ok ys → i < length xs → f (getD xs i d) ≡ ok (getD ys i z)
-  unfolding each
-  each-at [] i d z e l = absurd (omega arith)
-  each-at (x ∷ xs) {ys} zero d z e l =
-      let (y, p, e) = bind-is (f x) _ e in
-      let (t, q, e) = bind-is (each f xs) _ e in
-      let v : y ∷ t ≡ ys = ok-is e in
-      rw (← v) p
-  each-at (x ∷ xs) {ys} (suc i) d z e l =
-      let (y, p, e) = bind-is (f x) _ e in
-      let (t, q, e) = bind-is (each f xs) _ e in
-      let v : y ∷ t ≡ ys = ok-is e in
-      rw (← v) (each-at xs i d z q (omega arith))
-
-  -- where one is refused, some one is
-  pub each-not : (xs : List A) {r : Refusal} (d : A) → each f xs ≡ fail r → (i : ℕ) × (i < length xs) × (f (getD xs i d) ≡ fail r)
-  unfolding each
-  each-not [] d e = absurd (let z : _≡_ {A = ℕ} 0 1 = cc in omega arith)
-  each-not (x ∷ xs) {r} d e = go (λ q. each-not xs d q) (f x) refl
-    where
-      go : (each f xs ≡ fail r → (i : ℕ) × (i < length xs) × (f (getD xs i d) ≡ fail r)) → (m : Res B) → f x ≡ m
-          → (i : ℕ) × (i < length (x ∷ xs)) × (f (getD (x ∷ xs) i d) ≡ fail r)
-      go k (fail q) p = let w = rw (p) at e in let z : q ≡ r = cc in (0, omega arith, p ∙ ap fail z)
-      go k (ok y) p = more (each f xs) refl
-        where
-          more : (m : Res (List B)) → each f xs ≡ m → (i : ℕ) × (i < length (x ∷ xs)) × (f (getD (x ∷ xs) i d) ≡ fail r)
-          more (ok t) q = absurd (let w = rw (p, q) at e in let z : _≡_ {A = ℕ} 0 1 = cc in omega arith)
-          more (fail o) q =
-              let w = rw (p, q) at e in
-              let z : o ≡ r = cc in
-              let (i, l, t) = k (q ∙ ap fail z) in
-              (suc i, omega arith, t)

@@ -7,7 +7,7 @@ use mathlib.Core.List.{List, []}
 use mathlib.Core.Option.{Option, none, some}
 use lib.ListN.{length, getD, set}
 use lib.Dec.{leb, eqb}
-use Rattle.lerc_numeric.specs.Numeric.{finite, sum, scaled, less}
+use Rattle.lerc_numeric.specs.Numeric.{finite, countedSum, scaled, less}
 use Rattle.lerc_numeric.specs.Kinds.{typeSize}
 use Rattle.lerc_header.specs.declared.Header.{Header}
 use Rattle.lerc_header.specs.Header.{shapeOf}
@@ -66,14 +66,14 @@ pub record Step : Type 0 where
   pub at : ℕ
   pub q : ℕ
 
--- `value`
+-- `value`; its `num::sum` is `countedSum` (`plus-counted`)
 unfoldable pub value : List ℕ → Header → Mode → List ℕ → ℕ → ℕ → ℕ → Option Step
 value s h m q at index maximum =
     cond (eqb (m .flag) 0)
     (let size = typeSize (h .kind) in
     cond (not (rangeOk (length s) at size)) none (some (record { value = word s at size; at = at + size; q = index })))
     (cond (eqb (m .flag) 2) (some (record { value = 0; at = at; q = index }))
-    (let total = sum (m .offset) (scaled (h .error) (getD q index 0)) in
+    (let total = countedSum (m .offset) (scaled (h .error) (getD q index 0)) in
     let v = cond (eqb (m .flag) 3) (m .offset) (cond (less total maximum) total maximum) in
     cond (eqb (m .flag) 1 && leb (length q) index) none
     (onSome (storage v (h .kind)) (λ bits. some (record { value = bits; at = at; q = cond (eqb (m .flag) 1) (index + 1) index })))))

@@ -10,7 +10,7 @@ use lib.ListN.{length, getD, set, take}
 use Rattle.lerc_words.specs.declared.Refusal.{Refusal}
 use Rattle.lerc_words.specs.Res.{ok, fail, little, refuse, accepts, _>>=_}
 use Rattle.lerc_words.proofs.Little.{Bytes}
-use Rattle.lerc_numeric.specs.Numeric.{finite}
+use Rattle.lerc_numeric.specs.Numeric.{finite, infinite, countedSum, scaled}
 use Rattle.lerc_numeric.specs.Kinds.{typeSize}
 use Rattle.lerc_samples.specs.Samples.{sampleAt, stored, offsetKind}
 use Rattle.lerc_header.specs.declared.Header.{Header}
@@ -21,6 +21,8 @@ use Rattle.lerc_block.specs.Block.{stepValue, blockSays, readBlockSays, blockSa
 use Rattle.lerc_image.specs.declared.Tile.{Tile}
 use Rattle.lerc_image.specs.Geometry.{tileOf, validInTile, pixelOf, cellOf}
 use Rattle.lerc_image.specs.Paint.{scattered}
+use Rattle.lerc_overflow.specs.By.{stepBy, blockBy}
+use Rattle.lerc_overflow.specs.Changes.{Calm}
 use Rattle.lerc_contracts.specs.Outside.{said, lengthMax, is-some, width, height}
 use Rattle.lerc_contracts.specs.Block.{Mode, mode, modeOffset, value, ResultModel, finished, finish, block, pixel, target, Step, TileValid}
 use Rattle.lerc_contracts.specs.Between.{validOf, Goes, Stepping, Stuck, theirFill, roomFor, result, countedPlan}
@@ -50,11 +52,11 @@ RunNone h mask n start s m q maximum pos idx =
     ((i : ℕ) → i < validOf h mask n → Stepping s h m q maximum pos idx i) → Stuck s h m q maximum pos idx (validOf h mask n) 0
     → finish s h (tileOf (shapeOf h) n) m q mask maximum 0 (m .at) 0 start 256 ≡ none
 
--- THE BLOCK: the mode and then the cells are our block, scattered over the image
+-- THE BLOCK: the mode and then the cells are our block over upstream's sum, scattered over the image
 abbrev pub BlockIs : Header → List ℕ → ℕ → List ℕ → List ℕ → ℕ → ℕ → Type 0
 BlockIs h mask n start s maximum at =
     block s h (tileOf (shapeOf h) n) mask maximum at start
-    ≡ said (result h mask n start) (blockSays s at (h .kind) (h .error) maximum (tileOf (shapeOf h) n .x) (validOf h mask n))
+    ≡ said (result h mask n start) (blockBy countedSum s at (h .kind) (h .error) maximum (tileOf (shapeOf h) n .x) (validOf h mask n))
 
 -- `mode`: its cases in front of an offset
 pub record ModeCases (s : List ℕ) (at : ℕ) (h : Header) (t : Tile) : Type 0 where
@@ -107,10 +109,14 @@ pub record ValueCases (s : List ℕ) (h : Header) (m : Mode) (q : List ℕ) (at 
   pub level-none : m .flag ≡ 3 → (r : Refusal) → stored (h .kind) (m .offset) ≡ fail r → value s h m q at index maximum ≡ none
   -- 4.34
   pub step-past : m .flag ≡ 1 → length q ≤ index → value s h m q at index maximum ≡ none
-  -- 4.33, 4.36
-  pub step-word : m .flag ≡ 1 → index < length q → (w : ℕ) → stored (h .kind) (stepValue (h .error) maximum (m .offset) (getD q index 0)) ≡ ok w → value s h m q at index maximum ≡ some (record { value = w; at = at; q = index + 1 })
-  -- 4.35
-  pub step-none : m .flag ≡ 1 → index < length q → (r : Refusal) → stored (h .kind) (stepValue (h .error) maximum (m .offset) (getD q index 0)) ≡ fail r → value s h m q at index maximum ≡ none
+  -- 4.33, 4.36, over upstream's sum
+  pub counted-word : m .flag ≡ 1 → index < length q → (w : ℕ) → stored (h .kind) (stepBy countedSum (h .error) maximum (m .offset) (getD q index 0)) ≡ ok w → value s h m q at index maximum ≡ some (record { value = w; at = at; q = index + 1 })
+  -- 4.35, over upstream's sum
+  pub counted-none : m .flag ≡ 1 → index < length q → (r : Refusal) → stored (h .kind) (stepBy countedSum (h .error) maximum (m .offset) (getD q index 0)) ≡ fail r → value s h m q at index maximum ≡ none
+  -- 4.33, 4.36: no operand is infinite
+  pub step-word : m .flag ≡ 1 → index < length q → finite (m .offset) ≡ true → infinite (scaled (h .error) (getD q index 0)) ≡ false → (w : ℕ) → stored (h .kind) (stepValue (h .error) maximum (m .offset) (getD q index 0)) ≡ ok w → value s h m q at index maximum ≡ some (record { value = w; at = at; q = index + 1 })
+  -- 4.35: no operand is infinite
+  pub step-none : m .flag ≡ 1 → index < length q → finite (m .offset) ≡ true → infinite (scaled (h .error) (getD q index 0)) ≡ false → (r : Refusal) → stored (h .kind) (stepValue (h .error) maximum (m .offset) (getD q index 0)) ≡ fail r → value s h m q at index maximum ≡ none
 
 -- `finish`: its cases, step by step
 pub record FinishCases (s : List ℕ) (h : Header) (t : Tile) (m : Mode) (q mask : List ℕ) (maximum : ℕ) : Type 0 where
@@ -161,8 +167,8 @@ pub record ReconstructClauses (b : List ℕ) (h : Header) (ranges : Ranges) (mas
   pub fill-rest : (j : ℕ) → h .columns * h .rows * h .depth ≤ j → j < length old → getD new j 0 ≡ getD old j 0
   -- 4.67, 4.82
   pub fill-ok : (e : Extent) → held h (length b) ≡ ok e → n < e .blocks → roomFor e mask list old ≡ true → pairsRight (h .depth) ranges ≡ true → Bytes b → accepts (fillSaid r) ≡ is-some (theirFill b h ranges mask list n old)
-  -- 4.69, 4.84
-  pub fill-image : (e : Extent) → held h (length b) ≡ ok e → n < e .blocks → roomFor e mask list old ≡ true → pairsRight (h .depth) ranges ≡ true → Bytes b → (t : ResultModel) → theirFill b h ranges mask list n old ≡ some t → new ≡ t .image
+  -- 4.69, 4.84: no operand of a sum is infinite
+  pub fill-image : (e : Extent) → held h (length b) ≡ ok e → n < e .blocks → roomFor e mask list old ≡ true → pairsRight (h .depth) ranges ≡ true → Bytes b → Calm (take (h .size) b) (getD list n 0) (h .kind) (h .error) → (t : ResultModel) → theirFill b h ranges mask list n old ≡ some t → new ≡ t .image
 
 pub record BlockClauses : Type 0 where
   -- 4.2 to 4.7

@@ -14,10 +14,13 @@ use Rattle.lerc_header.specs.Shape.{Shaped, cells, blockCount, pixels}
 use Rattle.lerc_image.specs.declared.Tile.{Tile}
 use Rattle.lerc_image.specs.declared.Position.{Position}
 use Rattle.lerc_image.specs.Geometry.{positionOf, HasTile, tileHere, nextOf}
-use Rattle.lerc_image.specs.Blocks.{chain, allBlocks}
+use Rattle.lerc_image.specs.Blocks.{Chain, allBlocks}
 use Rattle.lerc_image.specs.Tiles.{tilesSays, Tiled}
+use Rattle.lerc_numeric.specs.Numeric.{countedSum}
+use Rattle.lerc_overflow.specs.By.{chainBy, allBlocksBy}
+use Rattle.lerc_overflow.specs.Changes.{AllCalm}
 use Rattle.lerc_contracts.specs.Outside.{said, onSome, lengthMax, is-some}
-use Rattle.lerc_contracts.specs.Block.{TileValid, block}
+use Rattle.lerc_contracts.specs.Block.{TileValid, ResultModel, block}
 use Rattle.lerc_contracts.specs.Image.{PositionValid, tile, next, tiles, PlaceAndWord, linearValue, linear}
 use Rattle.lerc_contracts.specs.Between.{painting, tiledImage, usedTo, bodied, roomFor, theirTiles, theirRaw, theirConstant}
 use Rattle.lerc_words.specs.Lists.{count, over}
@@ -42,17 +45,17 @@ TilesStep s h mask max =
     (p : Position) (at : ℕ) (out : List ℕ) (fuel : ℕ) → (p .y ≡ h .rows → ⊥)
     → tiles s h mask max p at out (suc fuel) ≡ onSome (block s h (tile p h) mask (getD max (p .d) 0) at out) (λ b. tiles s h mask max (next p h) (b .at) (b .image) fuel)
 
--- THE TILES, from block n on: our chain of blocks, painted
+-- THE TILES, from block n on: our chain of blocks over upstream's sum, painted
 abbrev pub TilesFrom : List ℕ → Header → List ℕ → List ℕ → Type 0
 TilesFrom s h mask max =
     (fuel f n at : ℕ) (out : List ℕ) → n + f ≡ blockCount (shapeOf h) → f ≤ fuel → cells (shapeOf h) ≤ length out
-    → tiles s h mask max (positionOf (shapeOf h) n) at out fuel ≡ said (painting h mask n out) (chain s h max mask f n at)
+    → tiles s h mask max (positionOf (shapeOf h) n) at out fuel ≡ said (painting h mask n out) (chainBy countedSum s h max mask f n at)
 
 -- and from the first
 abbrev pub TilesIs : List ℕ → Header → List ℕ → List ℕ → Type 0
 TilesIs s h mask max =
     (at : ℕ) (out : List ℕ) → cells (shapeOf h) ≤ length out
-    → tiles s h mask max (record { x = 0; y = 0; d = 0 }) at out (h .columns * h .rows * h .depth) ≡ said (tiledImage h mask out) (allBlocks s h max mask at)
+    → tiles s h mask max (record { x = 0; y = 0; d = 0 }) at out (h .columns * h .rows * h .depth) ≡ said (tiledImage h mask out) (allBlocksBy countedSum s h max mask at)
 
 -- A CONSTANT BODY: `linear` is ours, painted
 abbrev pub ConstantIs : List ℕ → Header → List ℕ → List ℕ → Type 0
@@ -100,8 +103,10 @@ pub record DecodeTilesClauses (b : List ℕ) (h : Header) (mask maxima : List �
   pub tiles-rest : (j : ℕ) → h .columns * h .rows * h .depth ≤ j → j < length old → getD new j 0 ≡ getD old j 0
   -- 5.28
   pub tiles-ok : (e : Extent) → held h (length b) ≡ ok e → roomFor e mask list old ≡ true → Bytes b → accepts (walkSaid r) ≡ is-some (theirTiles b h mask maxima at old)
-  -- 5.29, 5.30
-  pub tiles-result : (e : Extent) → held h (length b) ≡ ok e → roomFor e mask list old ≡ true → Bytes b → (w : Walk) → walkSaid r ≡ ok w → theirTiles b h mask maxima at old ≡ some (record { at = w .end; image = new })
+  -- 5.29
+  pub tiles-next : (e : Extent) → held h (length b) ≡ ok e → roomFor e mask list old ≡ true → Bytes b → (w : Walk) → walkSaid r ≡ ok w → (t : ResultModel) → theirTiles b h mask maxima at old ≡ some t → w .end ≡ t .at
+  -- 5.30: no operand of a sum is infinite
+  pub tiles-result : (e : Extent) → held h (length b) ≡ ok e → roomFor e mask list old ≡ true → Bytes b → ((c : Chain) → allBlocks (take (h .size) b) h maxima mask at ≡ ok c → AllCalm (take (h .size) b) h (c .starts)) → (w : Walk) → walkSaid r ≡ ok w → theirTiles b h mask maxima at old ≡ some (record { at = w .end; image = new })
   -- 5.31
   pub tiles-inside : (e : Extent) → held h (length b) ≡ ok e → roomFor e mask list old ≡ true → Bytes b → (w : Walk) → walkSaid r ≡ ok w → at ≤ length (take (h .size) b) → (at ≤ w .end) × (w .end ≤ length (take (h .size) b))
 

@@ -6,7 +6,7 @@ use mathlib.Core.List.{List}
 use mathlib.Core.Option.{Option}
 use Prim.Native.Nat.{ℕ, _*_, _≤_}
 use lib.ListN.{length}
-use Rattle.lerc_words.specs.Res.{ok}
+use Rattle.lerc_words.specs.Res.{ok, accepts}
 use Rattle.lerc_words.proofs.Little.{Bytes}
 use Rattle.lerc_header.specs.declared.Header.{Header}
 use Rattle.lerc_header.specs.Header.{shapeOf, rangesAt, pairRight}
@@ -15,18 +15,28 @@ use Rattle.lerc_header.specs.Shape as shape
 use Rattle.lerc_mask.specs.Mask.{validBelow}
 use Rattle.lerc_ranges.specs.declared.Ranges.{Ranges}
 use Rattle.lerc_ranges.specs.Ranges.{rangesSays}
-use Rattle.lerc.specs.Meaning.{bodySays}
-use Rattle.lerc_contracts.specs.Outside.{said, lengthMax}
+use Rattle.lerc.specs.Meaning.{Body, startsOf, bodySays}
+use Rattle.lerc_numeric.specs.Numeric.{countedSum}
+use Rattle.lerc_overflow.specs.By.{bodyBy}
+use Rattle.lerc_overflow.specs.Changes.{AllCalm}
+use Rattle.lerc_contracts.specs.Outside.{said, is-some, lengthMax}
 use Rattle.lerc_contracts.specs.Block.{ResultModel}
 use Rattle.lerc_contracts.specs.Native.{pixels}
 use Rattle.lerc_contracts.specs.Between.{Alike, bodied}
 
--- THE BODY: `pixels` is ours, painted, where the two read alike
-abbrev pub PixelsIs : List ℕ → Header → List ℕ → List ℕ → Option ResultModel → Type 0
-PixelsIs s h mask initial huffman =
-    pairRight (h .min) (h .max) ≡ true → rangesAt h ≤ length s → (h .valid ≡ 0 → h .mask ≡ 0) → ((r : Ranges) → rangesSays s h ≡ ok r → Alike s h (r .at))
-    → pixels s h mask initial huffman ≡ said (bodied h mask initial) (bodySays s h mask)
+-- THE BODY: `pixels` is ours over upstream's sum, painted, where the two read alike; it is accepted where ours is, and is ours where no operand of a sum is infinite
+pub record PixelsIs (s : List ℕ) (h : Header) (mask initial : List ℕ) (huffman : Option ResultModel) : Type 0 where
+  pub pixels-counted : pixels s h mask initial huffman ≡ said (bodied h mask initial) (bodyBy countedSum s h mask)
+  pub pixels-ok : accepts (bodySays s h mask) ≡ is-some (pixels s h mask initial huffman)
+  pub pixels-same : ((y : Body) → bodySays s h mask ≡ ok y → AllCalm s h (startsOf y)) → pixels s h mask initial huffman ≡ said (bodied h mask initial) (bodySays s h mask)
+
+-- where the two read alike
+pub record ReadAlike (s : List ℕ) (h : Header) : Type 0 where
+  pub pair : pairRight (h .min) (h .max) ≡ true
+  pub begins : rangesAt h ≤ length s
+  pub plain : h .valid ≡ 0 → h .mask ≡ 0
+  pub alike : (r : Ranges) → rangesSays s h ≡ ok r → Alike s h (r .at)
 
 pub record NativeClauses : Type 0 where
   -- section 9
-  pub pixels-is : (s : List ℕ) → Bytes s → length s ≤ lengthMax → (h : Header) → Shaped (shapeOf h) → (mask initial : List ℕ) → length initial ≡ h .columns * h .rows * h .depth → validBelow (shape.pixels (shapeOf h)) mask ≡ h .valid → (huffman : Option ResultModel) → PixelsIs s h mask initial huffman
+  pub pixels-is : (s : List ℕ) → Bytes s → length s ≤ lengthMax → (h : Header) → Shaped (shapeOf h) → (mask initial : List ℕ) → length initial ≡ h .columns * h .rows * h .depth → validBelow (shape.pixels (shapeOf h)) mask ≡ h .valid → (huffman : Option ResultModel) → ReadAlike s h → PixelsIs s h mask initial huffman

@@ -1,7 +1,7 @@
 -- lerc_numeric.rs: a law for each clause and each name of the float model, by the rows of docs/CONTRACTS.md (sections 0 and 1).
 -- Assumes nothing.
 use mathlib.Core.Path.{_≡_}
-use mathlib.Core.Bool.{Bool, cond}
+use mathlib.Core.Bool.{Bool, false, cond}
 use mathlib.Core.Logic.{_⊎_}
 use mathlib.Core.Option.{some}
 use Prim.Native.Nat.{ℕ, _+_, _-_, _*_, _/_, _%_, _^_, _≤_, _<_}
@@ -9,7 +9,7 @@ use lib.Ieee.{size}
 use lib.Ieee.Nearest.{closest}
 use Rattle.lerc_words.specs.Res.{ok, fail, refuse, accepts}
 use Rattle.lerc_numeric.specs.declared.IntegerAnswer.{IntegerAnswer}
-use Rattle.lerc_numeric.specs.Numeric.{finite, sig, exp, less, lesser, bits64, signed, scaled, sum}
+use Rattle.lerc_numeric.specs.Numeric.{finite, infinite, sig, exp, less, lesser, bits64, signed, scaled, sum, countedSum}
 use Rattle.lerc_numeric.specs.Kinds as kinds
 use Rattle.lerc_numeric.specs.Kinds.{typeSize, valueOf, integerSaid, cut, narrowed}
 use Rattle.lerc_numeric.specs.Inside.{jam}
@@ -73,8 +73,12 @@ pub record NumericClauses : Type 0 where
   pub pack-units : (s : Bool) (v e : ℕ) → v < 2 ^ 128 → pack s v (power e) ≡ signed s (bits64 (v * 2 ^ e))
   -- 1.28, 1.42
   pub scale-is : (a q : ℕ) → a < 2 ^ 64 → q < 2 ^ 32 → scaleSoftware a q ≡ scaled a q
-  -- 1.31, 1.43
-  pub plus-is : (a b : ℕ) → a < 2 ^ 64 → b < 2 ^ 64 → plusSoftware a b ≡ sum a b
+  -- section 0: every operand is counted as finite
+  pub plus-counted : (a b : ℕ) → a < 2 ^ 64 → b < 2 ^ 64 → plusSoftware a b ≡ countedSum a b
+  -- 1.31, 1.43: no operand is infinite
+  pub plus-is : (a b : ℕ) → a < 2 ^ 64 → b < 2 ^ 64 → infinite a ≡ false → infinite b ≡ false → plusSoftware a b ≡ sum a b
+  -- what the premise is for: -2^1023 and infinity
+  pub plus-differs : (plusSoftware 0xFFE0000000000000 0x7FF0000000000000 ≡ 0x7FE0000000000000) × (sum 0xFFE0000000000000 0x7FF0000000000000 ≡ 0x7FF0000000000000)
   -- 1.32
   pub minimum-is : (a b r : ℕ) → r ≡ lesser a b → r ≡ cond (less a b) a b
   -- 1.32

@@ -7,12 +7,14 @@ pub mod Shift
 pub mod Magnitude
 pub mod Jam
 pub mod Align
-pub mod Sums
 pub mod Product
 pub mod Compare
 pub mod Binary32
 pub mod Integers
 pub mod Right
+pub mod Infinity
+pub mod Sums
 pub mod Monotone
+pub mod NearestSum
 pub mod Fits
 pub mod RoundTrip

@@ -1,16 +1,19 @@
--- Laws of the order and of sums: both orders of operands give one sum, zeros keep their rules, and sums grow with their operands.
+-- Laws of the order and of sums: a sum of numbers is the exact one, rounded, an infinity being farther out than finite sums reach; so
+-- sums grow with their operands.
 -- Assumes nothing.
-use mathlib.Core.Path.{_≡_, refl, sym, _∙_}
+use mathlib.Core.Path.{_≡_, refl, sym, ap, _∙_}
+use mathlib.Core.Logic.{_⊎_, inl, inr}
 use mathlib.Core.Bool.{Bool, true, false, cond, _&&_, Bool·beq}
-use Prim.Native.Nat.{ℕ, _+_, _-_, _*_, _≤_, _<_}
-use native.Mathlib.Nat.{le-of-eq, add-comm, add-zero, zero-add, sub-zero, zero-sub, le-of-lt}
+use Prim.Native.Nat.{ℕ, _+_, _-_, _*_, _/_, _%_, _^_, _≤_, _<_}
+use native.Mathlib.Nat.{add-comm, add-zero, zero-add, sub-zero, zero-sub, le-of-lt}
 use native.Mathlib.Decide.{decLt}
 use native.Mathlib.Omega.{arith}
-use borrow.Author.Tests.{lt-ltb, le-ltb, ltb-true, ltb-false}
+use borrow.Author.Tests.{lt-ltb, le-ltb, ltb-true, ltb-false, ne-eqb}
 use lib.Dec.{ltb}
 use lib.Ieee.{size, below}
-use Rattle.lerc_numeric.specs.Numeric.{bits64, code, field, mag, negative, signed, sum, scaled, less}
-use Rattle.lerc_numeric.proofs.Sums.{beq-refl, and-false}
+use Rattle.lerc_numeric.specs.Numeric.{bits64, code, field, finite, infinite, mag, negative, signed, sum, countedSum, scaled, less}
+use Rattle.lerc_numeric.proofs.Infinity.{outer, IsNumber, bits-infinite, finite-not, infinite-not, infinite-mag, finite-mag, outer-bits, sum-counted, sum-left, sum-right, absorbed-not, absorbs-not, absorbs-both}
+use Rattle.lerc_numeric.proofs.Sums.{sum-comm}
 use Rattle.lerc_numeric.proofs.Right.{negative-signed, mag-signed, bits-lt, rounded-mono, rounded-own}
 
 -- ---- the two sides of a value: w stands for up w - down w
@@ -19,6 +22,13 @@ up w = cond (negative w) 0 (mag w)
 
 abbrev pub down : ℕ → ℕ
 down w = cond (negative w) (mag w) 0
+
+pub up-most : (w : ℕ) → up w ≤ mag w
+up-most w = go (negative w)
+  where
+    go : (s : Bool) → cond s 0 (mag w) ≤ mag w
+    go true = omega arith
+    go false = omega arith
 
 pub less-sides : (a b : ℕ) → less a b ≡ ltb (up a + down b) (up b + down a)
 unfolding less
@@ -31,16 +41,16 @@ less-sides a b = go (negative a) (negative b)
     go true true = rw (zero-add, zero-add)
 
 -- ---- the sides of a sum are those of the operands, added and rounded
-abbrev rounded : ℕ → ℕ
+abbrev pub rounded : ℕ → ℕ
 rounded n = mag (bits64 n)
 
-none : rounded 0 ≡ 0
+pub none : rounded 0 ≡ 0
 unfolding mag code size
 none = refl
 
-record Sides (w p q : ℕ) : Type 0 where
-  high : up w ≡ rounded (p - q)
-  low : down w ≡ rounded (q - p)
+pub record Sides (w p q : ℕ) : Type 0 where
+  pub high : up w ≡ rounded (p - q)
+  pub low : down w ≡ rounded (q - p)
 
 positive : (n p q : ℕ) → n ≡ p - q → q ≤ p → Sides (signed false (bits64 n)) p q
 positive n p q e h =
@@ -56,9 +66,9 @@ negated n p q e h =
     let m = mag-signed true (bits64 n) (bits-lt n) in
     record { high = rw (s, z) (sym none); low = rw (s, m, e) }
 
-sum-sides : (a b : ℕ) → Sides (sum a b) (up a + up b) (down a + down b)
-unfolding sum
-sum-sides a b = go (negative a) (negative b) (decLt (mag a) (mag b)) (decLt (mag b) (mag a))
+pub counted-sides : (a b : ℕ) → Sides (countedSum a b) (up a + up b) (down a + down b)
+unfolding countedSum
+counted-sides a b = go (negative a) (negative b) (decLt (mag a) (mag b)) (decLt (mag b) (mag a))
   where
     x : ℕ
     x = mag a
@@ -96,63 +106,173 @@ less-trans a b c e f =
     let h = ltb-true (up b + down c) (up c + down b) (sym (less-sides b c) ∙ f) in
     rw (less-sides a c) (lt-ltb (up a + down c) (up c + down a) (omega arith))
 
-pub sum-mono-left : (a c b : ℕ) → less c a ≡ false → less (sum c b) (sum a b) ≡ false
-sum-mono-left a c b e =
-    let h = at-least c a e in
-    let s = sum-sides a b in
-    let t = sum-sides c b in
-    not-less (sum c b) (sum a b)
+-- ---- the sides of a sum of numbers: as if an infinity were twice as far out as it is counted, so that no finite number brings it back
+abbrev reach : ℕ → ℕ
+reach w = cond (infinite w) (2 * mag w) (mag w)
+
+abbrev farUp : ℕ → ℕ
+farUp w = cond (negative w) 0 (reach w)
+
+abbrev farDown : ℕ → ℕ
+farDown w = cond (negative w) (reach w) 0
+
+reach-finite : (w : ℕ) → field w < 2047 → reach w ≡ mag w
+reach-finite w h = rw (finite-not w h)
+
+reach-infinite : (w : ℕ) → infinite w ≡ true → reach w ≡ 2 * outer
+reach-infinite w e = rw (e, infinite-mag w e)
+
+reach-least : (w : ℕ) → mag w ≤ reach w
+reach-least w = go (infinite w)
+  where
+    go : (t : Bool) → mag w ≤ cond t (2 * mag w) (mag w)
+    go true = omega arith
+    go false = omega arith
+
+reach-most : (w : ℕ) → reach w ≤ 2 * mag w
+reach-most w = go (infinite w)
+  where
+    go : (t : Bool) → cond t (2 * mag w) (mag w) ≤ 2 * mag w
+    go true = omega arith
+    go false = omega arith
+
+-- a number is finite or infinite
+pub number-is : (w : ℕ) → IsNumber w → (field w < 2047) ⊎ (infinite w ≡ true)
+number-is w n = go (decLt (w % 2 ^ 63) (2047 * 2 ^ 52))
+  where
+    go : Dec (w % 2 ^ 63 < 2047 * 2 ^ 52) → (field w < 2047) ⊎ (infinite w ≡ true)
+    go (yes l) = inl (omega arith)
+    go (no l) = inr (bits-infinite w (omega arith))
+
+reach-mono : (a c : ℕ) → IsNumber a → mag a ≤ mag c → IsNumber c → reach a ≤ reach c
+reach-mono a c na h nc = go (number-is a na) (number-is c nc)
+  where
+    go : (field a < 2047) ⊎ (infinite a ≡ true) → (field c < 2047) ⊎ (infinite c ≡ true) → reach a ≤ reach c
+    go (inl f) _ = rw (reach-finite a f) (omega (arith, reach-least c))
+    go (inr e) (inl f) = absurd (omega (arith, infinite-mag a e, finite-mag c f))
+    go (inr e) (inr f) = rw (reach-infinite a e, reach-infinite c f) (omega arith)
+
+far-most : (w : ℕ) → farUp w + farDown w ≡ reach w
+far-most w = go (negative w)
+  where
+    go : (s : Bool) → cond s 0 (reach w) + cond s (reach w) 0 ≡ reach w
+    go true = omega arith
+    go false = omega arith
+
+-- an infinity stands for every sum from `outer` on
+outer-rounded : (n : ℕ) → outer ≤ n → rounded n ≡ outer
+outer-rounded n h = ap mag (outer-bits n h)
+
+outer-sides : (w p q : ℕ) → infinite w ≡ true → cond (negative w) (p + outer) (q + outer) ≤ cond (negative w) q p → Sides w p q
+outer-sides w p q e = go (negative w) refl
+  where
+    go : (s : Bool) → negative w ≡ s → cond s (p + outer) (q + outer) ≤ cond s q p → Sides w p q
+    go true f h =
+        let z : p - q ≡ 0 = omega arith in
+        record { high = rw (f, z) (sym none); low = rw (f, infinite-mag w e) (sym (outer-rounded (q - p) (omega arith))) }
+    go false f h =
+        let z : q - p ≡ 0 = omega arith in
+        record { high = rw (f, infinite-mag w e) (sym (outer-rounded (p - q) (omega arith))); low = rw (f, z) (sym none) }
+
+-- an infinity and a finite number
+absorbed-sides : (a b : ℕ) → infinite a ≡ true → field b < 2047 → Sides a (farUp a + farUp b) (farDown a + farDown b)
+absorbed-sides a b e h = outer-sides a (farUp a + farUp b) (farDown a + farDown b) e (go (negative a))
+  where
+    near : farUp b + farDown b < outer
+    near = rw (far-most b, reach-finite b h) (finite-mag b h)
+
+    go : (s : Bool) → cond s (cond s 0 (reach a) + farUp b + outer) (cond s (reach a) 0 + farDown b + outer) ≤ cond s (cond s (reach a) 0 + farDown b) (cond s 0 (reach a) + farUp b)
+    go true = omega (arith, near, reach-infinite a e)
+    go false = omega (arith, near, reach-infinite a e)
+
+-- two infinities: 2 ^ 1024 counted or twice that, both ends of the sum are the same
+infinite-sides : (a b : ℕ) → infinite a ≡ true → infinite b ≡ true → Sides (countedSum a b) (farUp a + farUp b) (farDown a + farDown b)
+infinite-sides a b e f =
+    let c = counted-sides a b in
+    let x = go (negative a) (negative b) in
+    record { high = c .high ∙ x .0; low = c .low ∙ x .1 }
+  where
+    alike : (x y u v : ℕ) → outer ≤ x - y → outer ≤ u - v → rounded (x - y) ≡ rounded (u - v)
+    alike x y u v h k = outer-rounded (x - y) h ∙ sym (outer-rounded (u - v) k)
+
+    flat : (x y u v : ℕ) → x ≤ y → u ≤ v → rounded (x - y) ≡ rounded (u - v)
+    flat x y u v h k =
+        let z : x - y ≡ 0 = omega arith in
+        let w : u - v ≡ 0 = omega arith in
+        rw (z, w)
+
+    go : (s t : Bool)
+        → (rounded (cond s 0 (mag a) + cond t 0 (mag b) - (cond s (mag a) 0 + cond t (mag b) 0)) ≡ rounded (cond s 0 (reach a) + cond t 0 (reach b) - (cond s (reach a) 0 + cond t (reach b) 0)))
+        × (rounded (cond s (mag a) 0 + cond t (mag b) 0 - (cond s 0 (mag a) + cond t 0 (mag b))) ≡ rounded (cond s (reach a) 0 + cond t (reach b) 0 - (cond s 0 (reach a) + cond t 0 (reach b))))
+    go s t = rw (reach-infinite a e, reach-infinite b f, infinite-mag a e, infinite-mag b f) (signs s t)
+      where
+        signs : (s t : Bool)
+            → (rounded (cond s 0 outer + cond t 0 outer - (cond s outer 0 + cond t outer 0)) ≡ rounded (cond s 0 (2 * outer) + cond t 0 (2 * outer) - (cond s (2 * outer) 0 + cond t (2 * outer) 0)))
+            × (rounded (cond s outer 0 + cond t outer 0 - (cond s 0 outer + cond t 0 outer)) ≡ rounded (cond s (2 * outer) 0 + cond t (2 * outer) 0 - (cond s 0 (2 * outer) + cond t 0 (2 * outer))))
+        signs true true = (flat (0 + 0) (outer + outer) (0 + 0) (2 * outer + 2 * outer) (omega arith) (omega arith), alike (outer + outer) (0 + 0) (2 * outer + 2 * outer) (0 + 0) (omega arith) (omega arith))
+        signs true false = (flat (0 + outer) (outer + 0) (0 + 2 * outer) (2 * outer + 0) (omega arith) (omega arith), flat (outer + 0) (0 + outer) (2 * outer + 0) (0 + 2 * outer) (omega arith) (omega arith))
+        signs false true = (flat (outer + 0) (0 + outer) (2 * outer + 0) (0 + 2 * outer) (omega arith) (omega arith), flat (0 + outer) (outer + 0) (0 + 2 * outer) (2 * outer + 0) (omega arith) (omega arith))
+        signs false false = (alike (outer + outer) (0 + 0) (2 * outer + 2 * outer) (0 + 0) (omega arith) (omega arith), flat (0 + 0) (outer + outer) (0 + 0) (2 * outer + 2 * outer) (omega arith) (omega arith))
+
+swapped : (w p q r s : ℕ) → Sides w (p + q) (r + s) → Sides w (q + p) (s + r)
+swapped w p q r s c = rw (add-comm q p, add-comm s r) c
+
+pub finite-sum : (a b : ℕ) → field a < 2047 → field b < 2047 → sum a b ≡ countedSum a b
+finite-sum a b f g = sum-counted a b (absorbs-not a b (finite-not a f)) (absorbs-not b a (finite-not b g))
+
+sum-sides : (a b : ℕ) → IsNumber a → IsNumber b → Sides (sum a b) (farUp a + farUp b) (farDown a + farDown b)
+sum-sides a b na nb = go (number-is a na) (number-is b nb)
+  where
+    go : (field a < 2047) ⊎ (infinite a ≡ true) → (field b < 2047) ⊎ (infinite b ≡ true) → Sides (sum a b) (farUp a + farUp b) (farDown a + farDown b)
+    go (inl f) (inl g) = rw (finite-sum a b f g, reach-finite a f, reach-finite b g) (counted-sides a b)
+    go (inl f) (inr e) = rw (sum-right a b (absorbs-both b a e f)) (swapped b (farUp b) (farUp a) (farDown b) (farDown a) (absorbed-sides b a e f))
+    go (inr e) (inl g) = rw (sum-left a b (absorbs-both a b e g)) (absorbed-sides a b e g)
+    go (inr e) (inr f) = rw (sum-counted a b (absorbed-not b a (infinite-not b f)) (absorbed-not a b (infinite-not a e))) (infinite-sides a b e f)
+
+-- ---- a greater operand, no lesser sum
+at-least-far : (c a : ℕ) → IsNumber c → IsNumber a → less c a ≡ false → farUp a + farDown c ≤ farUp c + farDown a
+at-least-far c a nc na e = go (negative c) (negative a) (at-least c a e)
+  where
+    go : (s t : Bool) → cond t 0 (mag a) + cond s (mag c) 0 ≤ cond s 0 (mag c) + cond t (mag a) 0 → cond t 0 (reach a) + cond s (reach c) 0 ≤ cond s 0 (reach c) + cond t (reach a) 0
+    go true true h = omega (arith, reach-mono c a nc (omega arith) na)
+    go true false h = omega (arith, reach-most a, reach-most c)
+    go false true h = omega arith
+    go false false h = omega (arith, reach-mono a c na (omega arith) nc)
+
+-- both sides of two sums, over one other operand
+rises : (x y p q r s : ℕ) → Sides x p q → Sides y r s → p + s ≤ r + q → less y x ≡ false
+rises x y p q r s c d h =
+    not-less y x
     (omega (
       arith,
-      s .high,
-      s .low,
-      t .high,
-      t .low,
-      rounded-mono (up a + up b - (down a + down b)) (up c + up b - (down c + down b)) (omega arith),
-      rounded-mono (down c + down b - (up c + up b)) (down a + down b - (up a + up b)) (omega arith),
+      c .high,
+      c .low,
+      d .high,
+      d .low,
+      rounded-mono (p - q) (r - s) (omega arith),
+      rounded-mono (s - r) (q - p) (omega arith),
     ))
 
--- ---- both orders of operands
-pub sum-comm : (a b : ℕ) → sum a b ≡ sum b a
-unfolding sum
-sum-comm a b = go (negative a) (negative b) (decLt (mag a) (mag b)) (decLt (mag b) (mag a))
+pub sum-mono-left : (a c b : ℕ) → IsNumber a → IsNumber c → less c a ≡ false → less (sum c b) (sum a b) ≡ false
+sum-mono-left a c b na nc e = go (decLt (2047 * 2 ^ 52) (b % 2 ^ 63))
   where
-    x : ℕ
-    x = mag a
+    -- any other pattern is counted, and so is what it meets
+    other : (x : ℕ) → 2047 * 2 ^ 52 < b % 2 ^ 63 → Sides (sum x b) (up x + up b) (down x + down b)
+    other x l =
+        let f : finite b ≡ false = le-ltb (field b) 2047 (omega arith) in
+        let i : infinite b ≡ false = ne-eqb (b % 2 ^ 63) (2047 * 2 ^ 52) (λ z. omega arith) in
+        rw (sum-counted x b (absorbed-not b x f) (absorbs-not b x i)) (counted-sides x b)
 
-    y : ℕ
-    y = mag b
+    go : Dec (2047 * 2 ^ 52 < b % 2 ^ 63) → less (sum c b) (sum a b) ≡ false
+    go (yes l) = rises (sum a b) (sum c b) (up a + up b) (down a + down b) (up c + up b) (down c + down b) (other a l) (other c l) (omega (arith, at-least c a e))
+    go (no l) =
+        let nb : IsNumber b = omega arith in
+        rises (sum a b) (sum c b) (farUp a + farUp b) (farDown a + farDown b) (farUp c + farUp b) (farDown c + farDown b) (sum-sides a b na nb) (sum-sides c b nc nb) (omega (arith, at-least-far c a nc na e))
 
-    go : (s t : Bool) → Dec (x < y) → Dec (y < x)
-        → cond (Bool·beq s t) (signed s (bits64 (x + y))) (cond (ltb x y) (signed t (bits64 (y - x))) (signed (s && ltb y x) (bits64 (x - y))))
-        ≡ cond (Bool·beq t s) (signed t (bits64 (y + x))) (cond (ltb y x) (signed s (bits64 (x - y))) (signed (t && ltb x y) (bits64 (y - x))))
-    go false false d e = rw (add-comm x y)
-    go true true d e = rw (add-comm x y)
-    go false true (yes l) e = rw (lt-ltb x y l, le-ltb y x (le-of-lt l))
-    go false true (no l) (yes k) = rw (lt-ltb y x k, le-ltb x y (le-of-lt k))
-    go false true (no l) (no k) =
-        let z : x ≡ y = omega arith in
-        rw (z, le-ltb y y (omega arith))
-    go true false (yes l) e = rw (lt-ltb x y l, le-ltb y x (le-of-lt l))
-    go true false (no l) (yes k) = rw (lt-ltb y x k, le-ltb x y (le-of-lt k))
-    go true false (no l) (no k) =
-        let z : x ≡ y = omega arith in
-        rw (z, le-ltb y y (omega arith))
+pub sum-mono-right : (a b c : ℕ) → IsNumber b → IsNumber c → less c b ≡ false → less (sum a c) (sum a b) ≡ false
+sum-mono-right a b c nb nc e = rw (sum-comm a c, sum-comm a b) (sum-mono-left b c a nb nc e)
 
-pub sum-mono-right : (a b c : ℕ) → less c b ≡ false → less (sum a c) (sum a b) ≡ false
-sum-mono-right a b c e = rw (sum-comm a c, sum-comm a b) (sum-mono-left b c a e)
-
--- ---- zeros: "Opposite signs cancelling give +0; two zeros of one sign keep it; a product has the sign of a"
-pub sum-cancels : (a b : ℕ) → Bool·beq (negative a) (negative b) ≡ false → mag a ≡ mag b → sum a b ≡ 0
-unfolding sum code size
-sum-cancels a b d e =
-    let z : mag a - mag b ≡ 0 = omega arith in
-    rw (d, le-ltb (mag a) (mag b) (le-of-eq (sym e)), le-ltb (mag b) (mag a) (le-of-eq e), and-false (negative a), z)
-
-pub sum-zeros : (a b : ℕ) → negative a ≡ negative b → mag a ≡ 0 → mag b ≡ 0 → sum a b ≡ signed (negative a) 0
-unfolding sum code size
-sum-zeros a b d x y = rw (← d, beq-refl (negative a), x, y)
-
+-- ---- "a product has the sign of a"
 pub scaled-sign : (a q : ℕ) → negative (scaled a q) ≡ negative a
 unfolding scaled
 scaled-sign a q = negative-signed (negative a) (bits64 (2 * q * mag a)) (bits-lt (2 * q * mag a))
@@ -166,17 +286,16 @@ own-sides a h = go (negative a)
     go false = (rw (sub-zero) (sym (rounded-own a h)), rw (zero-sub) (sym none))
 
 pub sum-grows : (a b : ℕ) → field a < 2047 → negative b ≡ false → less (sum a b) a ≡ false
-sum-grows a b h e =
-    let s = sum-sides a b in
-    let o = own-sides a h in
-    let z : down b ≡ 0 = rw (e) in
-    not-less (sum a b) a
-    (omega (
-      arith,
-      s .high,
-      s .low,
-      o .0,
-      o .1,
-      rounded-mono (up a - down a) (up a + up b - (down a + down b)) (omega arith),
-      rounded-mono (down a + down b - (up a + up b)) (down a - up a) (omega arith),
-    ))
+sum-grows a b h e = go (infinite b) refl
+  where
+    z : down b ≡ 0
+    z = rw (e)
+
+    go : (t : Bool) → infinite b ≡ t → less (sum a b) a ≡ false
+    go true f =
+        let own : up b ≡ mag b = rw (e) in
+        rw (sum-right a b (absorbs-both b a f h)) (not-less b a (omega (arith, z, own, up-most a, finite-mag a h, infinite-mag b f)))
+    go false f =
+        let o = own-sides a h in
+        rw (sum-counted a b (absorbs-not a b (finite-not a h)) (absorbs-not b a f))
+        (rises a (countedSum a b) (up a) (down a) (up a + up b) (down a + down b) (record { high = o .0; low = o .1 }) (counted-sides a b) (omega (arith, z)))

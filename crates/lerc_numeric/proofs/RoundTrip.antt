@@ -1,15 +1,15 @@
--- A binary32 comes back from its binary64, non-finite ones too.
+-- A binary32 comes back from its binary64, non-finite ones too; and how far out a finite one can be.
 -- Assumes nothing.
 use mathlib.Core.Path.{_≡_}
 use mathlib.Core.Bool.{Bool, true, false, cond}
 use Prim.Native.Nat.{ℕ, _+_, _-_, _*_, _/_, _%_, _^_, _<_, min}
-use native.Mathlib.Nat.{lt-of-lt-of-le, mul-assoc, le-trans}
+use native.Mathlib.Nat.{lt-of-lt-of-le, mul-assoc}
 use native.Mathlib.Decide.{decLt}
 use native.Mathlib.Omega.{arith}
 use borrow.Author.Tests.{eq-eqb, ne-eqb}
 use lib.Dec.{leb, eqb, lit≤, lit<}
 use lib.Pow.{pow-add, pow-mono, shl-lt}
-use Rattle.lerc_numeric.specs.Numeric.{bits64, bits32, mag, signed}
+use Rattle.lerc_numeric.specs.Numeric.{bits64, bits32, field, mag, signed}
 use Rattle.lerc_numeric.specs.Kinds.{field32, mag32, narrowed, widened}
 use Rattle.lerc_numeric.proofs.Magnitude.{sign-is}
 use Rattle.lerc_numeric.proofs.Right.{negative-signed, rest-signed, mag-signed, bits-lt, finite64, exact64, own32}
@@ -43,10 +43,11 @@ module _ (v : ℕ) (f : field32 v < 255) where
   unfolding digits
   digits-lt = omega arith
 
+  units-lt : mag32 v * 2 ^ 925 < 2 ^ 1202
+  units-lt = rw (units) (lt-of-lt-of-le (shl-lt 24 (field32 v - 1 + 925) digits-lt) (pow-mono {j = 1202} (omega arith)))
+
   below-top : bits64 (mag32 v * 2 ^ 925) < 2047 * 2 ^ 52
-  below-top =
-      finite64 (mag32 v * 2 ^ 925)
-      (rw (units) (lt-of-lt-of-le (shl-lt 24 (field32 v - 1 + 925) digits-lt) (le-trans (pow-mono {j = 1202} (omega arith)) (lit≤ tt))))
+  below-top = finite64 (mag32 v * 2 ^ 925) (lt-of-lt-of-le units-lt (lit≤ tt))
 
   wide-mag : mag (bits64 (mag32 v * 2 ^ 925)) ≡ mag32 v * 2 ^ 925
   wide-mag =
@@ -76,3 +77,22 @@ narrow-wide v h = go (decLt (field32 v) 255)
         let x : r / 2 ^ 52 ≡ 2047 = omega arith in
         let t : 255 * 2 ^ 23 + r % 2 ^ 52 / 2 ^ 29 ≡ v % 2 ^ 31 = omega arith in
         rw (eq-eqb (field32 v) 255 e, narrow-top s r (omega arith) x, t) back
+
+-- ---- a finite binary32 stays below 2 ^ 128
+pub wide-near : (v : ℕ) → field (widened v) < 2047 → mag (widened v) < 2 ^ 1202
+unfolding widened
+wide-near v = go (decLt (field32 v) 255)
+  where
+    s : Bool
+    s = leb (2 ^ 31) v
+
+    w : ℕ
+    w = signed s (cond (eqb (field32 v) 255) (2047 * 2 ^ 52 + v % 2 ^ 23 * 2 ^ 29) (bits64 (mag32 v * 2 ^ 925)))
+
+    go : Dec (field32 v < 255) → field w < 2047 → mag w < 2 ^ 1202
+    go (yes f) h = rw (ne-eqb (field32 v) 255 (λ z. absurd (omega arith)), mag-signed s (bits64 (mag32 v * 2 ^ 925)) (bits-lt (mag32 v * 2 ^ 925)), wide-mag v f) (units-lt v f)
+    go (no f) h =
+        let e : field32 v ≡ 255 = omega arith in
+        let r = 2047 * 2 ^ 52 + v % 2 ^ 23 * 2 ^ 29 in
+        let k : r / 2 ^ 52 < 2047 = rw (eq-eqb (field32 v) 255 e, rest-signed s r (omega arith)) at h in
+        absurd (omega arith)

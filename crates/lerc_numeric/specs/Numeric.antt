@@ -18,6 +18,10 @@ field w = w % 2 ^ 63 / 2 ^ 52
 abbrev pub finite : ℕ → Bool
 finite w = ltb (field w) 2047
 
+-- a field of 2047 and no fraction
+abbrev pub infinite : ℕ → Bool
+infinite w = eqb (w % 2 ^ 63) (2047 * 2 ^ 52)
+
 -- the whole number and the power of two whose product is the magnitude; a field of 0 has no leading digit and counts as 1
 abbrev pub sig : ℕ → ℕ
 sig w = min 1 (field w) * 2 ^ 52 + w % 2 ^ 52
@@ -52,14 +56,22 @@ signed s n = cond s (2 ^ 63) 0 + n
 
 -- ---- the operations
 
--- "sum is a + b": "Opposite signs cancelling give +0; two zeros of one sign keep it"
-unfoldable pub sum : ℕ → ℕ → ℕ
-sum a b =
+-- a + b by their magnitudes: "Opposite signs cancelling give +0; two zeros of one sign keep it"
+unfoldable pub countedSum : ℕ → ℕ → ℕ
+countedSum a b =
     cond (Bool·beq (negative a) (negative b))
     (signed (negative a) (bits64 (mag a + mag b)))
     (cond (ltb (mag a) (mag b))
     (signed (negative b) (bits64 (mag b - mag a)))
     (signed (negative a && ltb (mag b) (mag a)) (bits64 (mag a - mag b))))
+
+-- an infinite a that meets a finite b
+abbrev pub absorbs : ℕ → ℕ → Bool
+absorbs a b = infinite a && finite b
+
+-- "sum is a + b"; "finite plus infinity, either way round, is that infinity"
+unfoldable pub sum : ℕ → ℕ → ℕ
+sum a b = cond (absorbs a b) a (cond (absorbs b a) b (countedSum a b))
 
 -- "scaled(a, q) is 2·q·a", "a product has the sign of a"
 unfoldable pub scaled : ℕ → ℕ → ℕ

@@ -5,6 +5,7 @@ ghost use Rattle.lerc_numeric.specs.Numeric.{bits64, sig, exp, mag, sum}
 ghost use Rattle.lerc_numeric.specs.Inside as Inside;
 use super::parts::exponent;
 use super::parts::significand;
+use super::round::INFINITY;
 use super::round::jam;
 use super::round::pack;
 
@@ -58,7 +59,7 @@ fn rest(a: u64, b: u64) -> u64
     pack(t.big - t.small, t.e)
 }
 
-// a + b
+// a + b. Of one sign an infinity needs no test: whatever it is added to, the total is rounded to it.
 pub fn plus(a: u64, b: u64) -> u64
     ensures { λ r. ⌜ r ≡ sum a b ⌝ }
 {
@@ -73,9 +74,9 @@ pub fn plus(a: u64, b: u64) -> u64
             s + total(a, b)
         }
     } else if x < y {
-        t + rest(b, a)
+        if y == INFINITY { b } else { t + rest(b, a) }
     } else if y < x {
-        s + rest(a, b)
+        if x == INFINITY { a } else { s + rest(a, b) }
     } else {
         0
     }

@@ -6,7 +6,7 @@ ghost use lib.Ieee.Nearest.{closest};
 ghost use Rattle.lerc_numeric.specs.Numeric.{bits64};
 ghost use Rattle.lerc_numeric.specs.Inside as Inside;
 
-const INFINITY: u64 = 0x7ff0_0000_0000_0000;
+pub(crate) const INFINITY: u64 = 0x7ff0_0000_0000_0000;
 
 // The d lowest digits of m.
 pub(crate) fn low(m: u64, d: u64) -> u64

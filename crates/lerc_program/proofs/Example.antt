@@ -6,7 +6,7 @@ use mathlib.Core.List.{List, [], _∷_, _++_}
 use lib.Ieee.{size, span, climb}
 use Rattle.lerc_words.specs.Res.{wordAt, little, each}
 use Rattle.lerc_words.specs.Lists.{from, count, allTo}
-use Rattle.lerc_numeric.specs.Numeric.{mag, code, sum, scaled, less, same, lesser}
+use Rattle.lerc_numeric.specs.Numeric.{mag, code, sum, countedSum, scaled, less, same, lesser}
 use Rattle.lerc_numeric.specs.Kinds.{integer, valueOf, whole, cut}
 use Rattle.lerc_samples.specs.Samples.{sampleAt, stored, offsetKinds, offsetKind}
 use Rattle.lerc_bits.specs.Bits.{tabled, plan, chosen, lookedUp, valuesOf, unpacked, counts}
@@ -47,7 +47,7 @@ pub record Computed : Type 0 where
   pub refused : programText (front 3 75 0 ++ (0x0A ∷ 0x0C ∷ 0x00 ∷ 0x00 ∷ 0x05 ∷ [])) ≡ ascii "refused 8\n"
 
 pub computed : Computed
-unfolding wordAt little each from count allTo mag code sum scaled less same lesser integer valueOf whole cut sampleAt stored offsetKinds offsetKind
+unfolding wordAt little each from count allTo mag code sum countedSum scaled less same lesser integer valueOf whole cut sampleAt stored offsetKinds offsetKind
     counts plan tabled unpacked valuesOf lookedUp bits.digits chosen pixelValid copyAt repeatAt endAt signedAt stepAt runs coded strips errorRight pairRight fieldsRight withinCeilings
     held keyRight headerOf headerSays uniform kept unrolled maskSays uniformRanges numberAt byDepth codedRanges pairsRight rangesSays constantWords rawWords
     levelBlock stepValue steppedBlock offsetAt finiteOffset offsetBlock formed flagAt blockSays tileOf pixelOf blockOf placeIn rank indexOf blockAt chain modeAt moded

@@ -467,7 +467,7 @@ fn main() {
     all = all.plus(file(b"v4-large", 5));
     all = all.plus(file(b"probes", 99));
     all = all.plus(file(b"beyond", 24));
-    all = all.plus(file(b"rules", 41));
+    all = all.plus(file(b"rules", 53));
     all = all.plus(file(b"refused", 312));
     all = all.plus(file(b"damaged", 67));
     all = all.plus(file(b"planted", 10));

@@ -9,7 +9,7 @@ use lib.ListN.{length, replicate, List·getD-append}
 use lib.Ieee.{size, span, climb}
 use Rattle.lerc_words.specs.Res.{Res, ok, fail, _>>=_, refuse, wordAt, little, each}
 use Rattle.lerc_words.specs.Lists.{from, count, allTo}
-use Rattle.lerc_numeric.specs.Numeric.{mag, code, sum, scaled, less, same, lesser}
+use Rattle.lerc_numeric.specs.Numeric.{mag, code, sum, countedSum, scaled, less, same, lesser}
 use Rattle.lerc_numeric.specs.Kinds.{integer, valueOf, whole, cut}
 use Rattle.lerc_samples.specs.Samples.{sampleAt, stored, offsetKinds, offsetKind}
 use Rattle.lerc_bits.specs.Packing.{bytesOf}
@@ -82,7 +82,7 @@ example = record {
 }
 
 pub opened : Opened example
-unfolding bytesOf wordAt little each from count allTo mag code sum scaled less same lesser integer valueOf whole cut sampleAt stored offsetKinds offsetKind pixelValid strips errorRight pairRight
+unfolding bytesOf wordAt little each from count allTo mag code sum countedSum scaled less same lesser integer valueOf whole cut sampleAt stored offsetKinds offsetKind pixelValid strips errorRight pairRight
     fieldsRight withinCeilings held keyRight headerOf headerSays uniform maskSays numberAt byDepth codedRanges pairsRight rangesSays readRangesSays levelBlock
     offsetAt finiteOffset offsetBlock formed flagAt blockSays tileOf pixelOf rank blockAt chain moded swept blockBody sweptBody bodySays meaningFrom meaning size span climb
 opened = record {
@@ -108,7 +108,7 @@ unfolding bytesOf little from count allTo pixelValid strips headerOf tileOf pixe
 some-answers said left f = answered example opened some said (example .image) left (opened .room) f
 
 pub some-filled : (said : List FillAnswer) (left : List ℕ) → CaseFills example some said left → left ≡ 1 ∷ 9 ∷ 9 ∷ 9 ∷ 9 ∷ 9 ∷ 9 ∷ 8 ∷ 9 ∷ []
-unfolding bytesOf wordAt little each from count allTo mag code sum scaled less same lesser integer valueOf whole cut sampleAt stored offsetKinds offsetKind pixelValid strips errorRight pairRight
+unfolding bytesOf wordAt little each from count allTo mag code sum countedSum scaled less same lesser integer valueOf whole cut sampleAt stored offsetKinds offsetKind pixelValid strips errorRight pairRight
     fieldsRight withinCeilings held keyRight headerOf numberAt byDepth codedRanges pairsRight levelBlock offsetAt finiteOffset offsetBlock formed flagAt blockSays tileOf pixelOf blockOf placeIn rank
     isValidCell painted inBlock indexOf blockAt fillSays fillImage fillEach size span climb
 some-filled said left f = fill-calls some said (example .image) left f

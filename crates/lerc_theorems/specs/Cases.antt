@@ -1,6 +1,6 @@
--- P1 to P12 of the rules: one table, one claim, computed by the checker from the definitions that the code is proved against.
+-- P1 to P12 of the rules: one table, one claim, computed by the checker from the definitions that the code is proved against; and sums with an infinity.
 -- Assumes nothing.
-use Prim.Native.Nat.{ℕ, zero, suc}
+use Prim.Native.Nat.{ℕ, zero, suc, _^_}
 use mathlib.Core.Path.{_≡_, refl}
 use mathlib.Core.Bool.{cond}
 use mathlib.Core.List.{List, [], _∷_, _++_, map}
@@ -8,10 +8,11 @@ use lib.ListN.{replicate}
 use lib.Ieee.{size, span, climb}
 use Rattle.lerc_words.specs.Res.{Res, ok, fail, _>>=_, refuse, wordAt, little}
 use Rattle.lerc_words.specs.Lists.{from, allTo}
-use Rattle.lerc_numeric.specs.Numeric.{sum, mag, code}
+use Rattle.lerc_numeric.specs.Numeric.{mag, code, sum, countedSum, scaled, less, lesser}
 use Rattle.lerc_numeric.specs.Kinds.{narrowed, whole, cut}
 use Rattle.lerc_samples.specs.Samples.{stored}
 use Rattle.lerc_bits.specs.Bits.{tabled, plan, digits, chosen, lookedUp, valuesOf, unpacked, counts}
+use Rattle.lerc_block.specs.Block.{stepValue}
 use Rattle.lerc_mask.specs.Mask.{pixelValid, copyAt, repeatAt, endAt, signedAt, stepAt, runs, maskRuns}
 
 -- what a case shows: numbers, or a refusal
@@ -61,5 +62,28 @@ table =
 
 pub cases : map (λ (c : Case). c .got) table ≡ map (λ (c : Case). c .want) table
 unfolding validOf counts plan tabled unpacked valuesOf lookedUp digits chosen wordAt little from allTo size span climb
-    pixelValid copyAt repeatAt endAt signedAt stepAt runs sum mag code narrowed whole cut stored
+    pixelValid copyAt repeatAt endAt signedAt stepAt runs sum countedSum mag code narrowed whole cut stored
 cases = refl
+
+-- ---- "finite plus infinity, either way round, is that infinity": +0, -0 and the greatest finite numbers with an infinity of either sign
+
+abbrev pub rows : ℕ → ℕ → List Case
+rows i f = record { got = word (sum i f); want = word i } ∷ record { got = word (sum f i); want = word i } ∷ []
+
+abbrev pub withInfinity : ℕ → List Case
+withInfinity i = rows i 0 ++ rows i 0x8000000000000000 ++ rows i 0x7FEFFFFFFFFFFFFF ++ rows i 0xFFEFFFFFFFFFFFFF
+
+-- "Offset -2^1023, error 2^1000, count 2^30: the product is infinite .. Lerc2 gives infinity, and the clamp gives the maximum"; two infinities are counted as before
+abbrev pub infinityTable : List Case
+infinityTable =
+    record { got = word (scaled 0x7E70000000000000 (2 ^ 30)); want = word 0x7FF0000000000000 }
+    ∷ record { got = word (sum 0xFFE0000000000000 (scaled 0x7E70000000000000 (2 ^ 30))); want = word 0x7FF0000000000000 }
+    ∷ record { got = word (stepValue 0x7E70000000000000 0x7FE8000000000000 0xFFE0000000000000 (2 ^ 30)); want = word 0x7FE8000000000000 }
+    ∷ record { got = word (countedSum 0xFFE0000000000000 (scaled 0x7E70000000000000 (2 ^ 30))); want = word 0x7FE0000000000000 }
+    ∷ record { got = word (sum 0x7FF0000000000000 0x7FF0000000000000); want = word 0x7FF0000000000000 }
+    ∷ record { got = word (sum 0x7FF0000000000000 0xFFF0000000000000); want = word 0 }
+    ∷ (withInfinity 0x7FF0000000000000 ++ withInfinity 0xFFF0000000000000)
+
+pub infinities : map (λ (c : Case). c .got) infinityTable ≡ map (λ (c : Case). c .want) infinityTable
+unfolding size span climb sum countedSum scaled less lesser stepValue mag code
+infinities = refl

@@ -2,11 +2,12 @@
 //!
 //! On finite numbers it is that of the machine, each operation rounding once.
 //! A number with exponent field 2047 counts as if it were finite with the next
-//! exponent.
+//! exponent, but for an infinity that is added to a finite number.
 
 use crate::raw;
 
-/// The sum, nearest with ties to even.
+/// The sum, nearest with ties to even. An infinity and a finite number, either
+/// way round, add to that infinity.
 pub fn sum(a: f64, b: f64) -> f64 {
     f64::from_bits(raw::sum(a.to_bits(), b.to_bits()))
 }

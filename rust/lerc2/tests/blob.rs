@@ -171,6 +171,10 @@ fn arithmetic() {
     let big = 2f64.powi(53);
     assert_eq!(lerc2::sum(big, 3.0), big + 4.0);
     assert_eq!(lerc2::sum(1.0, -1.0).to_bits(), 0);
+    let overflowed = lerc2::scaled(2f64.powi(1000), 1 << 30);
+    assert_eq!(overflowed, f64::INFINITY);
+    assert_eq!(lerc2::sum(-2f64.powi(1023), overflowed), f64::INFINITY);
+    assert_eq!(lerc2::sum(f64::NEG_INFINITY, f64::MAX), f64::NEG_INFINITY);
     assert_eq!(lerc2::scaled(0.5, 7), 7.0);
     assert_eq!(lerc2::narrow(f64::from_bits(0x3FF0_0000_1000_0000)), 1.0);
     assert_eq!(Kind::I8.number(0x80), -128.0);

@@ -107,26 +107,89 @@ fn sums_at_the_ends() {
     assert_eq!(sum(1, SIGN | 2), SIGN | 1);
 }
 
+/// By both functions, in both orders.
+fn sum_is(a: u64, b: u64, expected: u64) {
+    for (x, y) in [(a, b), (b, a)] {
+        assert_eq!(sum(x, y), expected, "{x:016x} + {y:016x}");
+        assert_eq!(exact::sum(x, y), expected, "{x:016x} + {y:016x}, exactly");
+    }
+}
+
 #[test]
-fn field_2047_counts_as_the_next_exponent() {
-    let largest_minus = SIGN | f64::MAX.to_bits();
-    // 2^1024 - (2^1024 - 2^971).
-    assert_eq!(sum(INFINITY, largest_minus), 2f64.powi(971).to_bits());
-    // 2^1024 - 1.5 * 2^1023 = 2^1022.
-    assert_eq!(sum(0xFFE8_0000_0000_0000, INFINITY), 0x7FD0_0000_0000_0000);
-    // 2^1024 - 2^970 is the limit; just below it the largest number is nearest.
+fn infinity_and_a_finite_number_is_that_infinity() {
     let half_place = 2f64.powi(970).to_bits();
-    assert_eq!(sum(INFINITY, SIGN | half_place), INFINITY);
-    assert_eq!(sum(INFINITY, SIGN | (half_place + 1)), f64::MAX.to_bits());
-    assert_eq!(sum(INFINITY, SIGN | INFINITY), 0);
-    assert_eq!(sum(SIGN | INFINITY, INFINITY), 0);
-    assert_eq!(
-        sum(SIGN | (INFINITY + 1), INFINITY),
-        SIGN | 2f64.powi(972).to_bits()
-    );
-    assert_eq!(sum(INFINITY, 0), INFINITY);
-    assert_eq!(sum(INFINITY + 5, 0), INFINITY);
-    assert_eq!(sum(INFINITY + 5, SIGN), INFINITY);
+    let finite = [
+        0,
+        1,
+        (1 << 52) - 1,
+        1 << 52,
+        1f64.to_bits(),
+        half_place,
+        half_place + 1,
+        0x7FE8_0000_0000_0000,
+        f64::MAX.to_bits(),
+    ];
+    for infinity in [INFINITY, SIGN | INFINITY] {
+        for number in finite {
+            sum_is(infinity, number, infinity);
+            sum_is(infinity, SIGN | number, infinity);
+        }
+    }
+}
+
+#[test]
+fn a_product_that_is_infinite_in_a_sum() {
+    let offset = SIGN | 2f64.powi(1023).to_bits();
+    let error = 2f64.powi(1000).to_bits();
+    assert_eq!(scaled(error, 1 << 30), INFINITY);
+    sum_is(offset, scaled(error, 1 << 30), INFINITY);
+    sum_is(offset, exact::scaled(error, 1 << 30), INFINITY);
+    // The greatest count whose product is finite, and the next one.
+    let below = 2f64.powi(1023) - 2f64.powi(1001);
+    sum_is(offset, scaled(error, (1 << 23) - 1), below.to_bits());
+    sum_is(offset, scaled(error, 1 << 23), INFINITY);
+}
+
+#[test]
+fn two_infinities_are_counted() {
+    sum_is(INFINITY, INFINITY, INFINITY);
+    sum_is(SIGN | INFINITY, SIGN | INFINITY, SIGN | INFINITY);
+    // 2^1024 - 2^1024.
+    sum_is(INFINITY, SIGN | INFINITY, 0);
+}
+
+#[test]
+fn a_fraction_past_finite_is_counted() {
+    // 2^1024 + 2^972, and the most: 2^1025 - 2^972.
+    let (least, most) = (INFINITY | 1, !SIGN);
+    let max = f64::MAX.to_bits();
+    let place = 2f64.powi(972);
+    let rows = [
+        (least, SIGN | INFINITY, place.to_bits()),
+        (most, SIGN | INFINITY, max - 1),
+        (most, SIGN | least, max - 3),
+        (most, SIGN | most, 0),
+        (least, SIGN | max, (1.5 * place).to_bits()),
+        // 2^1024 - 2^970 is the limit; just below it the largest number is
+        // nearest.
+        (least, SIGN | (1.25 * place).to_bits(), INFINITY),
+        (least, SIGN | ((1.25 * place).to_bits() + 1), max),
+    ];
+    for (a, b, expected) in rows {
+        sum_is(a, b, expected);
+        let opposite = if expected == 0 { 0 } else { SIGN | expected };
+        sum_is(a ^ SIGN, b ^ SIGN, opposite);
+    }
+    for pattern in [least, INFINITY | 5, most] {
+        for number in [0, SIGN, 1, SIGN | 1, max, INFINITY, pattern] {
+            sum_is(pattern, number, INFINITY);
+            sum_is(pattern ^ SIGN, number ^ SIGN, SIGN | INFINITY);
+        }
+    }
+}
+
+#[test]
+fn products_past_finite_are_counted() {
     assert_eq!(scaled(INFINITY + 5, 0), 0);
     assert_eq!(scaled(SIGN | INFINITY, 0), SIGN);
     assert_eq!(scaled(SIGN | (INFINITY + 5), 1), SIGN | INFINITY);

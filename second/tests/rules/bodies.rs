@@ -235,16 +235,42 @@ fn maximum_on_a_tie_of_zeros() {
 
 #[test]
 fn a_product_that_passes_the_largest_number() {
-    // 2^24 * 2^1000 counts as 2^1024; with -1.5 * 2^1023 it is 2^1022.
-    let body = "000000000000E8FF 000000000000E87F 00 01 000000000000E8FF 98 01 000080";
+    // From 2^24 * 2^1000 on the product is infinite, whatever the offset is.
+    let counts = [0, 1 << 22, (1 << 23) - 1, 1 << 23, 1 << 30];
+    let (offset, max) = (-(2f64.powi(1023)), 1.5 * 2f64.powi(1023));
+    let mut body = hex("000000000000E0FF 000000000000E87F 00 01 000000000000E0FF 9F 05");
+    body.extend(packed(&counts, 31));
     let blob = Blob {
         kind: 7,
         error: 2f64.powi(1000).to_bits(),
-        min: 0xFFE8_0000_0000_0000,
-        max: 0x7FE8_0000_0000_0000,
-        ..Blob::row(1, &hex(body))
+        min: offset.to_bits(),
+        max: max.to_bits(),
+        ..Blob::row(5, &body)
     };
-    assert_eq!(cells(&blob.bytes()), [0x7FD0_0000_0000_0000]);
+    let below = 2f64.powi(1023) - 2f64.powi(1001);
+    let expected = [offset, 0.0, below, max, max];
+    assert_eq!(cells(&blob.bytes()), expected.map(f64::to_bits));
+}
+
+#[test]
+fn an_infinite_product_in_every_kind_of_image() {
+    let least = [-128.0, 0.0, -32768.0, 0.0, -2147483648.0, 0.0];
+    let least = least.into_iter().chain([f64::from(f32::MIN), f64::MIN]);
+    for (kind, offset) in (0..).zip(least) {
+        let [low, high] = [offset, 3.0].map(|number| stored(number.to_bits(), kind).unwrap());
+        let bytes = |word: u64| word.to_le_bytes()[..word_size(kind)].to_vec();
+        // Counts 0 and 2; 2 * 2 * 2^1022 is infinite.
+        let counts = hex("82 02 08");
+        let blob = Blob {
+            kind,
+            error: 2f64.powi(1022).to_bits(),
+            ..Blob::row(
+                2,
+                &[bytes(low), bytes(high), vec![0, 1], bytes(low), counts].concat(),
+            )
+        };
+        assert_eq!(cells(&blob.bytes()), [low, high], "kind {kind}");
+    }
 }
 
 #[test]

@@ -1,0 +1,2 @@
+pub mod By
+pub mod Changes

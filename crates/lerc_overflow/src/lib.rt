@@ -1,0 +1,1 @@
+// What an infinite product changes: the meaning of a blob over another sum, and where it differs; there is no code here.
