@@ -143,7 +143,8 @@ uint32_t lerc2_fill(const uint8_t *blob, size_t blob_count, const uint64_t *head
                     uint64_t *said, size_t said_count);
 
 /* ---- The arithmetic. A double is its bits. Rounding is to nearest, ties to even; what is 2^1024 - 2^970 and above
- * becomes infinity; an operand that is not finite is counted as if its exponent were one above the largest. */
+ * becomes infinity; an operand that is not finite is counted as if its exponent were one above the largest, but for an
+ * infinity in lerc2_sum. */
 
 /* a + b; an infinity and a finite number, either way round, add to that infinity, bit for bit */
 uint64_t lerc2_sum(uint64_t a, uint64_t b);

@@ -808,7 +808,7 @@ fn any_fraction(random: &mut Random, bits: u32) -> u64 {
     }
 }
 
-/// The greatest count whose product is finite, or one that is never packed.
+/// About the greatest count whose product is finite, or one that is never packed.
 fn last_finite(error: u64) -> u64 {
     (f64::MAX / (2.0 * f64::from_bits(error))) as u64
 }

@@ -1,4 +1,4 @@
-"""Blobs by hand and what the rules say of them, the sentence of the rules beside each."""
+"""Blobs by hand and what the rules say of them, the sentence of the rules, or of a change request, beside each."""
 import struct
 import sys
 

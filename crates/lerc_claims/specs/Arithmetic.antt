@@ -1,5 +1,5 @@
--- The arithmetic is right: rounding goes to the nearest, ties to even, and to infinity exactly from where the rules say; sums, products and conversions are the exact values, rounded;
--- and the functions compute them.
+-- The arithmetic is right: rounding goes to the nearest, ties to even, and to infinity exactly from where the rules say; sums, products and conversions are the exact values, rounded,
+-- and an infinity stays one beside a finite number; and the functions compute them.
 -- A magnitude is a whole number of units of 2^-1074; a binary32's own unit is 2^925 of them.
 -- Assumes nothing.
 use Prim.Native.Nat.{ℕ, _+_, _-_, _*_, _%_, _^_, _≤_, _<_}
@@ -66,7 +66,7 @@ pub record Rounding : Type 0 where
   pub own32 : (v : ℕ) → field32 v < 255 → bits32 (units32 v) ≡ v % 2 ^ 31
 
 pub record Sums : Type 0 where
-  -- "scaled(a, q) is 2·q·a, sum is a + b", each the exact magnitude rounded; of opposite signs the greater decides, unless it is an infinity that meets a finite number
+  -- "scaled(a, q) is 2·q·a, sum is a + b", each the exact magnitude rounded; of opposite signs the greater decides, and the lesser is taken off it unless it is an infinity that meets a finite number
   pub sum-alike : (a b : ℕ) → a < 2 ^ 64 → b < 2 ^ 64 → negative a ≡ negative b → sum a b ≡ signed (negative a) (bits64 (mag a + mag b))
   pub sum-apart : (a b : ℕ) → Bool·beq (negative a) (negative b) ≡ false → mag b < mag a → absorbs a b ≡ false → sum a b ≡ signed (negative a) (bits64 (mag a - mag b))
   pub scaled-is : (a q : ℕ) → scaled a q ≡ signed (negative a) (bits64 (2 * q * mag a))
@@ -74,9 +74,9 @@ pub record Sums : Type 0 where
   pub sum-cancels : (a b : ℕ) → Bool·beq (negative a) (negative b) ≡ false → mag a ≡ mag b → sum a b ≡ 0
   pub sum-zeros : (a b : ℕ) → negative a ≡ negative b → mag a ≡ 0 → mag b ≡ 0 → sum a b ≡ signed (negative a) 0
   pub scaled-sign : (a q : ℕ) → negative (scaled a q) ≡ negative a
-  -- a sum does not depend on the order of its operands, and does not fall where one of them grows from a number to a number, infinities among them
+  -- a sum does not depend on the order of its operands, and does not fall where one of them grows, unless it grows between an infinity and a pattern with a fraction
   pub sum-comm : (a b : ℕ) → sum a b ≡ sum b a
-  pub sum-grows : (a b c : ℕ) → IsNumber b → IsNumber c → less c b ≡ false → less (sum a c) (sum a b) ≡ false
+  pub sum-grows : (a b c : ℕ) → (infinite b ≡ true → IsNumber c) → (infinite c ≡ true → IsNumber b) → less c b ≡ false → less (sum a c) (sum a b) ≡ false
 
 pub record NearestSums : Type 0 where
   -- "nearest with ties to even": no word is nearer to the exact a + b than a finite sum of finite numbers; where another value is as near, the sum is even
@@ -89,7 +89,7 @@ pub record NearestSums : Type 0 where
 pub record InfiniteSums : Type 0 where
   -- "finite plus infinity, either way round, is that infinity"
   pub sum-infinite : (a b : ℕ) → infinite a ≡ true → finite b ≡ true → (sum a b ≡ a) × (sum b a ≡ a)
-  -- between an infinity and a pattern with a fraction, which is counted farther out, it can fall: to the greatest finite number, negated, infinity adds to infinity, and the next pattern to less
+  -- there it can fall: the greatest finite number, negated, and infinity add to infinity; it and the next pattern, which is counted farther out, to less
   pub sum-falls : (less 0x7FF0000000000001 0x7FF0000000000000 ≡ false) × (less (sum 0xFFEFFFFFFFFFFFFF 0x7FF0000000000001) (sum 0xFFEFFFFFFFFFFFFF 0x7FF0000000000000) ≡ true)
 
 pub record Order : Type 0 where

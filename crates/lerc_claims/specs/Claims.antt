@@ -32,7 +32,7 @@ pub record Claims : Type 0 where
   pub program : ProgramClaims
   -- "These twelve stand in a single table with a single claim."
   pub worked : map (λ (c : cases.Case). c .got) cases.table ≡ map (λ (c : cases.Case). c .want) cases.table
-  -- the numbers of that sentence, both ways round
+  -- offset -2^1023, error 2^1000, count 2^30; and an infinity with a finite number, both ways round
   pub infinities : map (λ (c : cases.Case). c .got) cases.infinityTable ≡ map (λ (c : cases.Case). c .want) cases.infinityTable
   -- the text that the rules print, and two more, as the checker computes them
   pub printed : Computed

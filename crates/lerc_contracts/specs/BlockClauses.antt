@@ -114,9 +114,9 @@ pub record ValueCases (s : List ℕ) (h : Header) (m : Mode) (q : List ℕ) (at 
   -- 4.35, over upstream's sum
   pub counted-none : m .flag ≡ 1 → index < length q → (r : Refusal) → stored (h .kind) (stepBy countedSum (h .error) maximum (m .offset) (getD q index 0)) ≡ fail r → value s h m q at index maximum ≡ none
   -- 4.33, 4.36: no operand is infinite
-  pub step-word : m .flag ≡ 1 → index < length q → finite (m .offset) ≡ true → infinite (scaled (h .error) (getD q index 0)) ≡ false → (w : ℕ) → stored (h .kind) (stepValue (h .error) maximum (m .offset) (getD q index 0)) ≡ ok w → value s h m q at index maximum ≡ some (record { value = w; at = at; q = index + 1 })
+  pub step-word : m .flag ≡ 1 → index < length q → infinite (m .offset) ≡ false → infinite (scaled (h .error) (getD q index 0)) ≡ false → (w : ℕ) → stored (h .kind) (stepValue (h .error) maximum (m .offset) (getD q index 0)) ≡ ok w → value s h m q at index maximum ≡ some (record { value = w; at = at; q = index + 1 })
   -- 4.35: no operand is infinite
-  pub step-none : m .flag ≡ 1 → index < length q → finite (m .offset) ≡ true → infinite (scaled (h .error) (getD q index 0)) ≡ false → (r : Refusal) → stored (h .kind) (stepValue (h .error) maximum (m .offset) (getD q index 0)) ≡ fail r → value s h m q at index maximum ≡ none
+  pub step-none : m .flag ≡ 1 → index < length q → infinite (m .offset) ≡ false → infinite (scaled (h .error) (getD q index 0)) ≡ false → (r : Refusal) → stored (h .kind) (stepValue (h .error) maximum (m .offset) (getD q index 0)) ≡ fail r → value s h m q at index maximum ≡ none
 
 -- `finish`: its cases, step by step
 pub record FinishCases (s : List ℕ) (h : Header) (t : Tile) (m : Mode) (q mask : List ℕ) (maximum : ℕ) : Type 0 where

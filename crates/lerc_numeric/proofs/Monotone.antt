@@ -12,6 +12,7 @@ use borrow.Author.Tests.{lt-ltb, le-ltb, ltb-true, ltb-false, ne-eqb}
 use lib.Dec.{ltb}
 use lib.Ieee.{size, below}
 use Rattle.lerc_numeric.specs.Numeric.{bits64, code, field, finite, infinite, mag, negative, signed, sum, countedSum, scaled, less}
+use Rattle.lerc_numeric.proofs.Magnitude.{mag-le, bits-le}
 use Rattle.lerc_numeric.proofs.Infinity.{outer, IsNumber, bits-infinite, finite-not, infinite-not, infinite-mag, finite-mag, outer-bits, sum-counted, sum-left, sum-right, absorbed-not, absorbs-not, absorbs-both}
 use Rattle.lerc_numeric.proofs.Sums.{sum-comm}
 use Rattle.lerc_numeric.proofs.Right.{negative-signed, mag-signed, bits-lt, rounded-mono, rounded-own}
@@ -27,6 +28,13 @@ pub up-most : (w : ℕ) → up w ≤ mag w
 up-most w = go (negative w)
   where
     go : (s : Bool) → cond s 0 (mag w) ≤ mag w
+    go true = omega arith
+    go false = omega arith
+
+down-most : (w : ℕ) → down w ≤ mag w
+down-most w = go (negative w)
+  where
+    go : (s : Bool) → cond s (mag w) 0 ≤ mag w
     go true = omega arith
     go false = omega arith
 
@@ -253,23 +261,125 @@ rises x y p q r s c d h =
       rounded-mono (s - r) (q - p) (omega arith),
     ))
 
-pub sum-mono-left : (a c b : ℕ) → IsNumber a → IsNumber c → less c a ≡ false → less (sum c b) (sum a b) ≡ false
-sum-mono-left a c b na nc e = go (decLt (2047 * 2 ^ 52) (b % 2 ^ 63))
+-- of numbers
+number-mono : (a c b : ℕ) → IsNumber a → IsNumber c → IsNumber b → less c a ≡ false → less (sum c b) (sum a b) ≡ false
+number-mono a c b na nc nb e =
+    rises (sum a b) (sum c b) (farUp a + farUp b) (farDown a + farDown b) (farUp c + farUp b) (farDown c + farDown b) (sum-sides a b na nb) (sum-sides c b nc nb) (omega (arith, at-least-far c a nc na e))
+
+-- of what is counted
+counted-mono : (a c b : ℕ) → sum a b ≡ countedSum a b → sum c b ≡ countedSum c b → less c a ≡ false → less (sum c b) (sum a b) ≡ false
+counted-mono a c b ea ec e =
+    rw (ea, ec)
+    (rises (countedSum a b) (countedSum c b) (up a + up b) (down a + down b) (up c + up b) (down c + down b) (counted-sides a b) (counted-sides c b) (omega (arith, at-least c a e)))
+
+-- a pattern of field 2047 with a fraction: neither finite nor infinite
+module _ (x : ℕ) (l : 2047 * 2 ^ 52 < x % 2 ^ 63) where
+  pattern-finite : finite x ≡ false
+  pattern-finite = le-ltb (field x) 2047 (omega arith)
+
+  pattern-infinite : infinite x ≡ false
+  pattern-infinite = ne-eqb (x % 2 ^ 63) (2047 * 2 ^ 52) (λ z. omega arith)
+
+  pattern-mag : outer ≤ mag x
+  pattern-mag = mag-le x (2047 * 2 ^ 52) (omega arith)
+
+  pattern-left : (b : ℕ) → sum x b ≡ countedSum x b
+  pattern-left b = sum-counted x b (absorbs-not x b pattern-infinite) (absorbed-not x b pattern-finite)
+
+  pattern-right : (a : ℕ) → sum a x ≡ countedSum a x
+  pattern-right a = sum-counted a x (absorbed-not x a pattern-finite) (absorbs-not x a pattern-infinite)
+
+  -- of the sign of an infinity, they add to it
+  pattern-sum : (b : ℕ) → infinite b ≡ true → negative x ≡ negative b → (up (countedSum x b) ≡ up b) × (down (countedSum x b) ≡ down b)
+  pattern-sum b i e =
+      let c = counted-sides x b in
+      let r = go (negative b) in
+      (c .high ∙ rw (e) (r .0), c .low ∙ rw (e) (r .1))
+    where
+      both : rounded (mag x + mag b - (0 + 0)) ≡ mag b
+      both = outer-rounded (mag x + mag b - (0 + 0)) (omega (arith, infinite-mag b i)) ∙ sym (infinite-mag b i)
+
+      none-left : rounded (0 + 0 - (mag x + mag b)) ≡ 0
+      none-left = let z : 0 + 0 - (mag x + mag b) ≡ 0 = omega arith in rw (z) none
+
+      go : (s : Bool)
+          → (rounded (cond s 0 (mag x) + cond s 0 (mag b) - (cond s (mag x) 0 + cond s (mag b) 0)) ≡ cond s 0 (mag b))
+          × (rounded (cond s (mag x) 0 + cond s (mag b) 0 - (cond s 0 (mag x) + cond s 0 (mag b))) ≡ cond s (mag b) 0)
+      go true = (none-left, both)
+      go false = (both, none-left)
+
+-- no sum is farther out than an infinity
+sides-most : (w p q : ℕ) → Sides w p q → (up w ≤ outer) × (down w ≤ outer)
+sides-most w p q c = (rw (c .high) (rounded-most (p - q)), rw (c .low) (rounded-most (q - p)))
   where
-    -- any other pattern is counted, and so is what it meets
-    other : (x : ℕ) → 2047 * 2 ^ 52 < b % 2 ^ 63 → Sides (sum x b) (up x + up b) (down x + down b)
-    other x l =
-        let f : finite b ≡ false = le-ltb (field b) 2047 (omega arith) in
-        let i : infinite b ≡ false = ne-eqb (b % 2 ^ 63) (2047 * 2 ^ 52) (λ z. omega arith) in
-        rw (sum-counted x b (absorbed-not b x f) (absorbs-not b x i)) (counted-sides x b)
+    rounded-most : (n : ℕ) → rounded n ≤ outer
+    rounded-most n = mag-le (2047 * 2 ^ 52) (bits64 n) (omega (arith, bits-le n))
 
-    go : Dec (2047 * 2 ^ 52 < b % 2 ^ 63) → less (sum c b) (sum a b) ≡ false
-    go (yes l) = rises (sum a b) (sum c b) (up a + up b) (down a + down b) (up c + up b) (down c + down b) (other a l) (other c l) (omega (arith, at-least c a e))
-    go (no l) =
-        let nb : IsNumber b = omega arith in
-        rises (sum a b) (sum c b) (farUp a + farUp b) (farDown a + farDown b) (farUp c + farUp b) (farDown c + farDown b) (sum-sides a b na nb) (sum-sides c b nc nb) (omega (arith, at-least-far c a nc na e))
+-- a pattern and a finite number beside an infinity: x is the pattern
+module _ (x b : ℕ) (l : 2047 * 2 ^ 52 < x % 2 ^ 63) (i : infinite b ≡ true) where
+  side : (s : Bool) → negative b ≡ s → (up b ≡ cond s 0 outer) × (down b ≡ cond s outer 0)
+  side true e = (rw (e), rw (e) (infinite-mag b i))
+  side false e = (rw (e) (infinite-mag b i), rw (e))
 
-pub sum-mono-right : (a b c : ℕ) → IsNumber b → IsNumber c → less c b ≡ false → less (sum a c) (sum a b) ≡ false
+  pattern-below : (c : ℕ) → field c < 2047 → less c x ≡ false → less b (countedSum x b) ≡ false
+  pattern-below c f e = go (negative b) refl (negative x) refl
+    where
+      most : (up (countedSum x b) ≤ outer) × (down (countedSum x b) ≤ outer)
+      most = sides-most (countedSum x b) (up x + up b) (down x + down b) (counted-sides x b)
+
+      go : (s : Bool) → negative b ≡ s → (t : Bool) → negative x ≡ t → less b (countedSum x b) ≡ false
+      go false s t r = let u = side false s in not-less b (countedSum x b) (omega (arith, u .0, u .1, most .0))
+      go true s true r = let u = pattern-sum x l b i (r ∙ sym s) in not-less b (countedSum x b) (omega (arith, u .0, u .1))
+      go true s false r =
+          let u : up x ≡ mag x = rw (r) in
+          let d : down x ≡ 0 = rw (r) in
+          absurd (omega (arith, u, d, at-least c x e, up-most c, finite-mag c f, pattern-mag x l))
+
+  pattern-above : (a : ℕ) → field a < 2047 → less x a ≡ false → less (countedSum x b) b ≡ false
+  pattern-above a f e = go (negative b) refl (negative x) refl
+    where
+      most : (up (countedSum x b) ≤ outer) × (down (countedSum x b) ≤ outer)
+      most = sides-most (countedSum x b) (up x + up b) (down x + down b) (counted-sides x b)
+
+      go : (s : Bool) → negative b ≡ s → (t : Bool) → negative x ≡ t → less (countedSum x b) b ≡ false
+      go true s t r = let u = side true s in not-less (countedSum x b) b (omega (arith, u .0, u .1, most .1))
+      go false s false r = let u = pattern-sum x l b i (r ∙ sym s) in not-less (countedSum x b) b (omega (arith, u .0, u .1))
+      go false s true r =
+          let u : down x ≡ mag x = rw (r) in
+          let d : up x ≡ 0 = rw (r) in
+          absurd (omega (arith, u, d, at-least x a e, down-most a, finite-mag a f, pattern-mag x l))
+
+-- any two words but an infinity and a pattern
+pub sum-mono-left : (a c b : ℕ) → (infinite a ≡ true → IsNumber c) → (infinite c ≡ true → IsNumber a) → less c a ≡ false → less (sum c b) (sum a b) ≡ false
+sum-mono-left a c b na nc e = go (decLt (2047 * 2 ^ 52) (a % 2 ^ 63)) (decLt (2047 * 2 ^ 52) (c % 2 ^ 63)) (decLt (2047 * 2 ^ 52) (b % 2 ^ 63))
+  where
+    -- a finite number, since an infinity does not meet the pattern
+    near : (x y : ℕ) → 2047 * 2 ^ 52 < y % 2 ^ 63 → (2047 * 2 ^ 52 < x % 2 ^ 63 → ⊥) → (infinite x ≡ true → IsNumber y) → field x < 2047
+    near x y l k n = by (number-is x (omega arith))
+      where
+        by : (field x < 2047) ⊎ (infinite x ≡ true) → field x < 2047
+        by (inl f) = f
+        by (inr i) = absurd (let z = n i in omega arith)
+
+    beside : (x : ℕ) → field x < 2047 → infinite b ≡ false → sum x b ≡ countedSum x b
+    beside x f i = sum-counted x b (absorbs-not x b (finite-not x f)) (absorbs-not b x i)
+
+    mixed-below : 2047 * 2 ^ 52 < a % 2 ^ 63 → field c < 2047 → (t : Bool) → infinite b ≡ t → less (sum c b) (sum a b) ≡ false
+    mixed-below l f false i = counted-mono a c b (pattern-left a l b) (beside c f i) e
+    mixed-below l f true i = rw (sum-right c b (absorbs-both b c i f), pattern-left a l b) (pattern-below a b l i c f e)
+
+    mixed-above : 2047 * 2 ^ 52 < c % 2 ^ 63 → field a < 2047 → (t : Bool) → infinite b ≡ t → less (sum c b) (sum a b) ≡ false
+    mixed-above l f false i = counted-mono a c b (beside a f i) (pattern-left c l b) e
+    mixed-above l f true i = rw (sum-right a b (absorbs-both b a i f), pattern-left c l b) (pattern-above c b l i a f e)
+
+    go : Dec (2047 * 2 ^ 52 < a % 2 ^ 63) → Dec (2047 * 2 ^ 52 < c % 2 ^ 63) → Dec (2047 * 2 ^ 52 < b % 2 ^ 63) → less (sum c b) (sum a b) ≡ false
+    go (yes l) (yes k) _ = counted-mono a c b (pattern-left a l b) (pattern-left c k b) e
+    go (yes l) (no k) _ = mixed-below l (near c a l k nc) (infinite b) refl
+    go (no l) (yes k) _ = mixed-above k (near a c k l na) (infinite b) refl
+    go (no l) (no k) (yes j) = counted-mono a c b (pattern-right b j a) (pattern-right b j c) e
+    go (no l) (no k) (no j) = number-mono a c b (omega arith) (omega arith) (omega arith) e
+
+pub sum-mono-right : (a b c : ℕ) → (infinite b ≡ true → IsNumber c) → (infinite c ≡ true → IsNumber b) → less c b ≡ false → less (sum a c) (sum a b) ≡ false
 sum-mono-right a b c nb nc e = rw (sum-comm a c, sum-comm a b) (sum-mono-left b c a nb nc e)
 
 -- ---- "a product has the sign of a"

@@ -14,6 +14,7 @@ use Rattle.lerc_words.specs.Res.{Res, ok, fail, _>>=_, refuse, require, wordAt,
 use Rattle.lerc_words.proofs.Binding.{bind-is, require-is, ok-is, each-length}
 use Rattle.lerc_words.proofs.Each.{each-at, each-alike, each-not}
 use Rattle.lerc_numeric.specs.Numeric.{finite, infinite, sum, countedSum, scaled, lesser}
+use Rattle.lerc_numeric.proofs.Infinity.{finite-not}
 use Rattle.lerc_samples.specs.Samples.{stored}
 use Rattle.lerc_samples.proofs.Words.{stored-last}
 use Rattle.lerc_bits.specs.Bits.{Counts, counts}
@@ -21,7 +22,7 @@ use Rattle.lerc_block.specs.Block.{Block, Offset, rawWords, levelBlock, stepVal
 use Rattle.lerc_overflow.specs.By.{Adding, stepBy, steppedBy, offsetBy, formedBy, blockBy}
 use Rattle.lerc_overflow.specs.Changes.{Operands, operandsAt, Calm, Overflows, BlockChanges}
 use Rattle.lerc_overflow.proofs.OverSum.{step-sum, block-sum}
-use Rattle.lerc_overflow.proofs.Steps.{step-same, step-near}
+use Rattle.lerc_overflow.proofs.Steps.{is-finite, step-same, step-near}
 use Rattle.lerc_overflow.proofs.Offsets.{Read, offset-read}
 
 -- ---- only a block with counts has a sum: what relates two of these relates the blocks
@@ -183,7 +184,7 @@ module _ (s : List ℕ) (at kind error : ℕ) where
         stepped-same s (o .next) kind error top (o .value) n countedSum sum
         (λ c q i l.
         let k = calm i _ (operands-are flag o e f d c q i l) in
-        sym (step-same error top (o .value) (getD (c .values) i 0) (r .offset-finite) k) ∙ sym (step-sum error top (o .value) (getD (c .values) i 0))))
+        sym (step-same error top (o .value) (getD (c .values) i 0) (finite-not (o .value) (is-finite (o .value) (r .offset-finite))) k) ∙ sym (step-sum error top (o .value) (getD (c .values) i 0))))
         ∙ block-sum s at kind error top x n
 
     pub block-next : nextBlock (blockBy countedSum s at kind error top x n) ≡ nextBlock (blockSays s at kind error top x n)
@@ -216,7 +217,7 @@ module _ (s : List ℕ) (at kind error : ℕ) where
           where
             go : (t : Bool) → infinite (scaled error q) ≡ t → t ≡ true
             go true i = refl
-            go false i = absurd (d (sym (step-same error top offset q f i) ∙ sym (step-sum error top offset q)))
+            go false i = absurd (d (sym (step-same error top offset q (finite-not offset (is-finite offset f)) i) ∙ sym (step-sum error top offset q)))
 
     pub word-is : (add : Adding) (b : Block) → 7 ≤ kind → blockBy add s at kind error top x n ≡ ok b → (i : ℕ) (p : Operands) → operandsAt s at kind error i ≡ ok p → getD (b .words) i 0 ≡ lesser (add (p .offset) (p .product)) top
     unfolding operandsAt blockBy flagAt formedBy offsetBy stepBy

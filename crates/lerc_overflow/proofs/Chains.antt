@@ -98,7 +98,7 @@ module _ (s : List ℕ) (h : Header) (maxima m : List ℕ) where
       chain-calm f (suc n) (p .block .next) (p .others) (p .others-are) (λ i l. rw (p .whole) at (calm (suc i) (omega arith))) in
       counted-front f n at ∙ rw (first, others) (ap ok (sym (p .whole)))
 
-  -- as long as every block that was reached is calm, also where the chain is refused
+  -- where the blocks of an accepted chain are calm; of a refused one nothing is asked
   pub chain-still : (f n at : ℕ) → ((c : Chain) → chain s h maxima m f n at ≡ ok c → AllCalm s h (c .starts)) → chainBy countedSum s h maxima m f n at ≡ chain s h maxima m f n at
   chain-still f n at calm = go (chain s h maxima m f n at) refl
     where

@@ -4,16 +4,17 @@ use mathlib.Core.Path.{_≡_, refl, sym, ap, _∙_}
 use mathlib.Core.Logic.{_≢_}
 use mathlib.Core.Bool.{Bool, true, false, not, cond, _&&_}
 use mathlib.Core.List.{List, []}
-use Prim.Native.Nat.{ℕ, _+_, _%_, _≤_, _<_}
-use native.Mathlib.Nat.{zero-add}
+use Prim.Native.Nat.{ℕ, _+_, _/_, _%_, _^_, _≤_, _<_}
+use native.Mathlib.Nat.{zero-add, lt-of-lt-of-le}
 use native.Mathlib.Decide.{decLt}
 use native.Mathlib.Omega.{arith}
-use lib.Dec.{eqb, ltb}
+use lib.Dec.{eqb, ltb, lit<}
 use lib.ListN.{length, getD, take, length-take}
 use Rattle.lerc_words.specs.Res.{Res, ok, fail, _>>=_, require, wordAt}
 use Rattle.lerc_words.proofs.Binding.{bind-is, require-is, ok-is, and-is}
 use Rattle.lerc_words.proofs.Tables.{all-each}
 use Rattle.lerc_numeric.specs.Numeric.{negative, finite, infinite, mag, sum, countedSum, scaled, less, lesser}
+use Rattle.lerc_samples.specs.Samples.{offsetKind}
 use Rattle.lerc_bits.specs.Bits.{counts}
 use Rattle.lerc_header.specs.declared.Header.{Header}
 use Rattle.lerc_header.specs.Header.{shapeOf, headerSays, errorRight, pairRight, rangesAt}
@@ -34,7 +35,7 @@ use Rattle.lerc.specs.Meaning.{Body, empty, blocks, Meaning, rawBody, blockBody
 use Rattle.lerc_overflow.specs.By.{Adding, stepBy, blockBy, blockAtBy, allBlocksBy, blockBodyBy, bodyFromBy, sweptBodyBy, bodyBy, meaningFromBy, meaningBy}
 use Rattle.lerc_overflow.specs.Changes.{Stepping, farOffset, Operands, operandsAt, AllCalm, Overflows, Outline, outline, CellChanged, MeaningChanges}
 use Rattle.lerc_overflow.proofs.OverSum.{step-sum, block-sum, chain-sum}
-use Rattle.lerc_overflow.proofs.Steps.{step-most, step-offset}
+use Rattle.lerc_overflow.proofs.Steps.{step-most, step-offset, step-below}
 use Rattle.lerc_overflow.proofs.Offsets.{offset-read}
 use Rattle.lerc_overflow.proofs.Blocks.{block-word, word-is}
 use Rattle.lerc_overflow.proofs.Chains.{Ends, ends, chain-ends, chain-kind, chain-still, at-kind, Differs, chain-word}
@@ -164,6 +165,12 @@ record FromCount (error : ℕ) (p : Operands) : Type 0 where
   product-is : p .product ≡ scaled error count
   offset-finite : finite (p .offset) ≡ true
 
+-- and the flag in front of them
+record FromFlag (s : List ℕ) (at kind : ℕ) (p : Operands) : Type 0 where
+  flag : ℕ
+  is-flag : wordAt 1 s at ≡ ok flag
+  wide : kind ≡ 7 → 2 ^ 2044 < mag (p .offset) → offsetKind kind (flag / 64) ≡ ok 7
+
 operands-from : (s : List ℕ) (at kind error i : ℕ) (p : Operands) → operandsAt s at kind error i ≡ ok p → FromCount error p
 unfolding operandsAt
 operands-from s at kind error i p k =
@@ -174,6 +181,17 @@ operands-from s at kind error i p k =
     let (_, _, k) = bind-is (require (ltb i (length (c .values))) 8) _ k in
     let z = ok-is k in
     rw (← z) (record { count = getD (c .values) i 0; product-is = refl; offset-finite = offset-read s (at + 1) kind flag o eo .offset-finite })
+
+operands-flag : (s : List ℕ) (at kind error i : ℕ) (p : Operands) → operandsAt s at kind error i ≡ ok p → FromFlag s at kind p
+unfolding operandsAt
+operands-flag s at kind error i p k =
+    let (flag, ef, k) = bind-is (wordAt 1 s at) _ k in
+    let (_, _, k) = bind-is (require (eqb (flag % 4) 1) 8) _ k in
+    let (o, eo, k) = bind-is (finiteOffset s (at + 1) kind flag) _ k in
+    let (c, _, k) = bind-is (counts s (o .next)) _ k in
+    let (_, _, k) = bind-is (require (ltb i (length (c .values))) 8) _ k in
+    let z = ok-is k in
+    rw (← z) (record { flag = flag; is-flag = ef; wide = offset-read s (at + 1) kind flag o eo .wide })
 
 -- a cell of two bodies that differ: both are in blocks, and so do its block's words
 record BlocksDiffer (s : List ℕ) (h : Header) (m : List ℕ) (y : Body) (c : ℕ) : Type 0 where
@@ -287,8 +305,22 @@ module _ (b : List ℕ) (h : Header) (e : headerSays b ≡ ok h) (m : List ℕ) 
       word-by sum (d .differs .new) (block-sum s at (h .kind) (h .error) top (t .x) (validInTile (shapeOf h) m t) ∙ new-is)
       ∙ step-sum (h .error) top o (from .count)
 
+  steps-differ : stepValue (h .error) top o (from .count) ≢ stepBy countedSum (h .error) top o (from .count)
+  steps-differ z = d .differs .differ (word-by countedSum (d .differs .old) old-is ∙ sym z ∙ sym new-word)
+
   far-offset : (negative o ≡ true) × (farOffset ≤ mag o)
-  far-offset = step-offset (h .error) top o (from .count) stepping (λ z. d .differs .differ (word-by countedSum (d .differs .old) old-is ∙ sym z ∙ sym new-word))
+  far-offset = step-offset (h .error) top o (from .count) stepping steps-differ
+
+  counted-below : less (countedSum o (overflows .operands .product)) top ≡ true
+  counted-below = rw (from .product-is) (step-below (h .error) top o (from .count) stepping (rw (from .product-is) at (overflows .infinite-product)) steps-differ)
+
+  as-binary64 : (flag : ℕ) → wordAt 1 s at ≡ ok flag → offsetKind 7 (flag / 64) ≡ ok 7
+  as-binary64 flag k =
+      let r = operands-flag s at (h .kind) (h .error) i (overflows .operands) (overflows .are) in
+      let z : r .flag ≡ flag = ok-is (sym (r .is-flag) ∙ k) in
+      ap (λ (x : ℕ). offsetKind x (flag / 64)) (sym is-seven)
+      ∙ ap (λ (x : ℕ). offsetKind (h .kind) (x / 64)) (sym z)
+      ∙ r .wide is-seven (lt-of-lt-of-le (lit< tt) (far-offset .1))
 
   is-maximum : cellWord h m y c ≡ top
   unfolding cellWord
@@ -322,6 +354,8 @@ meaning-cell b reuse old =
               kind = is-seven b h e (bytesOf k) q c x;
               overflows = rw (z) (overflows b h e (bytesOf k) q c x);
               offset = far-offset b h e (bytesOf k) q c x;
+              as-binary64 = rw (z) (as-binary64 b h e (bytesOf k) q c x);
+              below = counted-below b h e (bytesOf k) q c x;
               ranges = x .ranges;
               ranges-are = x .ranges-are;
               is-maximum = is-maximum b h e (bytesOf k) q c x;

@@ -20,7 +20,7 @@ use Rattle.lerc_block.specs.Block.{stepValue}
 use Rattle.lerc_overflow.specs.By.{stepBy}
 use Rattle.lerc_overflow.specs.Changes.{Stepping, StepChanges, farOffset}
 
-is-finite : (w : ℕ) → finite w ≡ true → field w < 2047
+pub is-finite : (w : ℕ) → finite w ≡ true → field w < 2047
 is-finite w e = ltb-true (field w) 2047 e
 
 -- a product is a word
@@ -36,9 +36,9 @@ scaled-fits a q = go (negative a)
     go false = omega (arith, bits-lt n)
 
 -- ---- where nothing changes
-pub step-same : (error top offset q : ℕ) → finite offset ≡ true → infinite (scaled error q) ≡ false → stepValue error top offset q ≡ stepBy countedSum error top offset q
+pub step-same : (error top offset q : ℕ) → infinite offset ≡ false → infinite (scaled error q) ≡ false → stepValue error top offset q ≡ stepBy countedSum error top offset q
 unfolding stepValue stepBy
-step-same error top offset q f i = rw (sum-counted offset (scaled error q) (absorbs-not offset (scaled error q) (finite-not offset (is-finite offset f))) (absorbs-not (scaled error q) offset i))
+step-same error top offset q f i = rw (sum-counted offset (scaled error q) (absorbs-not offset (scaled error q) f) (absorbs-not (scaled error q) offset i))
 
 -- signs: one of both, or two
 signs : (s t : Bool) → (t ≡ s → ⊥) → Bool·beq s t ≡ false
@@ -159,10 +159,18 @@ pub step-offset : (error top offset q : ℕ) → Stepping error top offset → s
 step-offset error top offset q g d = go (infinite (scaled error q)) refl (negative offset) refl (decLt (mag offset) farOffset)
   where
     go : (t : Bool) → infinite (scaled error q) ≡ t → (s : Bool) → negative offset ≡ s → Dec (mag offset < farOffset) → (negative offset ≡ true) × (farOffset ≤ mag offset)
-    go false i s e l = absurd (d (step-same error top offset q (g .offset-finite) i))
+    go false i s e l = absurd (d (step-same error top offset q (finite-not offset (is-finite offset (g .offset-finite))) i))
     go true i false e l = absurd (d (step-kept error top offset q g i (plus-counted error top offset q g i e)))
     go true i true e (yes l) = absurd (d (step-kept error top offset q g i (minus-counted error top offset q g i e l)))
     go true i true e (no l) = (e, not-lt-le (mag offset) farOffset l)
       where
         not-lt-le : (x k : ℕ) → (x < k → ⊥) → k ≤ x
         not-lt-le x k n = omega arith
+
+-- with that offset and 2^1024 below the maximum
+pub step-below : (error top offset q : ℕ) → Stepping error top offset → infinite (scaled error q) ≡ true → stepValue error top offset q ≢ stepBy countedSum error top offset q → less (countedSum offset (scaled error q)) top ≡ true
+step-below error top offset q g i d = go (less (countedSum offset (scaled error q)) top) refl
+  where
+    go : (t : Bool) → less (countedSum offset (scaled error q)) top ≡ t → t ≡ true
+    go true e = refl
+    go false e = absurd (d (step-kept error top offset q g i e))

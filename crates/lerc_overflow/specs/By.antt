@@ -2,7 +2,7 @@
 -- definition, with `add` where `sum` stands there. Over `sum` they are those definitions (`OverSum`). Over `countedSum`, in which an infinity
 -- is counted as 2^1024, they say what blobs meant before "finite plus infinity, either way round, is that infinity".
 -- Assumes nothing.
-use Prim.Native.Nat.{ℕ, zero, suc, _+_, _*_, _/_, _%_}
+use Prim.Native.Nat.{ℕ, zero, suc, _+_, _%_}
 use mathlib.Core.Bool.{Bool, cond}
 use mathlib.Core.List.{List, [], _∷_}
 use lib.ListN.{length, getD, replicate, take}

@@ -11,6 +11,7 @@ use lib.Dec.{ltb, eqb}
 use Rattle.lerc_words.specs.Res.{Res, ok, _>>=_, require, wordAt}
 use Rattle.lerc_numeric.specs.Numeric.{negative, finite, infinite, mag, sum, countedSum, scaled, less, lesser}
 use Rattle.lerc_numeric.specs.Kinds.{valueOf}
+use Rattle.lerc_samples.specs.Samples.{offsetKind}
 use Rattle.lerc_bits.specs.Bits.{counts}
 use Rattle.lerc_header.specs.declared.Header.{Header}
 use Rattle.lerc_header.specs.Header.{shapeOf, headerSays}
@@ -39,13 +40,13 @@ pub record Stepping (error top offset : ℕ) : Type 0 where
   pub error-right : negative error ≡ false
   pub top-finite : finite top ≡ true
 
--- how far out an offset is with which a cell can change: 3·2^970
+-- how far out at least an offset is with which a cell can change: 3·2^970
 abbrev pub farOffset : ℕ
 farOffset = 3 * 2 ^ (970 + 1074)
 
 pub record StepChanges : Type 0 where
-  -- it changes only where the product is infinite
-  pub step-same : (error top offset q : ℕ) → finite offset ≡ true → infinite (scaled error q) ≡ false → stepValue error top offset q ≡ stepBy countedSum error top offset q
+  -- it changes only where the product is infinite, the offset being none
+  pub step-same : (error top offset q : ℕ) → infinite offset ≡ false → infinite (scaled error q) ≡ false → stepValue error top offset q ≡ stepBy countedSum error top offset q
   -- "Lerc2 gives infinity, and the clamp gives the maximum"
   pub step-most : (error top offset q : ℕ) → Stepping error top offset → infinite (scaled error q) ≡ true → stepValue error top offset q ≡ top
   -- then it changes exactly where the offset and 2^1024 add to less than the maximum
@@ -104,7 +105,7 @@ pub record BlockChanges : Type 0 where
 
 -- ---- a blob
 
--- all that a meaning says apart from the words
+-- the header, the mask, where the blocks begin and where the body ends
 pub record Outline : Type 0 where
   pub header : Header
   pub mask : MaskInForce
@@ -114,15 +115,24 @@ pub record Outline : Type 0 where
 abbrev pub outline : Meaning → Res Outline
 outline m = ok (record { header = m .header; mask = m .mask; starts = startsOf (m .body); end = endOf (m .body) })
 
--- a cell of kind 7 whose product is infinite: it is the maximum of its depth, and its offset is far out
+-- where the block of a cell begins
+abbrev pub startOfCell : Meaning → ℕ → ℕ
+startOfCell m c = getD (startsOf (m .body)) (blockOf (shapeOf (m .header)) c) 0
+
+-- the maximum of its depth
+abbrev pub maximumOf : Header → Ranges → ℕ → ℕ
+maximumOf h r c = getD (r .max) (tileOf (shapeOf h) (blockOf (shapeOf h) c) .d) 0
+
+-- a cell of kind 7 whose product is infinite; its offset was read as a binary64 and is far out, and with 2^1024 adds to less than the maximum, which is the cell's word now
 pub record CellChanged (b : List ℕ) (m : Meaning) (c : ℕ) : Type 0 where
   pub kind : m .header .kind ≡ 7
-  pub overflows : let h = m .header in
-      Overflows (take (h .size) b) (getD (startsOf (m .body)) (blockOf (shapeOf h) c) 0) (h .kind) (h .error) (indexOf (shapeOf h) (bytesOf (m .mask)) c)
+  pub overflows : Overflows (take (m .header .size) b) (startOfCell m c) (m .header .kind) (m .header .error) (indexOf (shapeOf (m .header)) (bytesOf (m .mask)) c)
   pub offset : (negative (overflows .operands .offset) ≡ true) × (farOffset ≤ mag (overflows .operands .offset))
+  pub as-binary64 : (flag : ℕ) → wordAt 1 (take (m .header .size) b) (startOfCell m c) ≡ ok flag → offsetKind 7 (flag / 64) ≡ ok 7
   pub ranges : Ranges
   pub ranges-are : rangesSays (take (m .header .size) b) (m .header) ≡ ok ranges
-  pub is-maximum : let h = m .header in cellWord h (bytesOf (m .mask)) (m .body) c ≡ getD (ranges .max) (tileOf (shapeOf h) (blockOf (shapeOf h) c) .d) 0
+  pub below : less (countedSum (overflows .operands .offset) (overflows .operands .product)) (maximumOf (m .header) ranges c) ≡ true
+  pub is-maximum : cellWord (m .header) (bytesOf (m .mask)) (m .body) c ≡ maximumOf (m .header) ranges c
 
 pub record MeaningChanges : Type 0 where
   -- a blob is accepted exactly when it was, and refused by the same number; header, mask, starts and end are the same
@@ -131,7 +141,7 @@ pub record MeaningChanges : Type 0 where
   pub meaning-kind : (b : List ℕ) (reuse : Bool) (old : List ℕ) (h : Header) → headerSays b ≡ ok h → h .kind < 7 → meaningBy countedSum b reuse old ≡ meaning b reuse old
   -- nor where no product is infinite
   pub meaning-calm : (b : List ℕ) (reuse : Bool) (old : List ℕ) (y : Meaning) → meaning b reuse old ≡ ok y → AllCalm (take (y .header .size) b) (y .header) (startsOf (y .body)) → meaningBy countedSum b reuse old ≡ ok y
-  -- "list which accepted blobs change": those with such a cell
+  -- "list which accepted blobs change": only those with such a cell
   pub meaning-cell : (b : List ℕ) (reuse : Bool) (old : List ℕ) (x y : Meaning) → meaningBy countedSum b reuse old ≡ ok x → meaning b reuse old ≡ ok y
       → (c : ℕ) → let h = y .header in let m = bytesOf (y .mask) in cellWord h m (x .body) c ≢ cellWord h m (y .body) c → CellChanged b y c
 
