@@ -305,6 +305,7 @@ wrong_words 'usage: bench/whole.sh' bench/whole.sh --rounds many
 wrong_words 'usage: bench/whole.sh' bench/whole.sh --plot "$ROOM/nosuch/x.svg"
 wrong_words 'usage: bench/mask.sh' bench/mask.sh nosuch
 wrong_words 'usage: bench/mask.sh' bench/mask.sh --rounds 3
+wrong_words 'usage: bench/sum.sh' bench/sum.sh nosuch
 wrong_words 'usage: bench/arm64.sh' bench/arm64.sh nosuch
 wrong_words 'usage: bench/arm64.sh' bench/arm64.sh one nosuch
 wrong_words 'usage: bench/measure.sh' bench/measure.sh nosuch
@@ -322,6 +323,10 @@ gives 'mask.sh without cargo' 2 missing bench/mask.sh
 says 'mask.sh without cargo' 'cargo is not there'
 gives 'mask.sh --help' 0 bench/mask.sh --help
 writes 'mask.sh --help' 'usage: bench/mask.sh'
+gives 'sum.sh without cc' 2 missing bench/sum.sh
+says 'sum.sh without cc' 'cc is not there'
+gives 'sum.sh --help' 0 bench/sum.sh --help
+writes 'sum.sh --help' 'usage: bench/sum.sh'
 gives 'profile.sh without cargo' 2 missing bench/profile.sh README.md
 says 'profile.sh without cargo' 'cargo is not there'
 gives 'native.sh without the kit' 2 missing bench/native.sh lerc_c

@@ -13,7 +13,7 @@ use lib.ListN.{length, getD, replicate, List·getD-eq-default}
 use Rattle.lerc_words.specs.Res.{Res, ok, fail, _>>=_, refuse, require, wordAt, each}
 use Rattle.lerc_words.proofs.Binding.{bind-is, require-is, ok-is, each-length}
 use Rattle.lerc_words.proofs.Each.{each-at, each-alike, each-not}
-use Rattle.lerc_numeric.specs.Numeric.{finite, infinite, sum, countedSum, scaled, lesser}
+use Rattle.lerc_numeric.specs.Numeric.{negative, finite, infinite, sum, countedSum, scaled, less, lesser}
 use Rattle.lerc_numeric.proofs.Infinity.{finite-not}
 use Rattle.lerc_samples.specs.Samples.{stored}
 use Rattle.lerc_samples.proofs.Words.{stored-last}
@@ -22,7 +22,7 @@ use Rattle.lerc_block.specs.Block.{Block, Offset, rawWords, levelBlock, stepVal
 use Rattle.lerc_overflow.specs.By.{Adding, stepBy, steppedBy, offsetBy, formedBy, blockBy}
 use Rattle.lerc_overflow.specs.Changes.{Operands, operandsAt, Calm, Overflows, BlockChanges}
 use Rattle.lerc_overflow.proofs.OverSum.{step-sum, block-sum}
-use Rattle.lerc_overflow.proofs.Steps.{is-finite, step-same, step-near}
+use Rattle.lerc_overflow.proofs.Steps.{is-finite, step-same, step-near, step-changed}
 use Rattle.lerc_overflow.proofs.Offsets.{Read, offset-read}
 
 -- ---- only a block with counts has a sum: what relates two of these relates the blocks
@@ -242,5 +242,37 @@ module _ (s : List ℕ) (at kind error : ℕ) where
         ) at e4 in
         rw (← z) (stepped-is s (o .next) kind error top (o .value) n h add b e5 c ec i (ltb-true i (length (c .values)) (require-is _ 8 el)))
 
+-- ---- a word changes wherever its step does
+
+-- the operands of a step: a finite offset, and the error times a count
+pub record FromCount (error : ℕ) (p : Operands) : Type 0 where
+  pub count : ℕ
+  pub product-is : p .product ≡ scaled error count
+  pub offset-finite : finite (p .offset) ≡ true
+
+pub operands-from : (s : List ℕ) (at kind error i : ℕ) (p : Operands) → operandsAt s at kind error i ≡ ok p → FromCount error p
+unfolding operandsAt
+operands-from s at kind error i p k =
+    let (flag, _, k) = bind-is (wordAt 1 s at) _ k in
+    let (_, _, k) = bind-is (require (eqb (flag % 4) 1) 8) _ k in
+    let (o, eo, k) = bind-is (finiteOffset s (at + 1) kind flag) _ k in
+    let (c, _, k) = bind-is (counts s (o .next)) _ k in
+    let (_, _, k) = bind-is (require (ltb i (length (c .values))) 8) _ k in
+    let z = ok-is k in
+    rw (← z) (record { count = getD (c .values) i 0; product-is = refl; offset-finite = offset-read s (at + 1) kind flag o eo .offset-finite })
+
+pub block-changed : (s : List ℕ) (at kind error top x n : ℕ) (a b : Block) → blockBy countedSum s at kind error top x n ≡ ok a → blockSays s at kind error top x n ≡ ok b
+    → 7 ≤ kind → negative error ≡ false → finite top ≡ true → (i : ℕ) (p : Operands) → operandsAt s at kind error i ≡ ok p → infinite (p .product) ≡ true
+    → less (countedSum (p .offset) (p .product)) top ≡ true → getD (a .words) i 0 ≢ getD (b .words) i 0
+unfolding stepBy
+block-changed s at kind error top x n a b ea eb h r t i p k f l z =
+    let from = operands-from s at kind error i p k in
+    let o = p .offset in
+    let q = from .count in
+    let same : (add : Adding) → lesser (add o (p .product)) top ≡ stepBy add error top o q = λ add. ap (λ (y : ℕ). lesser (add o y) top) (from .product-is) in
+    let old = word-is s at kind error top x n countedSum a h ea i p k ∙ same countedSum in
+    let new = word-is s at kind error top x n sum b h (block-sum s at kind error top x n ∙ eb) i p k ∙ same sum ∙ step-sum error top o q in
+    step-changed error top o q (record { offset-finite = from .offset-finite; error-right = r; top-finite = t }) (rw (from .product-is) at f) (rw (from .product-is) at l) (sym new ∙ sym z ∙ old)
+
 pub block-changes : BlockChanges
-block-changes = record { block-next = block-next; block-kind = block-kind; block-calm = block-calm; block-word = block-word; word-is = λ add s at kind error top x n. word-is s at kind error top x n add }
+block-changes = record { block-next = block-next; block-kind = block-kind; block-calm = block-calm; block-word = block-word; block-changed = block-changed; word-is = λ add s at kind error top x n. word-is s at kind error top x n add }

@@ -17,7 +17,7 @@ use Rattle.lerc_block.specs.Block.{Block, nextBlock}
 use Rattle.lerc_image.specs.Geometry.{tileOf, validInTile}
 use Rattle.lerc_image.specs.Blocks.{blockAt, Chain, chain}
 use Rattle.lerc_image.proofs.Chain.{fronted, chain-none, chain-front, chain-parts, chain-lengths}
-use Rattle.lerc_overflow.specs.By.{blockAtBy, chainBy}
+use Rattle.lerc_overflow.specs.By.{Adding, blockAtBy, chainBy}
 use Rattle.lerc_overflow.specs.Changes.{Calm, AllCalm}
 use Rattle.lerc_overflow.proofs.Blocks.{block-next, block-kind, block-calm}
 
@@ -141,3 +141,26 @@ module _ (s : List ℕ) (h : Header) (maxima m : List ℕ) where
           let r = later b c' d' ec ed j v in
           let u : suc n + j ≡ n + suc j = omega arith in
           rw (z) (record { below = omega (arith, r .below); old = r .old; new = r .new; old-is = rw (← u) (r .old-is); new-is = rw (← u) (r .new-is); differ = r .differ; here = r .here })
+
+  -- ---- what each block of a chain is, over any sum
+
+  pub record ByBlock (add : Adding) (n : ℕ) (c : Chain) (j : ℕ) : Type 0 where
+    pub block : Block
+    pub is : blockAtBy add s h maxima m (n + j) (getD (c .starts) j 0) ≡ ok block
+    pub words : getD (c .words) j [] ≡ block .words
+
+  pub by-block : (add : Adding) (f n at : ℕ) (c : Chain) → chainBy add s h maxima m f n at ≡ ok c → (j : ℕ) → j < f → ByBlock add n c j
+  unfolding chainBy
+  by-block add zero n at c e j l = absurd (omega arith)
+  by-block add (suc f) n at c e j l =
+      let (a, ea, e) = bind-is (blockAtBy add s h maxima m n at) _ e in
+      let (d, ed, e) = bind-is (chainBy add s h maxima m f (suc n) (a .next)) _ e in
+      let z : fronted at a d ≡ c = ok-is e in
+      rw (← z) (go j l a d ea (λ k b. by-block add f (suc n) (a .next) d ed k b))
+    where
+      go : (j : ℕ) → j < suc f → (a : Block) (d : Chain) → blockAtBy add s h maxima m n at ≡ ok a → ((k : ℕ) → k < f → ByBlock add (suc n) d k) → ByBlock add n (fronted at a d) j
+      go zero l a d ea later = record { block = a; is = rw (add-zero n) ea; words = refl }
+      go (suc j) l a d ea later =
+          let r = later j (omega arith) in
+          let u : suc n + j ≡ n + suc j = omega arith in
+          record { block = r .block; is = rw (← u) (r .is); words = r .words }

@@ -4,12 +4,13 @@ use mathlib.Core.Path.{_≡_, refl, sym, ap, _∙_}
 use mathlib.Core.Logic.{_≢_}
 use mathlib.Core.Bool.{Bool, true, false, not, cond, _&&_}
 use mathlib.Core.List.{List, []}
-use Prim.Native.Nat.{ℕ, _+_, _/_, _%_, _^_, _≤_, _<_}
+use Prim.Native.Nat.{ℕ, _+_, _*_, _/_, _%_, _^_, _≤_, _<_}
 use native.Mathlib.Nat.{zero-add, lt-of-lt-of-le}
 use native.Mathlib.Decide.{decLt}
 use native.Mathlib.Omega.{arith}
 use lib.Dec.{eqb, ltb, lit<}
 use lib.ListN.{length, getD, take, length-take}
+use Rattle.lerc_words.specs.declared.Refusal.{Refusal}
 use Rattle.lerc_words.specs.Res.{Res, ok, fail, _>>=_, require, wordAt}
 use Rattle.lerc_words.proofs.Binding.{bind-is, require-is, ok-is, and-is}
 use Rattle.lerc_words.proofs.Tables.{all-each}
@@ -22,27 +23,45 @@ use Rattle.lerc_header.specs.Shape.{Shaped, blockCount}
 use Rattle.lerc_header.proofs.Kept.{held-kept, held-shaped, held-size, held-kind, held-pair, header-held}
 use Rattle.lerc_validity.specs.Validity.{MaskInForce, bytesOf, maskSays}
 use Rattle.lerc_ranges.specs.declared.Ranges.{Ranges}
-use Rattle.lerc_ranges.specs.Ranges.{rangesSays, pairsRight}
+use Rattle.lerc_ranges.specs.Ranges.{rangesSays, pairsRight, constantWords}
 use Rattle.lerc_ranges.proofs.Judged.{RangesKept, ranges-kept}
 use Rattle.lerc_sweep.specs.Sweep.{Way, rawFrom, blocksFrom, swept}
-use Rattle.lerc_block.specs.Block.{Block, stepValue, finiteOffset, blockSays}
+use Rattle.lerc_block.specs.Block.{Block, rawWords, stepValue, finiteOffset, blockSays}
 use Rattle.lerc_image.specs.declared.Tile.{Tile}
 use Rattle.lerc_image.specs.Geometry.{tileOf, validInTile, blockOf}
 use Rattle.lerc_image.specs.Paint.{indexOf}
 use Rattle.lerc_image.specs.Blocks.{blockAt, Chain, allBlocks}
 use Rattle.lerc_image.proofs.Partition.{tile-depth}
+use Rattle.lerc_image.proofs.Chain.{chain-lengths}
 use Rattle.lerc.specs.Meaning.{Body, empty, blocks, Meaning, rawBody, blockBody, bodyFrom, constantBody, sweptBody, bodySays, endOf, startsOf, cellWord, meaningFrom, meaning}
 use Rattle.lerc_overflow.specs.By.{Adding, stepBy, blockBy, blockAtBy, allBlocksBy, blockBodyBy, bodyFromBy, sweptBodyBy, bodyBy, meaningFromBy, meaningBy}
-use Rattle.lerc_overflow.specs.Changes.{Stepping, farOffset, Operands, operandsAt, AllCalm, Overflows, Outline, outline, CellChanged, MeaningChanges}
-use Rattle.lerc_overflow.proofs.OverSum.{step-sum, block-sum, chain-sum}
+use Rattle.lerc_overflow.specs.Changes.{Stepping, farOffset, Operands, operandsAt, AllCalm, Overflows, Outline, outline, startOfCell, maximumOf, CellChanged, MeaningChanges}
+use Rattle.lerc_overflow.proofs.OverSum.{step-sum, block-sum, block-at-sum, chain-sum}
 use Rattle.lerc_overflow.proofs.Steps.{step-most, step-offset, step-below}
 use Rattle.lerc_overflow.proofs.Offsets.{offset-read}
-use Rattle.lerc_overflow.proofs.Blocks.{block-word, word-is}
-use Rattle.lerc_overflow.proofs.Chains.{Ends, ends, chain-ends, chain-kind, chain-still, at-kind, Differs, chain-word}
+use Rattle.lerc_overflow.proofs.Blocks.{FromCount, operands-from, block-word, block-changed, word-is}
+use Rattle.lerc_overflow.proofs.Chains.{Ends, ends, chain-ends, chain-kind, chain-still, at-kind, Differs, chain-word, ByBlock, by-block}
 
 -- ---- only a body in blocks has a sum: what relates two of these relates the bodies
 
-module _ (add : Adding) (P : Res Body → Res Body → Type 0) (same : (x : Res Body) → P x x) (s : List ℕ) (h : Header) (m : List ℕ) where
+abbrev NoBlocks : Res Body → Type 0
+NoBlocks x = (y : Body) → x ≡ ok y → startsOf y ≡ []
+
+fail-none : (q : Refusal) → NoBlocks (fail q)
+fail-none q y e = absurd (let z : _≡_ {A = ℕ} 0 1 = cc in omega arith)
+
+empty-none : NoBlocks (ok empty)
+empty-none y e = ap startsOf (sym (ok-is e))
+
+raw-none : (s : List ℕ) (h : Header) (at : ℕ) → NoBlocks (rawBody s h at)
+unfolding rawBody
+raw-none s h at y e = let (w, _, e) = bind-is (rawWords s at (h .kind) (h .valid * h .depth)) _ e in ap startsOf (sym (ok-is e))
+
+constant-none : (h : Header) (r : Ranges) → NoBlocks (constantBody h r)
+unfolding constantBody
+constant-none h r y e = let (w, _, e) = bind-is (constantWords (h .depth) (h .kind) (r .min)) _ e in ap startsOf (sym (ok-is e))
+
+module _ (add : Adding) (P : Res Body → Res Body → Type 0) (same : (x : Res Body) → NoBlocks x → P x x) (s : List ℕ) (h : Header) (m : List ℕ) where
   abbrev BlocksRelated : Type 0
   BlocksRelated = (r : Ranges) → rangesSays s h ≡ ok r → (at : ℕ) → P (blockBodyBy add s h (r .max) m at) (blockBody s h (r .max) m at)
 
@@ -51,23 +70,23 @@ module _ (add : Adding) (P : Res Body → Res Body → Type 0) (same : (x : Res 
   body-related related = none (eqb (h .valid) 0)
     where
       way : (r : Ranges) → rangesSays s h ≡ ok r → (x : Res Way) → P (x >>= bodyFromBy add s h r m) (x >>= bodyFrom s h r m)
-      way r e (fail q) = same (fail q)
-      way r e (ok (rawFrom at)) = same (rawBody s h at)
+      way r e (fail q) = same (fail q) (fail-none q)
+      way r e (ok (rawFrom at)) = same (rawBody s h at) (raw-none s h at)
       way r e (ok (blocksFrom at)) = related r e at
 
       constant : (r : Ranges) → rangesSays s h ≡ ok r → (t : Bool) → P (cond t (constantBody h r) (sweptBodyBy add s h r m)) (cond t (constantBody h r) (sweptBody s h r m))
-      constant r e true = same (constantBody h r)
+      constant r e true = same (constantBody h r) (constant-none h r)
       constant r e false = way r e (swept s (h .kind) (h .error) (r .at))
 
       ranged : (x : Res Ranges) → rangesSays s h ≡ x
           → P (x >>= λ r. cond (r .constant) (constantBody h r) (sweptBodyBy add s h r m)) (x >>= λ r. cond (r .constant) (constantBody h r) (sweptBody s h r m))
-      ranged (fail q) e = same (fail q)
+      ranged (fail q) e = same (fail q) (fail-none q)
       ranged (ok r) e = constant r e (r .constant)
 
       none : (t : Bool)
           → P (cond t (ok empty) (rangesSays s h >>= λ r. cond (r .constant) (constantBody h r) (sweptBodyBy add s h r m)))
           (cond t (ok empty) (rangesSays s h >>= λ r. cond (r .constant) (constantBody h r) (sweptBody s h r m)))
-      none true = same (ok empty)
+      none true = same (ok empty) empty-none
       none false = ranged (rangesSays s h) refl
 
 module _ (add : Adding) (P : Res Meaning → Res Meaning → Type 0) (same : (x : Res Meaning) → P x x) (b : List ℕ) (reuse : Bool) (old : List ℕ) where
@@ -91,7 +110,7 @@ unfolding meaningFromBy meaningFrom blockBodyBy blockBody
 meaning-sum b reuse old =
     meaning-related sum (λ x y. x ≡ y) (λ x. refl) b reuse old
     (λ h e k. let s = take (h .size) b in
-    rw (body-related sum (λ x y. x ≡ y) (λ x. refl) s h (bytesOf k) (λ r d at. rw (chain-sum s h (r .max) (bytesOf k) (blockCount (shapeOf h)) 0 at))))
+    rw (body-related sum (λ x y. x ≡ y) (λ x _. refl) s h (bytesOf k) (λ r d at. rw (chain-sum s h (r .max) (bytesOf k) (blockCount (shapeOf h)) 0 at))))
 
 -- ---- the outline
 
@@ -101,7 +120,7 @@ bodyEnds y = ok (record { starts = startsOf y; end = endOf y })
 pub body-ends : (s : List ℕ) (h : Header) (m : List ℕ) → (bodyBy countedSum s h m >>= bodyEnds) ≡ (bodySays s h m >>= bodyEnds)
 unfolding blockBodyBy blockBody
 body-ends s h m =
-    body-related countedSum (λ x y. (x >>= bodyEnds) ≡ (y >>= bodyEnds)) (λ x. refl) s h m
+    body-related countedSum (λ x y. (x >>= bodyEnds) ≡ (y >>= bodyEnds)) (λ x _. refl) s h m
     (λ r e at. told (allBlocksBy countedSum s h (r .max) m at) ∙ chain-ends s h (r .max) m (blockCount (shapeOf h)) 0 at ∙ sym (told (allBlocks s h (r .max) m at)))
   where
     told : (x : Res Chain) → ((x >>= λ c. ok (blocks c)) >>= bodyEnds) ≡ (x >>= ends)
@@ -135,14 +154,14 @@ meaning-kind b reuse old h e l =
     let z : h ≡ g = ok-is (sym e ∙ d) in
     let l2 : g .kind < 7 = rw (z) at l in
     let s = take (g .size) b in
-    rw (body-related countedSum (λ x y. x ≡ y) (λ x. refl) s g (bytesOf k) (λ r d at. rw (chain-kind s g (r .max) (bytesOf k) l2 (blockCount (shapeOf g)) 0 at))))
+    rw (body-related countedSum (λ x y. x ≡ y) (λ x _. refl) s g (bytesOf k) (λ r d at. rw (chain-kind s g (r .max) (bytesOf k) l2 (blockCount (shapeOf g)) 0 at))))
 
 -- ---- no infinite product
 
 pub body-calm : (s : List ℕ) (h : Header) (m : List ℕ) → ((y : Body) → bodySays s h m ≡ ok y → AllCalm s h (startsOf y)) → bodyBy countedSum s h m ≡ bodySays s h m
 unfolding blockBodyBy blockBody
 body-calm s h m =
-    body-related countedSum (λ x y. ((b : Body) → y ≡ ok b → AllCalm s h (startsOf b)) → x ≡ y) (λ x _. refl) s h m
+    body-related countedSum (λ x y. ((b : Body) → y ≡ ok b → AllCalm s h (startsOf b)) → x ≡ y) (λ x _ _. refl) s h m
     (λ r e at calm. rw (chain-still s h (r .max) m (blockCount (shapeOf h)) 0 at (λ c k. calm (blocks c) (rw (k)))))
 
 meaning-calm : (b : List ℕ) (reuse : Bool) (old : List ℕ) (y : Meaning) → meaning b reuse old ≡ ok y → AllCalm (take (y .header .size) b) (y .header) (startsOf (y .body)) → meaningBy countedSum b reuse old ≡ ok y
@@ -159,28 +178,11 @@ meaning-calm b reuse old y e calm =
 
 -- ---- a cell
 
--- the operands of a step: a finite offset, and the error times a count
-record FromCount (error : ℕ) (p : Operands) : Type 0 where
-  count : ℕ
-  product-is : p .product ≡ scaled error count
-  offset-finite : finite (p .offset) ≡ true
-
--- and the flag in front of them
+-- the flag in front of a step's operands
 record FromFlag (s : List ℕ) (at kind : ℕ) (p : Operands) : Type 0 where
   flag : ℕ
   is-flag : wordAt 1 s at ≡ ok flag
   wide : kind ≡ 7 → 2 ^ 2044 < mag (p .offset) → offsetKind kind (flag / 64) ≡ ok 7
-
-operands-from : (s : List ℕ) (at kind error i : ℕ) (p : Operands) → operandsAt s at kind error i ≡ ok p → FromCount error p
-unfolding operandsAt
-operands-from s at kind error i p k =
-    let (flag, _, k) = bind-is (wordAt 1 s at) _ k in
-    let (_, _, k) = bind-is (require (eqb (flag % 4) 1) 8) _ k in
-    let (o, eo, k) = bind-is (finiteOffset s (at + 1) kind flag) _ k in
-    let (c, _, k) = bind-is (counts s (o .next)) _ k in
-    let (_, _, k) = bind-is (require (ltb i (length (c .values))) 8) _ k in
-    let z = ok-is k in
-    rw (← z) (record { count = getD (c .values) i 0; product-is = refl; offset-finite = offset-read s (at + 1) kind flag o eo .offset-finite })
 
 operands-flag : (s : List ℕ) (at kind error i : ℕ) (p : Operands) → operandsAt s at kind error i ≡ ok p → FromFlag s at kind p
 unfolding operandsAt
@@ -205,7 +207,7 @@ body-cell : (s : List ℕ) (h : Header) (m : List ℕ) (x y : Body) → bodyBy c
 unfolding blockBodyBy blockBody cellWord
 body-cell s h m =
     body-related countedSum (λ x y. (a b : Body) → x ≡ ok a → y ≡ ok b → (c : ℕ) → cellWord h m a c ≢ cellWord h m b c → BlocksDiffer s h m b c)
-    (λ x a b e k c d. absurd (d (ap (λ (w : Body). cellWord h m w c) (ok-is (sym e ∙ k)))))
+    (λ x _ a b e k c d. absurd (d (ap (λ (w : Body). cellWord h m w c) (ok-is (sym e ∙ k)))))
     s h m
     (λ r e at a b ea eb c d.
     let (u, eu, ea) = bind-is (allBlocksBy countedSum s h (r .max) m at) _ ea in
@@ -220,6 +222,28 @@ body-cell s h m =
       is-blocks = sym zb;
       differs = chain-word s h (r .max) m (blockCount (shapeOf h)) 0 at u v eu ev (blockOf (shapeOf h) c) (indexOf (shapeOf h) m c) d2;
     })
+
+-- an accepted header's error, and a maximum of its ranges
+header-error : (b : List ℕ) (h : Header) → headerSays b ≡ ok h → negative (h .error) ≡ false
+unfolding errorRight
+header-error b h e = minus (negative (h .error)) (and-is (not (negative (h .error))) _ (held-kept h (length b) (header-held b h e .1) .right .error) .0)
+  where
+    minus : (t : Bool) → not t ≡ true → t ≡ false
+    minus true x = absurd (let z : _≡_ {A = ℕ} 0 1 = cc in omega arith)
+    minus false x = refl
+
+maximum-finite : (b : List ℕ) (h : Header) → headerSays b ≡ ok h → (r : Ranges) → rangesSays (take (h .size) b) h ≡ ok r → (n : ℕ) → n < blockCount (shapeOf h) → finite (getD (r .max) (tileOf (shapeOf h) n .d) 0) ≡ true
+unfolding pairsRight pairRight
+maximum-finite b h e r k n l =
+    let held = header-held b h e .1 in
+    let shaped = held-shaped h (length b) held in
+    let size = held-size h (length b) held in
+    let long : rangesAt h ≤ length (take (h .size) b) = omega (arith, size .0, size .1, length-take (h .size) b) in
+    let kept = ranges-kept (take (h .size) b) h (shaped .depth .1) (held-pair h (length b) held) long r k in
+    let d = tileOf (shapeOf h) n .d in
+    let pair = all-each (h .depth) d (λ i. pairRight (getD (r .min) i 0) (getD (r .max) i 0)) (kept .pairs) (tile-depth (shapeOf h) shaped n l) in
+    let low = finite (getD (r .min) d 0) in
+    and-is low (finite (getD (r .max) d 0)) (and-is (low && finite (getD (r .max) d 0)) _ pair .0) .1
 
 -- a blob's header, its ranges, and the block of a cell
 module _ (b : List ℕ) (h : Header) (e : headerSays b ≡ ok h) (m : List ℕ) (y : Body) (c : ℕ) (d : BlocksDiffer (take (h .size) b) h m y c) where
@@ -241,27 +265,11 @@ module _ (b : List ℕ) (h : Header) (e : headerSays b ≡ ok h) (m : List ℕ) 
   abbrev top : ℕ
   top = getD (d .ranges .max) (t .d) 0
 
-  shaped : Shaped (shapeOf h)
-  shaped = held-shaped h (length b) (header-held b h e .1)
-
   error-right : negative (h .error) ≡ false
-  unfolding errorRight
-  error-right = minus (negative (h .error)) (and-is (not (negative (h .error))) _ (held-kept h (length b) (header-held b h e .1) .right .error) .0)
-    where
-      minus : (t : Bool) → not t ≡ true → t ≡ false
-      minus true x = absurd (let z : _≡_ {A = ℕ} 0 1 = cc in omega arith)
-      minus false x = refl
+  error-right = header-error b h e
 
   top-finite : finite top ≡ true
-  unfolding pairsRight pairRight
-  top-finite =
-      let k = header-held b h e .1 in
-      let size = held-size h (length b) k in
-      let long : rangesAt h ≤ length s = omega (arith, size .0, size .1, length-take (h .size) b) in
-      let kept = ranges-kept s h (shaped .depth .1) (held-pair h (length b) k) long (d .ranges) (d .ranges-are) in
-      let pair = all-each (h .depth) (t .d) (λ i. pairRight (getD (d .ranges .min) i 0) (getD (d .ranges .max) i 0)) (kept .pairs) (tile-depth (shapeOf h) shaped n (d .differs .below)) in
-      let low = finite (getD (d .ranges .min) (t .d) 0) in
-      and-is low (finite top) (and-is (low && finite top) _ pair .0) .1
+  top-finite = maximum-finite b h e (d .ranges) (d .ranges-are) n (d .differs .below)
 
   -- its block over both sums
   old-is : blockBy countedSum s at (h .kind) (h .error) top (t .x) (validInTile (shapeOf h) m t) ≡ ok (d .differs .old)
@@ -361,5 +369,94 @@ meaning-cell b reuse old =
               is-maximum = is-maximum b h e (bytesOf k) q c x;
             }
 
+-- ---- and back: both bodies are in blocks
+
+record InBlocks (s : List ℕ) (h : Header) (m : List ℕ) (x y : Body) : Type 0 where
+  ranges : Ranges
+  ranges-are : rangesSays s h ≡ ok ranges
+  at : ℕ
+  old : Chain
+  new : Chain
+  old-is : allBlocksBy countedSum s h (ranges .max) m at ≡ ok old
+  new-is : allBlocks s h (ranges .max) m at ≡ ok new
+  old-body : x ≡ blocks old
+  new-body : y ≡ blocks new
+
+body-blocks : (s : List ℕ) (h : Header) (m : List ℕ) (x y : Body) → bodyBy countedSum s h m ≡ ok x → bodySays s h m ≡ ok y → (n : ℕ) → n < length (startsOf y) → InBlocks s h m x y
+unfolding blockBodyBy blockBody
+body-blocks s h m =
+    body-related countedSum (λ x y. (a b : Body) → x ≡ ok a → y ≡ ok b → (n : ℕ) → n < length (startsOf b) → InBlocks s h m a b)
+    (λ x none a b e k n l. absurd (let z : length (startsOf b) ≡ 0 = ap length (none b k) in omega arith))
+    s h m
+    (λ r e at a b ea eb n l.
+    let (u, eu, ea) = bind-is (allBlocksBy countedSum s h (r .max) m at) _ ea in
+    let (v, ev, eb) = bind-is (allBlocks s h (r .max) m at) _ eb in
+    record { ranges = r; ranges-are = e; at = at; old = u; new = v; old-is = eu; new-is = ev; old-body = sym (ok-is ea); new-body = sym (ok-is eb) })
+
+cell-changed : (b : List ℕ) (h : Header) → headerSays b ≡ ok h → (m : List ℕ) (x y : Body) → bodyBy countedSum (take (h .size) b) h m ≡ ok x → bodySays (take (h .size) b) h m ≡ ok y
+    → (c : ℕ) → blockOf (shapeOf h) c < length (startsOf y) → h .kind ≡ 7
+    → (o : Overflows (take (h .size) b) (getD (startsOf y) (blockOf (shapeOf h) c) 0) (h .kind) (h .error) (indexOf (shapeOf h) m c))
+    → (r : Ranges) → rangesSays (take (h .size) b) h ≡ ok r → less (countedSum (o .operands .offset) (o .operands .product)) (maximumOf h r c) ≡ true
+    → cellWord h m x c ≢ cellWord h m y c
+unfolding cellWord blockAtBy blockAt
+cell-changed b h e m x y ex ey c l seven o r k f =
+    let s = take (h .size) b in
+    let n = blockOf (shapeOf h) c in
+    let i = indexOf (shapeOf h) m c in
+    let w = body-blocks s h m x y ex ey n l in
+    let count = blockCount (shapeOf h) in
+    let starts : startsOf y ≡ w .new .starts = ap startsOf (w .new-body) in
+    let below : n < count = omega (arith, l, ap length starts, chain-lengths s h (w .ranges .max) m count 0 (w .at) (w .new) (w .new-is) .0) in
+    let same : ends (w .old) ≡ ends (w .new) = ap (λ (z : Res Chain). z >>= ends) (sym (w .old-is)) ∙ chain-ends s h (w .ranges .max) m count 0 (w .at) ∙ ap (λ (z : Res Chain). z >>= ends) (w .new-is) in
+    let p = by-block s h (w .ranges .max) m countedSum count 0 (w .at) (w .old) (w .old-is) n below in
+    let q = by-block s h (w .ranges .max) m sum count 0 (w .at) (w .new) (chain-sum s h (w .ranges .max) m count 0 (w .at) ∙ w .new-is) n below in
+    let at-same : getD (w .old .starts) n 0 ≡ getD (startsOf y) n 0 = ap (λ (z : Ends). getD (z .starts) n 0) (ok-is same) ∙ ap (λ (z : List ℕ). getD z n 0) (sym starts) in
+    let at = getD (startsOf y) n 0 in
+    let high = w .ranges .max in
+    let max-same : r .max ≡ high = ap (λ (z : Ranges). z .max) (sym (ok-is (sym (w .ranges-are) ∙ k))) in
+    let was : blockAtBy countedSum s h (r .max) m n at ≡ ok (p .block) =
+    ap (λ (z : List ℕ). blockAtBy countedSum s h z m n at) max-same
+    ∙ ap (λ (z : ℕ). blockAtBy countedSum s h high m n z) (sym at-same)
+    ∙ ap (λ (z : ℕ). blockAtBy countedSum s h high m z (getD (w .old .starts) n 0)) (sym (zero-add n))
+    ∙ p .is
+    in
+    let is : blockAt s h (r .max) m n at ≡ ok (q .block) =
+    sym (block-at-sum s h (r .max) m n at)
+    ∙ ap (λ (z : List ℕ). blockAtBy sum s h z m n at) max-same
+    ∙ ap (λ (z : List ℕ). blockAtBy sum s h high m n (getD z n 0)) starts
+    ∙ ap (λ (z : ℕ). blockAtBy sum s h high m z (getD (w .new .starts) n 0)) (sym (zero-add n))
+    ∙ q .is
+    in
+    let t = tileOf (shapeOf h) n in
+    let differ = block-changed s at (h .kind) (h .error) (maximumOf h r c) (t .x) (validInTile (shapeOf h) m t) (p .block) (q .block) was is (omega arith) (header-error b h e) (maximum-finite b h e r k n below) i (o .operands) (o .are) (o .infinite-product) f in
+    let old-word : cellWord h m x c ≡ getD (p .block .words) i 0 = ap (λ (z : Body). cellWord h m z c) (w .old-body) ∙ ap (λ (z : List ℕ). getD z i 0) (p .words) in
+    let new-word : cellWord h m y c ≡ getD (q .block .words) i 0 = ap (λ (z : Body). cellWord h m z c) (w .new-body) ∙ ap (λ (z : List ℕ). getD z i 0) (q .words) in
+    λ z. differ (sym old-word ∙ z ∙ new-word)
+
+meaning-changed : (b : List ℕ) (reuse : Bool) (old : List ℕ) (x y : Meaning) → meaningBy countedSum b reuse old ≡ ok x → meaning b reuse old ≡ ok y
+    → (c : ℕ) → blockOf (shapeOf (y .header)) c < length (startsOf (y .body)) → y .header .kind ≡ 7
+    → (o : Overflows (take (y .header .size) b) (startOfCell y c) (y .header .kind) (y .header .error) (indexOf (shapeOf (y .header)) (bytesOf (y .mask)) c))
+    → (r : Ranges) → rangesSays (take (y .header .size) b) (y .header) ≡ ok r
+    → less (countedSum (o .operands .offset) (o .operands .product)) (maximumOf (y .header) r c) ≡ true
+    → cellWord (y .header) (bytesOf (y .mask)) (x .body) c ≢ cellWord (y .header) (bytesOf (y .mask)) (y .body) c
+unfolding meaningBy meaning meaningFromBy meaningFrom
+meaning-changed b reuse old x y ex ey =
+    let (h, eh, ex) = bind-is (headerSays b) _ ex in
+    let (k, ek, ex) = bind-is (maskSays (take (h .size) b) h reuse old) _ ex in
+    let (p, ep, ex) = bind-is (bodyBy countedSum (take (h .size) b) h (bytesOf k)) _ ex in
+    let masked : (maskSays (take (h .size) b) h reuse old >>= meaningFrom b h) ≡ ok y = rw (eh) at ey in
+    let read : meaningFrom b h k ≡ ok y = rw (ek) at masked in
+    let (q, eq, ey) = bind-is (bodySays (take (h .size) b) h (bytesOf k)) _ read in
+    given h eh k p q ep eq (ok-is ex) (ok-is ey)
+  where
+    given : (h : Header) → headerSays b ≡ ok h → (k : MaskInForce) (p q : Body) → bodyBy countedSum (take (h .size) b) h (bytesOf k) ≡ ok p → bodySays (take (h .size) b) h (bytesOf k) ≡ ok q
+        → record { header = h; mask = k; body = p } ≡ x → record { header = h; mask = k; body = q } ≡ y
+        → (c : ℕ) → blockOf (shapeOf (y .header)) c < length (startsOf (y .body)) → y .header .kind ≡ 7
+        → (o : Overflows (take (y .header .size) b) (startOfCell y c) (y .header .kind) (y .header .error) (indexOf (shapeOf (y .header)) (bytesOf (y .mask)) c))
+        → (r : Ranges) → rangesSays (take (y .header .size) b) (y .header) ≡ ok r
+        → less (countedSum (o .operands .offset) (o .operands .product)) (maximumOf (y .header) r c) ≡ true
+        → cellWord (y .header) (bytesOf (y .mask)) (x .body) c ≢ cellWord (y .header) (bytesOf (y .mask)) (y .body) c
+    given h eh k p q ep eq zx zy = rw (← zx, ← zy) (cell-changed b h eh (bytesOf k) p q ep eq)
+
 pub meaning-changes : MeaningChanges
-meaning-changes = record { meaning-outline = meaning-outline; meaning-kind = meaning-kind; meaning-calm = meaning-calm; meaning-cell = meaning-cell }
+meaning-changes = record { meaning-outline = meaning-outline; meaning-kind = meaning-kind; meaning-calm = meaning-calm; meaning-changed = meaning-changed; meaning-cell = meaning-cell }

@@ -99,7 +99,11 @@ pub record BlockChanges : Type 0 where
   -- a word changes only where its own product is
   pub block-word : (s : List ℕ) (at kind error top x n : ℕ) (a b : Block) → blockBy countedSum s at kind error top x n ≡ ok a → blockSays s at kind error top x n ≡ ok b
       → (i : ℕ) → getD (a .words) i 0 ≢ getD (b .words) i 0 → Overflows s at kind error i
-  -- and of kind 7 a word is its step, over either sum
+  -- and of kind 7 wherever it is, if the offset and 2^1024 add to less than the maximum
+  pub block-changed : (s : List ℕ) (at kind error top x n : ℕ) (a b : Block) → blockBy countedSum s at kind error top x n ≡ ok a → blockSays s at kind error top x n ≡ ok b
+      → 7 ≤ kind → negative error ≡ false → finite top ≡ true → (i : ℕ) (p : Operands) → operandsAt s at kind error i ≡ ok p → infinite (p .product) ≡ true
+      → less (countedSum (p .offset) (p .product)) top ≡ true → getD (a .words) i 0 ≢ getD (b .words) i 0
+  -- of which a word is its step, over either sum
   pub word-is : (add : ℕ → ℕ → ℕ) (s : List ℕ) (at kind error top x n : ℕ) (b : Block) → 7 ≤ kind → blockBy add s at kind error top x n ≡ ok b
       → (i : ℕ) (p : Operands) → operandsAt s at kind error i ≡ ok p → getD (b .words) i 0 ≡ lesser (add (p .offset) (p .product)) top
 
@@ -144,6 +148,13 @@ pub record MeaningChanges : Type 0 where
   -- "list which accepted blobs change": only those with such a cell
   pub meaning-cell : (b : List ℕ) (reuse : Bool) (old : List ℕ) (x y : Meaning) → meaningBy countedSum b reuse old ≡ ok x → meaning b reuse old ≡ ok y
       → (c : ℕ) → let h = y .header in let m = bytesOf (y .mask) in cellWord h m (x .body) c ≢ cellWord h m (y .body) c → CellChanged b y c
+  -- and with such a product it changes
+  pub meaning-changed : (b : List ℕ) (reuse : Bool) (old : List ℕ) (x y : Meaning) → meaningBy countedSum b reuse old ≡ ok x → meaning b reuse old ≡ ok y
+      → (c : ℕ) → blockOf (shapeOf (y .header)) c < length (startsOf (y .body)) → y .header .kind ≡ 7
+      → (o : Overflows (take (y .header .size) b) (startOfCell y c) (y .header .kind) (y .header .error) (indexOf (shapeOf (y .header)) (bytesOf (y .mask)) c))
+      → (r : Ranges) → rangesSays (take (y .header .size) b) (y .header) ≡ ok r
+      → less (countedSum (o .operands .offset) (o .operands .product)) (maximumOf (y .header) r c) ≡ true
+      → cellWord (y .header) (bytesOf (y .mask)) (x .body) c ≢ cellWord (y .header) (bytesOf (y .mask)) (y .body) c
 
 -- ---- all of it
 
