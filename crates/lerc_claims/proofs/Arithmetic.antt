@@ -5,7 +5,7 @@ use mathlib.Core.Path.{_≡_, _∙_, sym, refl}
 use mathlib.Core.Bool.{true, false, cond}
 use native.Mathlib.Omega.{arith}
 use native.Mathlib.Nat.{le-refl, le-div-iff-mul-le, div-lt-iff-lt-mul}
-use borrow.Author.Tests.{ltb-true, ne-eqb}
+use borrow.Author.Tests.{ne-eqb}
 use lib.Dec.{lit<}
 use lib.Ieee.{size}
 use Rattle.lerc_words.specs.Res.{ok}
@@ -19,10 +19,8 @@ use Rattle.lerc_numeric.proofs.Monotone.{less-sides, scaled-sign, sum-mono-righ
 use Rattle.lerc_numeric.proofs.NearestSum.{sum-nearest, sum-even, sum-own}
 use Rattle.lerc_numeric.proofs.Fits.{cut-integer, held-cut, cut-held}
 use Rattle.lerc_numeric.proofs.RoundTrip.{narrow-wide}
+use Rattle.lerc_overflow.proofs.Steps.{is-finite}
 use Rattle.lerc_claims.specs.Arithmetic.{Rounding, Sums, NearestSums, InfiniteSums, Order, Conversions, Computes, Arithmetic}
-
-is-finite : (w : ℕ) → finite w ≡ true → field w < 2047
-is-finite w e = ltb-true (field w) 2047 e
 
 sum-infinite : (a b : ℕ) → infinite a ≡ true → finite b ≡ true → (sum a b ≡ a) × (sum b a ≡ a)
 sum-infinite a b i f = let x = absorbs-both a b i (is-finite b f) in (sum-left a b x, sum-right b a x)

@@ -29,7 +29,8 @@ use Rattle.lerc.specs.Meaning as body
 use Rattle.lerc.proofs.Bodies.{image-empty}
 use Rattle.lerc_numeric.specs.Numeric.{countedSum}
 use Rattle.lerc_overflow.specs.By.{allBlocksBy, blockBodyBy, bodyFromBy, sweptBodyBy, bodyBy}
-use Rattle.lerc_overflow.proofs.Meanings.{bodyEnds, body-ends, body-calm}
+use Rattle.lerc_overflow.specs.Changes.{bodyOutline}
+use Rattle.lerc_overflow.proofs.Meanings.{body-outline, body-calm}
 use Rattle.lerc_contracts.specs.Outside.{said, is-some, onSome, lengthMax}
 use Rattle.lerc_contracts.specs.Planes.{constants}
 use Rattle.lerc_contracts.specs.Block.{ResultModel}
@@ -140,11 +141,11 @@ module _ (s : List ℕ) (y : Bytes s) (few : length s ≤ lengthMax) (h : Header
   pub pixels-is : ReadAlike s h → PixelsIs s h mask initial huffman
   pixels-is a = record {
     pixels-counted = pixels-counted a;
-    pixels-ok = rw (pixels-counted a) (accepted (bodySays s h mask) (bodyBy countedSum s h mask) (body-ends s h mask));
+    pixels-ok = rw (pixels-counted a) (accepted (bodySays s h mask) (bodyBy countedSum s h mask) (body-outline s h mask));
     pixels-same = λ calm. pixels-counted a ∙ ap (said (bodied h mask initial)) (body-calm s h mask calm);
   }
     where
-      accepted : (ours theirs : Res body.Body) → (theirs >>= bodyEnds) ≡ (ours >>= bodyEnds) → accepts ours ≡ is-some (said (bodied h mask initial) theirs)
+      accepted : (ours theirs : Res body.Body) → (theirs >>= λ y. ok (bodyOutline y)) ≡ (ours >>= λ y. ok (bodyOutline y)) → accepts ours ≡ is-some (said (bodied h mask initial) theirs)
       accepted (ok x) (ok y) e = refl
       accepted (fail q) (fail r) e = refl
       accepted (ok x) (fail r) e = absurd (let z : _≡_ {A = ℕ} 0 1 = cc in omega arith)

@@ -166,6 +166,38 @@ module _ (s : List ℕ) (at kind error : ℕ) where
   unfolding operandsAt
   operands-are flag o e f d c q i l = rw (e, eq-eqb (flag % 4) 1 f, d, q, lt-ltb i (length (c .values)) l)
 
+  -- and back: the flag, the offset and the counts behind the operands
+  pub record Stands (i : ℕ) (p : Operands) : Type 0 where
+    pub flag : ℕ
+    pub offset : Offset
+    pub read : Counts
+    pub is-flag : wordAt 1 s at ≡ ok flag
+    pub stepped : flag % 4 ≡ 1
+    pub offset-is : finiteOffset s (at + 1) kind flag ≡ ok offset
+    pub counts-are : counts s (offset .next) ≡ ok read
+    pub within : i < length (read .values)
+    pub are : p ≡ record { offset = offset .value; product = scaled error (getD (read .values) i 0) }
+
+  pub operands-stand : (i : ℕ) (p : Operands) → operandsAt s at kind error i ≡ ok p → Stands i p
+  unfolding operandsAt
+  operands-stand i p k =
+      let (flag, ef, k) = bind-is (wordAt 1 s at) _ k in
+      let (_, e1, k) = bind-is (require (eqb (flag % 4) 1) 8) _ k in
+      let (o, eo, k) = bind-is (finiteOffset s (at + 1) kind flag) _ k in
+      let (c, ec, k) = bind-is (counts s (o .next)) _ k in
+      let (_, el, k) = bind-is (require (ltb i (length (c .values))) 8) _ k in
+      record {
+        flag = flag;
+        offset = o;
+        read = c;
+        is-flag = ef;
+        stepped = eqb-true (flag % 4) 1 (require-is _ 8 e1);
+        offset-is = eo;
+        counts-are = ec;
+        within = ltb-true i (length (c .values)) (require-is _ 8 el);
+        are = sym (ok-is k);
+      }
+
   module _ (top x n : ℕ) where
     pub block-kind : kind < 7 → blockBy countedSum s at kind error top x n ≡ blockSays s at kind error top x n
     block-kind l =
@@ -220,27 +252,25 @@ module _ (s : List ℕ) (at kind error : ℕ) where
             go false i = absurd (d (sym (step-same error top offset q (finite-not offset (is-finite offset f)) i) ∙ sym (step-sum error top offset q)))
 
     pub word-is : (add : Adding) (b : Block) → 7 ≤ kind → blockBy add s at kind error top x n ≡ ok b → (i : ℕ) (p : Operands) → operandsAt s at kind error i ≡ ok p → getD (b .words) i 0 ≡ lesser (add (p .offset) (p .product)) top
-    unfolding operandsAt blockBy flagAt formedBy offsetBy stepBy
+    unfolding blockBy flagAt formedBy offsetBy stepBy
     word-is add b h e i p k =
-        let (flag, ef, k) = bind-is (wordAt 1 s at) _ k in
-        let (_, e1, k) = bind-is (require (eqb (flag % 4) 1) 8) _ k in
-        let (o, eo, k) = bind-is (finiteOffset s (at + 1) kind flag) _ k in
-        let (c, ec, k) = bind-is (counts s (o .next)) _ k in
-        let (_, el, k) = bind-is (require (ltb i (length (c .values))) 8) _ k in
-        let one = eqb-true (flag % 4) 1 (require-is _ 8 e1) in
-        let z = ok-is k in
+        let st = operands-stand i p k in
+        let flag = st .flag in
+        let o = st .offset in
+        let one = st .stepped in
         let (flag', e2, e) = bind-is (flagAt s at x) _ e in
         let (flag'', e3, e2) = bind-is (wordAt 1 s at) _ e2 in
         let (_, _, e2) = bind-is (require (eqb (flag'' / 4 % 16) (x / 8 % 16)) 8) _ e2 in
-        let same : flag' ≡ flag = sym (ok-is e2) ∙ ok-is (sym e3 ∙ ef) in
-        let e4 : formedBy add s (at + 1) kind error top flag n ≡ ok b = rw (same) at e in
-        let e5 : steppedBy add s (o .next) kind error top (o .value) n ≡ ok b = rw (
-          ne-eqb (flag % 4) 0 (λ y. absurd (omega arith)),
-          ne-eqb (flag % 4) 2 (λ y. absurd (omega arith)),
-          eo,
-          ne-eqb (flag % 4) 3 (λ y. absurd (omega arith)),
-        ) at e4 in
-        rw (← z) (stepped-is s (o .next) kind error top (o .value) n h add b e5 c ec i (ltb-true i (length (c .values)) (require-is _ 8 el)))
+        let same : flag' ≡ flag = sym (ok-is e2) ∙ ok-is (sym e3 ∙ st .is-flag) in
+        let formed : formedBy add s (at + 1) kind error top flag n ≡ ok b = rw (same) at e in
+        let stepped : steppedBy add s (o .next) kind error top (o .value) n ≡ ok b = rw (
+          ne-eqb (flag % 4) 0 (λ y. absurd (omega (arith, one))),
+          ne-eqb (flag % 4) 2 (λ y. absurd (omega (arith, one))),
+          st .offset-is,
+          ne-eqb (flag % 4) 3 (λ y. absurd (omega (arith, one))),
+        ) at formed in
+        stepped-is s (o .next) kind error top (o .value) n h add b stepped (st .read) (st .counts-are) i (st .within)
+        ∙ ap (λ (w : Operands). lesser (add (w .offset) (w .product)) top) (sym (st .are))
 
 -- ---- a word changes wherever its step does
 
@@ -251,15 +281,13 @@ pub record FromCount (error : ℕ) (p : Operands) : Type 0 where
   pub offset-finite : finite (p .offset) ≡ true
 
 pub operands-from : (s : List ℕ) (at kind error i : ℕ) (p : Operands) → operandsAt s at kind error i ≡ ok p → FromCount error p
-unfolding operandsAt
 operands-from s at kind error i p k =
-    let (flag, _, k) = bind-is (wordAt 1 s at) _ k in
-    let (_, _, k) = bind-is (require (eqb (flag % 4) 1) 8) _ k in
-    let (o, eo, k) = bind-is (finiteOffset s (at + 1) kind flag) _ k in
-    let (c, _, k) = bind-is (counts s (o .next)) _ k in
-    let (_, _, k) = bind-is (require (ltb i (length (c .values))) 8) _ k in
-    let z = ok-is k in
-    rw (← z) (record { count = getD (c .values) i 0; product-is = refl; offset-finite = offset-read s (at + 1) kind flag o eo .offset-finite })
+    let st = operands-stand s at kind error i p k in
+    record {
+      count = getD (st .read .values) i 0;
+      product-is = ap (λ (x : Operands). x .product) (st .are);
+      offset-finite = ap (λ (x : Operands). finite (x .offset)) (st .are) ∙ offset-read s (at + 1) kind (st .flag) (st .offset) (st .offset-is) .offset-finite;
+    }
 
 pub block-changed : (s : List ℕ) (at kind error top x n : ℕ) (a b : Block) → blockBy countedSum s at kind error top x n ≡ ok a → blockSays s at kind error top x n ≡ ok b
     → 7 ≤ kind → negative error ≡ false → finite top ≡ true → (i : ℕ) (p : Operands) → operandsAt s at kind error i ≡ ok p → infinite (p .product) ≡ true

@@ -5,7 +5,7 @@ use mathlib.Core.Logic.{_≢_}
 use mathlib.Core.Bool.{Bool, true, false, not, cond, _&&_}
 use mathlib.Core.List.{List, []}
 use Prim.Native.Nat.{ℕ, _+_, _*_, _/_, _%_, _^_, _≤_, _<_}
-use native.Mathlib.Nat.{zero-add, lt-of-lt-of-le}
+use native.Mathlib.Nat.{zero-add, lt-of-lt-of-le, le-of-eq}
 use native.Mathlib.Decide.{decLt}
 use native.Mathlib.Omega.{arith}
 use lib.Dec.{eqb, ltb, lit<}
@@ -35,11 +35,11 @@ use Rattle.lerc_image.proofs.Partition.{tile-depth}
 use Rattle.lerc_image.proofs.Chain.{chain-lengths}
 use Rattle.lerc.specs.Meaning.{Body, empty, blocks, Meaning, rawBody, blockBody, bodyFrom, constantBody, sweptBody, bodySays, endOf, startsOf, cellWord, meaningFrom, meaning}
 use Rattle.lerc_overflow.specs.By.{Adding, stepBy, blockBy, blockAtBy, allBlocksBy, blockBodyBy, bodyFromBy, sweptBodyBy, bodyBy, meaningFromBy, meaningBy}
-use Rattle.lerc_overflow.specs.Changes.{Stepping, farOffset, Operands, operandsAt, AllCalm, Overflows, Outline, outline, startOfCell, maximumOf, CellChanged, MeaningChanges}
+use Rattle.lerc_overflow.specs.Changes.{Stepping, farOffset, Operands, operandsAt, AllCalm, Overflows, bodyOutline, outline, maximumOf, CellChanged, ChangesThere, MeaningChanges}
 use Rattle.lerc_overflow.proofs.OverSum.{step-sum, block-sum, block-at-sum, chain-sum}
 use Rattle.lerc_overflow.proofs.Steps.{step-most, step-offset, step-below}
 use Rattle.lerc_overflow.proofs.Offsets.{offset-read}
-use Rattle.lerc_overflow.proofs.Blocks.{FromCount, operands-from, block-word, block-changed, word-is}
+use Rattle.lerc_overflow.proofs.Blocks.{operands-stand, FromCount, operands-from, block-word, block-changed, word-is}
 use Rattle.lerc_overflow.proofs.Chains.{Ends, ends, chain-ends, chain-kind, chain-still, at-kind, Differs, chain-word, ByBlock, by-block}
 
 -- ---- only a body in blocks has a sum: what relates two of these relates the bodies
@@ -114,16 +114,16 @@ meaning-sum b reuse old =
 
 -- ---- the outline
 
-abbrev pub bodyEnds : Body → Res Ends
-bodyEnds y = ok (record { starts = startsOf y; end = endOf y })
-
-pub body-ends : (s : List ℕ) (h : Header) (m : List ℕ) → (bodyBy countedSum s h m >>= bodyEnds) ≡ (bodySays s h m >>= bodyEnds)
+pub body-outline : (s : List ℕ) (h : Header) (m : List ℕ) → (bodyBy countedSum s h m >>= λ y. ok (bodyOutline y)) ≡ (bodySays s h m >>= λ y. ok (bodyOutline y))
 unfolding blockBodyBy blockBody
-body-ends s h m =
-    body-related countedSum (λ x y. (x >>= bodyEnds) ≡ (y >>= bodyEnds)) (λ x _. refl) s h m
-    (λ r e at. told (allBlocksBy countedSum s h (r .max) m at) ∙ chain-ends s h (r .max) m (blockCount (shapeOf h)) 0 at ∙ sym (told (allBlocks s h (r .max) m at)))
+body-outline s h m =
+    body-related countedSum (λ x y. (x >>= λ b. ok (bodyOutline b)) ≡ (y >>= λ b. ok (bodyOutline b))) (λ x _. refl) s h m
+    (λ r e at. told (allBlocksBy countedSum s h (r .max) m at) ∙ ap (λ (x : Res Ends). x >>= without) (chain-ends s h (r .max) m (blockCount (shapeOf h)) 0 at) ∙ sym (told (allBlocks s h (r .max) m at)))
   where
-    told : (x : Res Chain) → ((x >>= λ c. ok (blocks c)) >>= bodyEnds) ≡ (x >>= ends)
+    without : Ends → Res Body
+    without k = ok (blocks (record { starts = k .starts; words = []; end = k .end }))
+
+    told : (x : Res Chain) → ((x >>= λ c. ok (blocks c)) >>= λ b. ok (bodyOutline b)) ≡ ((x >>= ends) >>= without)
     told (ok c) = refl
     told (fail q) = refl
 
@@ -132,15 +132,12 @@ unfolding meaningFromBy meaningFrom
 meaning-outline b reuse old =
     meaning-related countedSum (λ x y. (x >>= outline) ≡ (y >>= outline)) (λ x. refl) b reuse old
     (λ h e k. let s = take (h .size) b in
-    told h k (bodyBy countedSum s h (bytesOf k)) ∙ ap (λ (x : Res Ends). x >>= λ y. ok (record { header = h; mask = k; starts = y .starts; end = y .end })) (body-ends s h (bytesOf k)) ∙ sym (told h k (bodySays s h (bytesOf k))))
+    told h k (bodyBy countedSum s h (bytesOf k)) ∙ ap (λ (x : Res Body). x >>= made h k) (body-outline s h (bytesOf k)) ∙ sym (told h k (bodySays s h (bytesOf k))))
   where
-    whole : Header → MaskInForce → Ends → Res Outline
-    whole h k y = ok (record { header = h; mask = k; starts = y .starts; end = y .end })
-
     made : Header → MaskInForce → Body → Res Meaning
     made h k y = ok (record { header = h; mask = k; body = y })
 
-    told : (h : Header) (k : MaskInForce) (x : Res Body) → ((x >>= made h k) >>= outline) ≡ ((x >>= bodyEnds) >>= whole h k)
+    told : (h : Header) (k : MaskInForce) (x : Res Body) → ((x >>= made h k) >>= outline) ≡ ((x >>= λ y. ok (bodyOutline y)) >>= made h k)
     told h k (ok y) = refl
     told h k (fail q) = refl
 
@@ -177,23 +174,6 @@ meaning-calm b reuse old y e calm =
     ∙ e
 
 -- ---- a cell
-
--- the flag in front of a step's operands
-record FromFlag (s : List ℕ) (at kind : ℕ) (p : Operands) : Type 0 where
-  flag : ℕ
-  is-flag : wordAt 1 s at ≡ ok flag
-  wide : kind ≡ 7 → 2 ^ 2044 < mag (p .offset) → offsetKind kind (flag / 64) ≡ ok 7
-
-operands-flag : (s : List ℕ) (at kind error i : ℕ) (p : Operands) → operandsAt s at kind error i ≡ ok p → FromFlag s at kind p
-unfolding operandsAt
-operands-flag s at kind error i p k =
-    let (flag, ef, k) = bind-is (wordAt 1 s at) _ k in
-    let (_, _, k) = bind-is (require (eqb (flag % 4) 1) 8) _ k in
-    let (o, eo, k) = bind-is (finiteOffset s (at + 1) kind flag) _ k in
-    let (c, _, k) = bind-is (counts s (o .next)) _ k in
-    let (_, _, k) = bind-is (require (ltb i (length (c .values))) 8) _ k in
-    let z = ok-is k in
-    rw (← z) (record { flag = flag; is-flag = ef; wide = offset-read s (at + 1) kind flag o eo .wide })
 
 -- a cell of two bodies that differ: both are in blocks, and so do its block's words
 record BlocksDiffer (s : List ℕ) (h : Header) (m : List ℕ) (y : Body) (c : ℕ) : Type 0 where
@@ -324,11 +304,12 @@ module _ (b : List ℕ) (h : Header) (e : headerSays b ≡ ok h) (m : List ℕ) 
 
   as-binary64 : (flag : ℕ) → wordAt 1 s at ≡ ok flag → offsetKind 7 (flag / 64) ≡ ok 7
   as-binary64 flag k =
-      let r = operands-flag s at (h .kind) (h .error) i (overflows .operands) (overflows .are) in
-      let z : r .flag ≡ flag = ok-is (sym (r .is-flag) ∙ k) in
+      let st = operands-stand s at (h .kind) (h .error) i (overflows .operands) (overflows .are) in
+      let z : st .flag ≡ flag = ok-is (sym (st .is-flag) ∙ k) in
+      let far : 2 ^ 2044 < mag (st .offset .value) = lt-of-lt-of-le (lt-of-lt-of-le (lit< tt) (far-offset .1)) (le-of-eq (ap (λ (x : Operands). mag (x .offset)) (st .are))) in
       ap (λ (x : ℕ). offsetKind x (flag / 64)) (sym is-seven)
       ∙ ap (λ (x : ℕ). offsetKind (h .kind) (x / 64)) (sym z)
-      ∙ r .wide is-seven (lt-of-lt-of-le (lit< tt) (far-offset .1))
+      ∙ offset-read s (at + 1) (h .kind) (st .flag) (st .offset) (st .offset-is) .wide is-seven far
 
   is-maximum : cellWord h m y c ≡ top
   unfolding cellWord
@@ -433,12 +414,7 @@ cell-changed b h e m x y ex ey c l seven o r k f =
     let new-word : cellWord h m y c ≡ getD (q .block .words) i 0 = ap (λ (z : Body). cellWord h m z c) (w .new-body) ∙ ap (λ (z : List ℕ). getD z i 0) (q .words) in
     λ z. differ (sym old-word ∙ z ∙ new-word)
 
-meaning-changed : (b : List ℕ) (reuse : Bool) (old : List ℕ) (x y : Meaning) → meaningBy countedSum b reuse old ≡ ok x → meaning b reuse old ≡ ok y
-    → (c : ℕ) → blockOf (shapeOf (y .header)) c < length (startsOf (y .body)) → y .header .kind ≡ 7
-    → (o : Overflows (take (y .header .size) b) (startOfCell y c) (y .header .kind) (y .header .error) (indexOf (shapeOf (y .header)) (bytesOf (y .mask)) c))
-    → (r : Ranges) → rangesSays (take (y .header .size) b) (y .header) ≡ ok r
-    → less (countedSum (o .operands .offset) (o .operands .product)) (maximumOf (y .header) r c) ≡ true
-    → cellWord (y .header) (bytesOf (y .mask)) (x .body) c ≢ cellWord (y .header) (bytesOf (y .mask)) (y .body) c
+meaning-changed : (b : List ℕ) (reuse : Bool) (old : List ℕ) (x y : Meaning) → meaningBy countedSum b reuse old ≡ ok x → meaning b reuse old ≡ ok y → ChangesThere b x y
 unfolding meaningBy meaning meaningFromBy meaningFrom
 meaning-changed b reuse old x y ex ey =
     let (h, eh, ex) = bind-is (headerSays b) _ ex in
@@ -450,12 +426,7 @@ meaning-changed b reuse old x y ex ey =
     given h eh k p q ep eq (ok-is ex) (ok-is ey)
   where
     given : (h : Header) → headerSays b ≡ ok h → (k : MaskInForce) (p q : Body) → bodyBy countedSum (take (h .size) b) h (bytesOf k) ≡ ok p → bodySays (take (h .size) b) h (bytesOf k) ≡ ok q
-        → record { header = h; mask = k; body = p } ≡ x → record { header = h; mask = k; body = q } ≡ y
-        → (c : ℕ) → blockOf (shapeOf (y .header)) c < length (startsOf (y .body)) → y .header .kind ≡ 7
-        → (o : Overflows (take (y .header .size) b) (startOfCell y c) (y .header .kind) (y .header .error) (indexOf (shapeOf (y .header)) (bytesOf (y .mask)) c))
-        → (r : Ranges) → rangesSays (take (y .header .size) b) (y .header) ≡ ok r
-        → less (countedSum (o .operands .offset) (o .operands .product)) (maximumOf (y .header) r c) ≡ true
-        → cellWord (y .header) (bytesOf (y .mask)) (x .body) c ≢ cellWord (y .header) (bytesOf (y .mask)) (y .body) c
+        → record { header = h; mask = k; body = p } ≡ x → record { header = h; mask = k; body = q } ≡ y → ChangesThere b x y
     given h eh k p q ep eq zx zy = rw (← zx, ← zy) (cell-changed b h eh (bytesOf k) p q ep eq)
 
 pub meaning-changes : MeaningChanges

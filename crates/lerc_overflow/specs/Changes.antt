@@ -5,7 +5,7 @@ use Prim.Native.Nat.{ℕ, _+_, _*_, _/_, _%_, _^_, _≤_, _<_}
 use mathlib.Core.Path.{_≡_}
 use mathlib.Core.Logic.{_≢_}
 use mathlib.Core.Bool.{Bool, true, false}
-use mathlib.Core.List.{List}
+use mathlib.Core.List.{List, []}
 use lib.ListN.{length, getD, take}
 use lib.Dec.{ltb, eqb}
 use Rattle.lerc_words.specs.Res.{Res, ok, _>>=_, require, wordAt}
@@ -15,14 +15,14 @@ use Rattle.lerc_samples.specs.Samples.{offsetKind}
 use Rattle.lerc_bits.specs.Bits.{counts}
 use Rattle.lerc_header.specs.declared.Header.{Header}
 use Rattle.lerc_header.specs.Header.{shapeOf, headerSays}
-use Rattle.lerc_validity.specs.Validity.{MaskInForce, bytesOf}
+use Rattle.lerc_validity.specs.Validity.{bytesOf}
 use Rattle.lerc_ranges.specs.declared.Ranges.{Ranges}
 use Rattle.lerc_ranges.specs.Ranges.{rangesSays}
 use Rattle.lerc_block.specs.Block.{Block, stepValue, finiteOffset, blockSays, nextBlock}
 use Rattle.lerc_image.specs.Geometry.{tileOf, blockOf}
 use Rattle.lerc_image.specs.Paint.{indexOf}
 use Rattle.lerc_image.specs.Blocks.{chain}
-use Rattle.lerc.specs.Meaning.{Meaning, endOf, startsOf, cellWord, meaning}
+use Rattle.lerc.specs.Meaning.{Body, empty, constant, raw, blocks, Meaning, startsOf, cellWord, meaning}
 use Rattle.lerc_overflow.specs.By.{stepBy, blockBy, chainBy, meaningBy}
 
 -- ---- over `sum` they are the reader's own definitions
@@ -109,15 +109,16 @@ pub record BlockChanges : Type 0 where
 
 -- ---- a blob
 
--- the header, the mask, where the blocks begin and where the body ends
-pub record Outline : Type 0 where
-  pub header : Header
-  pub mask : MaskInForce
-  pub starts : List ℕ
-  pub end : ℕ
+-- a body without the words of its blocks
+abbrev pub bodyOutline : Body → Body
+bodyOutline empty = empty
+bodyOutline (constant words end) = constant words end
+bodyOutline (raw words end) = raw words end
+bodyOutline (blocks c) = blocks (record { starts = c .starts; words = []; end = c .end })
 
-abbrev pub outline : Meaning → Res Outline
-outline m = ok (record { header = m .header; mask = m .mask; starts = startsOf (m .body); end = endOf (m .body) })
+-- all that a meaning says apart from these words
+abbrev pub outline : Meaning → Res Meaning
+outline m = ok (record { header = m .header; mask = m .mask; body = bodyOutline (m .body) })
 
 -- where the block of a cell begins
 abbrev pub startOfCell : Meaning → ℕ → ℕ
@@ -138,8 +139,19 @@ pub record CellChanged (b : List ℕ) (m : Meaning) (c : ℕ) : Type 0 where
   pub below : less (countedSum (overflows .operands .offset) (overflows .operands .product)) (maximumOf (m .header) ranges c) ≡ true
   pub is-maximum : cellWord (m .header) (bytesOf (m .mask)) (m .body) c ≡ maximumOf (m .header) ranges c
 
+-- with such a product a cell of kind 7 is changed
+abbrev pub ChangesThere : List ℕ → Meaning → Meaning → Type 0
+ChangesThere b x y =
+    let h = y .header in
+    let m = bytesOf (y .mask) in
+    let s = take (h .size) b in
+    (c : ℕ) → blockOf (shapeOf h) c < length (startsOf (y .body)) → h .kind ≡ 7
+    → (o : Overflows s (startOfCell y c) (h .kind) (h .error) (indexOf (shapeOf h) m c))
+    → (r : Ranges) → rangesSays s h ≡ ok r → less (countedSum (o .operands .offset) (o .operands .product)) (maximumOf h r c) ≡ true
+    → cellWord h m (x .body) c ≢ cellWord h m (y .body) c
+
 pub record MeaningChanges : Type 0 where
-  -- a blob is accepted exactly when it was, and refused by the same number; header, mask, starts and end are the same
+  -- a blob is accepted exactly when it was, and refused by the same number; all but the words of its blocks is the same
   pub meaning-outline : (b : List ℕ) (reuse : Bool) (old : List ℕ) → (meaningBy countedSum b reuse old >>= outline) ≡ (meaning b reuse old >>= outline)
   -- nothing changes for kinds 0 to 6
   pub meaning-kind : (b : List ℕ) (reuse : Bool) (old : List ℕ) (h : Header) → headerSays b ≡ ok h → h .kind < 7 → meaningBy countedSum b reuse old ≡ meaning b reuse old
@@ -148,13 +160,8 @@ pub record MeaningChanges : Type 0 where
   -- "list which accepted blobs change": only those with such a cell
   pub meaning-cell : (b : List ℕ) (reuse : Bool) (old : List ℕ) (x y : Meaning) → meaningBy countedSum b reuse old ≡ ok x → meaning b reuse old ≡ ok y
       → (c : ℕ) → let h = y .header in let m = bytesOf (y .mask) in cellWord h m (x .body) c ≢ cellWord h m (y .body) c → CellChanged b y c
-  -- and with such a product it changes
-  pub meaning-changed : (b : List ℕ) (reuse : Bool) (old : List ℕ) (x y : Meaning) → meaningBy countedSum b reuse old ≡ ok x → meaning b reuse old ≡ ok y
-      → (c : ℕ) → blockOf (shapeOf (y .header)) c < length (startsOf (y .body)) → y .header .kind ≡ 7
-      → (o : Overflows (take (y .header .size) b) (startOfCell y c) (y .header .kind) (y .header .error) (indexOf (shapeOf (y .header)) (bytesOf (y .mask)) c))
-      → (r : Ranges) → rangesSays (take (y .header .size) b) (y .header) ≡ ok r
-      → less (countedSum (o .operands .offset) (o .operands .product)) (maximumOf (y .header) r c) ≡ true
-      → cellWord (y .header) (bytesOf (y .mask)) (x .body) c ≢ cellWord (y .header) (bytesOf (y .mask)) (y .body) c
+  -- and all of those do
+  pub meaning-changed : (b : List ℕ) (reuse : Bool) (old : List ℕ) (x y : Meaning) → meaningBy countedSum b reuse old ≡ ok x → meaning b reuse old ≡ ok y → ChangesThere b x y
 
 -- ---- all of it
 
