@@ -1,11 +1,11 @@
 #!/usr/bin/env bash
-# Whole images on arm64: bench/arm64.sh [FOLDER] [--only NAME] [--rounds N] [--no-counts] [--plot FILE]
+# Whole images on arm64: bench/arm64.sh [FOLDER] [--floats] [--only NAME] [--rounds N] [--no-counts] [--no-times] [--plot FILE]
 # The tables of bench/whole.sh for arm64 builds of the proved reader (bench/native.sh), the plain one and Esri's library.
 # On an arm64 machine they have times and instructions. On x86-64 the programs run under qemu, which counts the instructions
 # of a call exactly and whose times say nothing, so none are taken. bench/arm64/tools.sh says what must be installed.
 #     bench/arm64.sh one FILE [read|'walk and fills'] [proved|plain|esri]      where the instructions of one image go, on x86-64
 set -eu
-usage="bench/arm64.sh [FOLDER] [--only NAME] [--rounds N] [--no-counts] [--plot FILE], or bench/arm64.sh one FILE [read|'walk and fills'] [proved|plain|esri]"
+usage="bench/arm64.sh [FOLDER] [--floats] [--only NAME] [--rounds N] [--no-counts] [--no-times] [--plot FILE], or bench/arm64.sh one FILE [read|'walk and fills'] [proved|plain|esri]"
 root=$(cd "$(dirname "$(readlink -f "$0")")/.." && pwd)
 . "$root/bench/words.sh"
 if [ "${1:-}" = one ]; then

@@ -1,10 +1,11 @@
 #!/usr/bin/env bash
-# Measures whole images: bench/whole.sh [FOLDER] [--only NAME] [--rounds N] [--no-counts] [--plot FILE]
-# FOLDER has blobs called NAME.lerc2; without it only images made by the program are measured, which takes minutes. --only
-# takes those with NAME in their names, --no-counts leaves valgrind out. Prints tables in the form of docs/SPEED.md and names
-# what was left out; --plot draws them (docs/whole.svg is one). With ESRI=1 Esri's library (liblerc-dev) is a third candidate.
+# Measures whole images: bench/whole.sh [FOLDER] [--floats] [--only NAME] [--rounds N] [--no-counts] [--no-times] [--plot FILE]
+# FOLDER has blobs called NAME.lerc2; without it only images made by the program are measured, which takes minutes. --floats
+# takes a grid of float images in place of those of all kinds, --only those with NAME in their names; --no-counts leaves
+# valgrind out, --no-times all but counts. Prints tables in the form of docs/SPEED.md and names what was left out; --plot
+# draws them (docs/whole.svg is one). With ESRI=1 Esri's library (liblerc-dev) is a third candidate.
 set -eu
-usage='bench/whole.sh [FOLDER] [--only NAME] [--rounds N] [--no-counts] [--plot FILE]'
+usage='bench/whole.sh [FOLDER] [--floats] [--only NAME] [--rounds N] [--no-counts] [--no-times] [--plot FILE]'
 root=$(cd "$(dirname "$(readlink -f "$0")")/.." && pwd)
 . "$root/bench/words.sh"
 read_words "$@"

@@ -33,7 +33,7 @@ read_esri() {
     esac
 }
 
-# The words of whole.sh and arm64.sh as those of the program in bench/whole, with whole paths.
+# The words of whole.sh, two.sh and arm64.sh as those of the program in bench/whole, with whole paths.
 read_words() {
     local folder=''
     words=()
@@ -58,7 +58,7 @@ read_words() {
             esac
             shift 2
             ;;
-        --no-counts)
+        --floats | --no-counts | --no-times)
             words+=("$1")
             shift
             ;;

@@ -1,6 +1,6 @@
 /* One blob from standard input, block by block: header, mask, ranges, walk, then each block from the last to the first.
  * Writes what each step said and the cells, '-' for one that is not valid; the first refusal is one line with the step and
- * its number. Exit status: 0 decoded, 1 refused, 3 the output was lost. */
+ * its number. Exit status: 0 decoded, 1 refused, 2 not read (the float unit is not as it must be), 3 output lost. */
 #include "../include/lerc2.h"
 
 #include <inttypes.h>
@@ -38,6 +38,10 @@ static void print_cells(const uint8_t *mask) {
 }
 
 int main(void) {
+    if (!lerc2_float_ready(0)) {
+        fprintf(stderr, "blocks: the float unit rounds otherwise or flushes small numbers (include/lerc2.h)\n");
+        return 2;
+    }
     size_t size = fread(blob, 1, BYTES, stdin);
     step("header", lerc2_read_header(blob, size, header, LERC2_HEADER));
     step("mask", lerc2_prepare_mask(blob, size, header, LERC2_HEADER, false, kept, MASK, spare, MASK, said, 2));

@@ -1,5 +1,5 @@
 /* One blob from standard input, its cells as text to standard output; a refusal is one line with its number.
- * Exit status: 0 decoded, 1 refused, 2 no memory, 3 the output was lost.
+ * Exit status: 0 decoded, 1 refused, 2 not read (no memory, or the float unit is not as it must be), 3 the output was lost.
  *
  * The blob is read into staged buffers. The tile is changed only when the blob was accepted, so that a caller that
  * holds an older tile keeps it whole whatever comes in. */
@@ -82,6 +82,10 @@ static int status_of(int status) { return fflush(stdout) == 0 && !ferror(stdout)
 
 int main(void) {
     enum { MOST = 16777216 };
+    if (!lerc2_float_ready(0)) {
+        fprintf(stderr, "read: the float unit rounds otherwise or flushes small numbers (include/lerc2.h)\n");
+        return 2;
+    }
     uint8_t *blob = room(MOST, 1);
     size_t size = fread(blob, 1, MOST, stdin);
     struct tile tile = {{0}, NULL, NULL};

@@ -19,8 +19,18 @@
  *
  * Slices. Each is a pointer and a count of elements (not bytes). The pointer must not be null, also where the count is
  * 0; it must be aligned for its type and point to that many initialised elements. What is written (no `const`) must not
- * overlap any other slice of the same call. That is all that is asked: any contents and any counts are answered.
- * Longer than needed is fine, and what is past the need stays as it was.
+ * overlap any other slice of the same call. That, and a float unit as below, is all that is asked: any contents and any
+ * counts are answered. Longer than needed is fine, and what is past the need stays as it was.
+ *
+ * The float unit. Finite numbers are added and multiplied by the machine's own binary64, and so are values clamped. The
+ * calling thread must have it as the system gives it to a program. Each thread has its own:
+ *    x86-64, MXCSR: rounding control at nearest; flush to zero (FTZ) and denormals are zeros (DAZ) off; every exception
+ *      masked. A program that is linked with -ffast-math may begin with FTZ and DAZ on.
+ *    arm64, FPCR: RMode at nearest; FZ off, and so AH, FIZ and NEP where there is FEAT_AFP; no trap enabled.
+ * lerc2_float_ready finds another rounding and any flushing. It does not find a trap that is enabled: that is taken in
+ * the middle of a call, this one too. A call may raise the sticky exception flags (MXCSR, FPSR) and changes nothing else
+ * of the unit. An archive that is built to compute over whole numbers alone (TRUSTED in
+ * crates/lerc_numeric/src/machine.rt) has no float arithmetic, and asks nothing of it.
  *
  * Records. A header, ranges and what a function says are arrays of uint64_t. A record slice that is too short is
  * refused first (5), then a number that its field cannot hold (3: a header field of 2^32 or more, a constant mark that
@@ -80,6 +90,15 @@ enum {
 
 /* what lerc2_prepare_mask says first */
 enum { LERC2_KEPT = 1, LERC2_SPARE = 2 };
+
+/* Whether the calling thread's float unit rounds as the reader needs: some telling operands are added, multiplied and
+ * clamped by the machine and over whole numbers. `mix` is 0; any other word tries other operands (each is xor-ed with
+ * it), which may tell less. To be asked by each thread before it reads, and again where something else may have changed
+ * the unit.
+ * True: the words were alike. An archive that computes over whole numbers alone always says so.
+ * False: they were not, and no other function may be called by this thread until the unit is put right: it could answer
+ *   and write other words than the rules say. */
+bool lerc2_float_ready(uint64_t mix);
 
 /* The header of a blob.
  * Refuses 5 (header under 11), 1 (blob under 70 bytes), 2, 3, 4, 1 (blob shorter than its declared size).

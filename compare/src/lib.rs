@@ -4,6 +4,7 @@
 //! every lent byte afterwards must be the same, and marks on both sides of each
 //! slice must stand.
 
+pub mod arithmetic;
 pub mod case;
 pub mod counted;
 pub mod damage;
@@ -12,10 +13,13 @@ pub mod esri;
 pub mod folder;
 pub mod form;
 mod lent;
+pub mod operands;
 pub mod plan;
 pub mod random;
 pub mod run;
 pub mod shrink;
 pub mod sides;
+pub mod sorts;
+pub mod step;
 pub mod store;
 pub mod table;

@@ -1,3 +1,4 @@
+use compare::arithmetic::{self, PROVED};
 use compare::folder;
 use compare::run::{Failure, Run};
 use compare::sides::{plain, proved};
@@ -13,6 +14,9 @@ const HELP: &str = "\
 compare run [--calls N] [--seed S] [--from BLOB] [--out FOLDER]
     calls on blobs made at random (a million of them, any seed, from blob 0);
     calls that differ are made smaller and saved to FOLDER (failed)
+compare arithmetic [--pairs N] [--seed S]
+    sums, products, steps and conversions of operands made at random (a
+    million of each, finite and not; any seed) against whole numbers
 compare replay FILE
     one saved call
 compare folder FOLDER..
@@ -36,12 +40,15 @@ fn main() -> ExitCode {
             Ok(true)
         }
         ["run", rest @ ..] => run(rest),
+        ["arithmetic", rest @ ..] => arithmetic_compared(rest),
         ["replay", file] => replay(file),
         ["folder", folders @ ..] if !folders.is_empty() => folders_compared(folders),
         ["esri", rest @ ..] => esri(rest),
         ["replay", ..] => Err("replay takes one file".into()),
         ["folder"] => Err("folder takes one folder or more".into()),
-        [] => Err("run, replay, folder or esri? `compare --help` says what they do".into()),
+        [] => Err(
+            "run, arithmetic, replay, folder or esri? `compare --help` says what they do".into(),
+        ),
         [word, ..] => Err(format!("unknown word {word}; `compare --help` has all").into()),
     };
     match answer {
@@ -109,11 +116,23 @@ fn blobs(folder: &str) -> Result<Vec<PathBuf>, Box<dyn Error>> {
     Ok(files)
 }
 
+/// Nothing is compared on a thread where float operations differ.
+fn ready() -> Result<(), Box<dyn Error>> {
+    if lerc2::float_ready() {
+        return Ok(());
+    }
+    Err("this thread's float unit does not round to nearest or flushes small numbers; nothing is compared".into())
+}
+
+fn any_seed() -> Result<u64, Box<dyn Error>> {
+    Ok(SystemTime::now().duration_since(UNIX_EPOCH)?.as_nanos() as u64)
+}
+
 fn run(rest: &[&str]) -> Result<bool, Box<dyn Error>> {
-    let now = SystemTime::now().duration_since(UNIX_EPOCH)?.as_nanos() as u64;
+    ready()?;
     let options = Options::of(rest, &["--calls", "--seed", "--from", "--out"], &[])?;
     let run = Run {
-        seed: options.number("--seed", now)?,
+        seed: options.number("--seed", any_seed()?)?,
         from: options.number("--from", 0)?,
         calls: options.number("--calls", 1_000_000)?,
         failures: 10,
@@ -138,6 +157,19 @@ fn run(rest: &[&str]) -> Result<bool, Box<dyn Error>> {
     Ok(report.failures.is_empty())
 }
 
+fn arithmetic_compared(rest: &[&str]) -> Result<bool, Box<dyn Error>> {
+    ready()?;
+    let options = Options::of(rest, &["--pairs", "--seed"], &[])?;
+    let seed = options.number("--seed", any_seed()?)?;
+    let pairs = options.number("--pairs", 1_000_000)?;
+    println!("seed {seed}");
+    let begun = Instant::now();
+    let report = arithmetic::compared(&PROVED, seed, pairs);
+    let seconds = begun.elapsed().as_secs_f64();
+    println!("\n{}, in {seconds:.0} s", report.text());
+    Ok(report.disagreements() == 0)
+}
+
 /// Saves a call that was made smaller, and says how to replay it.
 fn save(out: &Path, name: &str, failure: &Failure) -> Result<(), Box<dyn Error>> {
     fs::create_dir_all(out)?;
@@ -151,6 +183,7 @@ fn save(out: &Path, name: &str, failure: &Failure) -> Result<(), Box<dyn Error>>
 }
 
 fn replay(file: &str) -> Result<bool, Box<dyn Error>> {
+    ready()?;
     let text =
         String::from_utf8(bytes(Path::new(file))?).map_err(|_| format!("{file}: no saved call"))?;
     let case = store::case(&text).map_err(|error| format!("{file}: {error}"))?;
@@ -166,6 +199,7 @@ fn replay(file: &str) -> Result<bool, Box<dyn Error>> {
 }
 
 fn folders_compared(folders: &[&str]) -> Result<bool, Box<dyn Error>> {
+    ready()?;
     let (mut table, mut count, mut disagreements) = (Table::default(), 0, 0);
     for folder in folders {
         for file in blobs(folder)? {
@@ -195,6 +229,7 @@ fn esri(_: &[&str]) -> Result<bool, Box<dyn Error>> {
 #[cfg(feature = "esri")]
 fn esri(rest: &[&str]) -> Result<bool, Box<dyn Error>> {
     use compare::esri;
+    ready()?;
     let mut tally = esri::Tally::default();
     if rest.is_empty() || rest[0].starts_with("--") {
         let options = Options::of(rest, &["--blobs", "--seed"], &["--overflow"])?;

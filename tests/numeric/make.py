@@ -212,6 +212,87 @@ def infinities():
     yield plus(low, product), bits(1.5 * 2.0 ** 1023), 1, 7
 
 
+# offset, error, maximum and count of each row of crates/lerc_numeric/src/ready.rt, which tell another float unit by its words
+TELLING = [(bits(1.0), bits(2.0 ** -53), INF - 1, 1), (bits(1.0), bits(3 * 2.0 ** -54), INF - 1, 1),
+           (bits(-1.0), bits(-3 * 2.0 ** -54), INF - 1, 1), (bits(1.0), bits(2.0 ** -53) + (1 << 27), INF - 1, 1),
+           (bits(1.0), bits(2.0 ** -54) + (1 << 27), INF - 1, 1), (0, bits(2.0) - 0x3fff, INF - 1, 4097),
+           (bits(-6.0), bits(1.0) + 1, INF - 1, 3), (bits(-6.0), bits(1.0) + 3, INF - 1, 3),
+           (bits(1.0), bits(1.0) + 1, INF - 1, 5), (1, 1, INF - 1, 1),
+           (1 << 52, SIGN + (3 << 51), INF - 1, 1), (0, 0, 1, 0), (bits(1.0), bits(1.0), bits(1.0), 1), (INF - 1, INF - 1, INF - 1, 0xffffffff),
+           (bits(1.0), bits(-1.0), 0, 0xffffffff)]
+
+
+def telling():
+    """sum, product and step of each row"""
+    for offset, error, top, q in TELLING:
+        step = scale(error, q)
+        yield offset, error, q, 7
+        yield error, offset, q, 7
+        yield offset, step, q, 7
+        yield plus(offset, step), top, 1, 7
+
+
+def both_signs(pairs):
+    for a, b in pairs:
+        yield a, b, 1, 7
+        yield a ^ SIGN, b ^ SIGN, 1, 7
+
+
+def tied_factor(q, odd):
+    """a number whose product with the odd count q is a tie of 53 digits, between words of which the lower one is odd or even"""
+    cut = q.bit_length()
+    low = (1 << cut - 1) * pow(q, -1, 1 << cut) % (1 << cut)
+    # below 2^53 and not far from it, so that the product has 53 digits and those that are cut
+    digits = (1 << 53) - (1 << cut) + low
+    while (digits * q >> cut) % 2 != odd:
+        digits -= 1 << cut
+    return (1023 << 52) + digits - (1 << 52)
+
+
+def last_sums():
+    """around 2^1024 - 2^970, from which on a sum is infinite, and operands that are"""
+    half, high, last = bits(2.0 ** 970), bits(2.0 ** 1023), INF - 1
+    yield from both_signs([(last, half - 1), (last, half), (last, half + 1), (last - 1, half), (last - 1, half + 1), (last, 1),
+                           (high, high - 1), (high, high - 2), (high, high), (last, last), (last, half + SIGN), (last, last + SIGN),
+                           (last, INF), (last, INF + SIGN), (last, INF + 1 + SIGN), (last - 1, INF + SIGN)])
+
+
+def small_sums():
+    """normal numbers whose sum is not, and the least normal one on both sides"""
+    low = 1 << 52
+    yield from both_signs([(low, low + 1 + SIGN), (low + 1, low + SIGN), (2 * low, 2 * low + 1 + SIGN), (2 * low, 3 * low - 1 + SIGN),
+                           (low, 1 + SIGN), (low - 1, 1), (low - 1, low - 1), (1, 1), (1, 2 + SIGN), (0, SIGN + 1)])
+
+
+def tied_sums():
+    """half a unit to an even and to an odd last digit, with a carry, below a power of two, and one unit beside each"""
+    one, half, quarter = bits(1.0), bits(2.0 ** -53), bits(2.0 ** -54)
+    for a, b in [(one, half), (one + 1, half), (bits(2.0) - 1, half), (one, quarter + SIGN),
+                 (one + 1, half + SIGN), (one + 2, half + SIGN)]:
+        yield from both_signs([(a, b), (a, b + 1), (a, b - 1)])
+
+
+def products():
+    """the last finite ones and the first that are infinite, subnormal ones, ties with odd counts, and one unit beside each"""
+    sixth = bits(6004799503160661 * 2.0 ** 969)        # six of it are 2^1024 - 2^970
+    counts = [(bits(2.0 ** 1023), 1), (sixth, 3), (bits(2.0 ** 991), 0xffffffff), (1 << 51, 1), (1 << 20, 1 << 31), (1, 0xffffffff)]
+    counts += [(tied_factor(q, odd), q) for q in (3, 5, 0x80000001, 0xffffffff) for odd in (0, 1)]
+    for a, q in counts:
+        for beside in (a - 1, a, a + 1):
+            yield beside, 0, q, 7
+    for a in (INF - 1, INF, INF + 1, SIGN + INF - 1, SIGN + INF):
+        for q in (0, 1):
+            yield a, 0, q, 7
+
+
+def singles():
+    """the least normal binary32 and 2^128 on both sides, and ties beside them"""
+    for a in (0x380fffffffffffff, 0x3810000000000000, 0x3810000010000000, 0x3810000030000000, 0x47efffffefffffff,
+              0x47effffff0000000, 0x47efffffffffffff, 0x47f0000000000000):
+        yield a, 0, 1, 6
+        yield a + SIGN, 0, 1, 6
+
+
 def cases():
     for a in SPECIAL:
         for s in (0, SIGN):
@@ -222,6 +303,8 @@ def cases():
         q = random.choice([random.randrange(0, 16), random.getrandbits(random.randrange(1, 33)), 0xffffffff, (1 << 32) - (1 << random.randrange(0, 20))])
         yield a, partner(a), q, random.randrange(0, 9)
     yield from infinities()
+    for more in (telling, last_sums, small_sums, tied_sums, products, singles):
+        yield from more()
 
 
 def shown(x):

@@ -28,6 +28,7 @@ NOTED(lerc2_prepare_mask);
 NOTED(lerc2_read_ranges);
 NOTED(lerc2_walk);
 NOTED(lerc2_fill);
+NOTED(lerc2_float_ready);
 NOTED(lerc2_sum);
 NOTED(lerc2_scaled);
 NOTED(lerc2_narrow);
@@ -66,6 +67,12 @@ static const uint64_t operands[] = {0, 1, 0x3FF0000000000000, 0xBFF0000000000001
                                     0x7FF0000000000000, 0x8000000000000000, 0xC05FE00000000000, 0x3810000000000001};
 enum { OPERANDS = sizeof(operands) / sizeof(operands[0]) };
 static uint64_t result;
+
+static void call_float_ready(void) {
+    for (size_t n = 0; n < OPERANDS; n++) {
+        result += noted_lerc2_float_ready(operands[n]);
+    }
+}
 
 static void call_sum(void) {
     for (size_t n = 0; n < OPERANDS * OPERANDS; n++) {
@@ -156,6 +163,7 @@ int main(int words, char **word) {
     for (int n = 1; n < words; n++) {
         use_blob(word[n]);
     }
+    used("lerc2_float_ready", call_float_ready);
     used("lerc2_sum", call_sum);
     used("lerc2_scaled", call_scaled);
     used("lerc2_narrow", call_narrow);

@@ -1,5 +1,6 @@
 #!/bin/sh
-# Tests the scripts and programs around the reader: ./lerc2, the archive and who links it, wrong words, lost outputs, the stack.
+# Tests the scripts and programs around the reader: ./lerc2, the archive and who links it, wrong words, lost outputs, the stack,
+# float units that were changed.
 #     tests/tools/run.sh       less than a minute; ends in 'N passed, M failed', with status 1 where M is not 0
 # Proving takes minutes, so a stand-in for the kit (tests/tools/rt) says what it is told to. What needs cargo, gcc or a proved
 # archive that is not there is named as not tried.
@@ -406,6 +407,11 @@ if command -v cargo >/dev/null && command -v gcc >/dev/null && tools/archive.sh 
     wrong_words 'compare: ' compare
     wrong_words 'unknown word nosuch' compare nosuch
     wrong_words 'unknown word --call' compare run --call 5
+    wrong_words 'unknown word --calls' compare arithmetic --calls 5
+    wrong_words '--pairs many: not a number' compare arithmetic --pairs many
+    wrong_words '--seed needs a value' compare arithmetic --seed
+    gives 'compare arithmetic' 0 compare arithmetic --seed 1 --pairs 1000
+    holds 'compare arithmetic counts disagreements' grep -q '^2,000 sums, .* 0 disagreements, ' "$out"
     wrong_words 'there is no NAME.lerc2' compare folder "$ROOM/bin"
     wrong_words 'nosuch: ' compare folder nosuch
     wrong_words 'no line says which operation' compare replay /dev/null
@@ -418,6 +424,30 @@ if command -v cargo >/dev/null && command -v gcc >/dev/null && tools/archive.sh 
         lost_by() { "target/examples/$program" <crates/lerc2/stdin >/dev/full; }
         gives "examples/$program.c to a full device" 3 lost_by
     done
+    # the archive is of these sources, and they say whether it uses the float unit
+    words=''
+    if grep -q '^const TRUSTED: bool = false;' crates/lerc_numeric/src/machine.rt; then words=words; fi
+    gives 'tests/c/ready.c is built' 0 gcc -std=c11 -O2 -Wall -Wextra -Werror -pedantic tests/c/ready.c target/staticlib/liblerc_c.a -lm -o "$ROOM/ready"
+    # shellcheck disable=SC2086
+    gives 'float units that were changed' 0 "$ROOM/ready" $words
+    wrong_words 'unknown word nosuch' "$ROOM/ready" nosuch
+    # shellcheck disable=SC2086
+    gives 'the float instructions' 0 python3 tests/floats/run.py ${words:+--words target/staticlib/liblerc_c.a}
+    wrong_words 'usage: tests/floats/run.py' python3 tests/floats/run.py --nosuch
+    wrong_words 'nosuch is not there' python3 tests/floats/run.py nosuch
+    if [ -z "$words" ]; then
+        gives 'float instructions where none should be' 1 python3 tests/floats/run.py --words target/staticlib/liblerc_c.a
+    fi
+    if [ "$(uname -m)" = x86_64 ] && [ -z "$words" ]; then
+        # gcc adds code that begins with small numbers flushed to zero
+        for program in read blocks; do
+            gcc -std=c11 -O2 -ffast-math "examples/$program.c" target/staticlib/liblerc_c.a -o "$ROOM/flushing"
+            flushing() { "$ROOM/flushing" <crates/lerc2/stdin; }
+            gives "examples/$program.c with -ffast-math" 2 flushing
+            says "examples/$program.c with -ffast-math" 'flushes small numbers'
+            writes "examples/$program.c with -ffast-math" ''
+        done
+    fi
     cargo build --offline --quiet --release -j1 --manifest-path second/Cargo.toml
     plain() { second/target/release/second <crates/lerc2/stdin; }
     plain_lost() { plain >/dev/full; }

@@ -3,9 +3,10 @@
 //! of interleaved rounds, and exact counts of instructions by callgrind or by
 //! an emulator, under which times are not taken.
 //!
-//!     whole [--folder FOLDER] [--only NAME] [--rounds N] [--plot FILE] [--no-counts]
-//!           [--counted-by 'EMULATOR AND ITS WORDS' --no-times]
+//!     whole [--folder FOLDER] [--floats] [--only NAME] [--rounds N] [--plot FILE] [--no-counts]
+//!           [--no-times [--counted-by 'EMULATOR AND ITS WORDS']]
 //!     whole mask                             what valid pixels cost, by callgrind alone
+//!     whole join FILE FILE                   the tables of two runs in one
 //!     whole one FILE WAY READER [CALLS]      for the counter; one call is usual
 //!
 //! What is not measured is named at the end, with the reason. Ends with status
@@ -13,6 +14,8 @@
 
 mod clock;
 mod holes;
+mod images;
+mod join;
 mod left;
 mod make;
 mod mask;
@@ -20,8 +23,8 @@ mod plot;
 mod task;
 mod words;
 
+use images::Image;
 use left::LeftOut;
-use make::{Body, Sort};
 use std::error::Error;
 use std::fs;
 use std::path::{Path, PathBuf};
@@ -39,18 +42,13 @@ const LINEAR: f64 = 1.3;
 const GROWTH: f64 = 1.1;
 /// Rounds of one line go on for so long.
 const SECONDS: f64 = 2.0;
+/// A reader's turn lasts so long at least: the clock is not exact for less.
+const TURN: f64 = 0.002;
 /// Larger images are not run under a counter, which takes fifty times as long.
 const COUNTED: usize = 1 << 20;
 /// An emulator counts a run of so many calls and one of twice as many; the
 /// difference has neither start nor end of the program.
 const CALLS: u64 = 2;
-
-struct Image {
-    name: String,
-    blob: Vec<u8>,
-    /// One of a row of sizes.
-    sized: bool,
-}
 
 pub struct Line {
     name: String,
@@ -64,10 +62,14 @@ pub struct Line {
 }
 
 impl Line {
-    /// How many times the plain reader's the proved one's is. None where the
-    /// clock saw nothing of the plain one.
-    fn ratio(numbers: &[Option<f64>]) -> Option<f64> {
-        Some(numbers[0]? / numbers[1]?).filter(|ratio| ratio.is_finite())
+    /// How many times another reader's the proved one's is. None where the
+    /// clock saw nothing of the other.
+    fn ratio(numbers: &[Option<f64>], other: usize) -> Option<f64> {
+        Some(numbers[0]? / numbers[other]?).filter(|ratio| ratio.is_finite())
+    }
+
+    fn to_plain(numbers: &[Option<f64>]) -> Option<f64> {
+        Line::ratio(numbers, 1)
     }
 }
 
@@ -77,6 +79,8 @@ fn main() -> ExitCode {
     let done = match words.as_slice() {
         ["mask"] => mask::measure(),
         ["mask", word, ..] => Err(format!("unknown word {word}").into()),
+        ["join", before, after] => join::files(before, after),
+        ["join", ..] => Err("join: two files".into()),
         ["one", file, way, reader] => one(file, way, reader, "1"),
         ["one", file, way, reader, calls] => one(file, way, reader, calls),
         _ => measure(&words),
@@ -134,27 +138,17 @@ fn measure(words: &[&str]) -> Result<(), Box<dyn Error>> {
         emulator: words.counted_by,
         scratch: scratch(),
     };
-    let images = images(&words)?;
+    let images = images::of(&words)?;
     fs::create_dir_all(&how.scratch)?;
-    let mut lines = Vec::new();
-    let mut left = LeftOut::default();
-    for image in &images {
-        for way in Way::WHOLE {
-            match line(image, way, &how)? {
-                Ok(line) => {
-                    eprintln!("{} {}", line.name, line.way.name());
-                    lines.push(line);
-                }
-                Err(why) => left.add(&image.name, way, why),
-            }
-        }
-    }
+    let measured = lines(&images, words.floats, &how);
     fs::remove_dir_all(&how.scratch)?;
+    let (lines, left) = measured?;
     if lines.is_empty() {
         print!("{}", left.text());
         return Err("nothing was measured".into());
     }
-    print!("{}", table(&lines));
+    let to_esri = words.floats && Reader::ALL.len() > 2;
+    print!("{}", table(&lines, to_esri));
     print!("{}", verdicts(&lines));
     print!("{}", left.text());
     if let Some(file) = words.plot {
@@ -163,75 +157,42 @@ fn measure(words: &[&str]) -> Result<(), Box<dyn Error>> {
     Ok(())
 }
 
-/// Those of the folder, and those that are made.
-fn images(words: &Words) -> Result<Vec<Image>, Box<dyn Error>> {
-    let mut images = Vec::new();
-    if let Some(folder) = words.folder {
-        let files = compare::folder::files(Path::new(folder))
-            .map_err(|error| format!("{folder}: {error}"))?;
-        if files.is_empty() {
-            return Err(format!("{folder}: there is no NAME.lerc2").into());
-        }
-        for file in files {
-            let name = file.file_stem().unwrap_or_default();
-            images.push(Image {
-                name: name.to_string_lossy().into_owned(),
-                blob: fs::read(&file)?,
-                sized: false,
-            });
-        }
-    }
-    images.extend(made());
-    if let Some(word) = words.only {
-        images.retain(|image| image.name.contains(word));
-        if images.is_empty() {
-            return Err(format!("no image has {word} in its name").into());
-        }
-    }
-    Ok(images)
-}
-
-fn made() -> Vec<Image> {
-    let sort = Sort::plain;
-    let mut images = Vec::new();
-    let mut add = |name: &str, sort: Sort, side: usize, sized: bool| {
-        images.push(Image {
-            name: format!("{name} {side}x{side}"),
-            blob: make::blob(&sort, side, side),
-            sized,
-        });
+/// A line for each image and way, and what was left out.
+fn lines(
+    images: &[Image],
+    floats: bool,
+    how: &How,
+) -> Result<(Vec<Line>, LeftOut), Box<dyn Error>> {
+    let ways = if floats {
+        &[Way::Read][..]
+    } else {
+        &Way::WHOLE
     };
-    add("i8", sort(0, 0.5, Body::Blocks), 512, false);
-    add("u8", sort(1, 0.5, Body::Blocks), 512, false);
-    add("i32", sort(4, 1.0, Body::Blocks), 512, false);
-    for side in [64, 128, 256, 512, 1024, 2048] {
-        add("u16", sort(3, 0.5, Body::Blocks), side, true);
+    let (mut lines, mut left) = (Vec::new(), LeftOut::default());
+    for image in images {
+        for &way in ways {
+            match line(image, way, how)? {
+                Ok(line) => {
+                    eprintln!("{} {}", line.name, line.way.name());
+                    lines.push(line);
+                }
+                Err(why) => left.add(&image.name, way, why),
+            }
+        }
     }
-    for side in [64, 128, 256, 512, 1024, 2048] {
-        add("f32", sort(6, 0.01, Body::Blocks), side, true);
-    }
-    add("f64", sort(7, 0.001, Body::Blocks), 512, false);
-    add("raw u8", sort(1, 0.5, Body::Raw), 512, false);
-    add("raw u16", sort(3, 0.5, Body::Raw), 512, false);
-    add("raw f32", sort(6, 0.01, Body::Raw), 512, false);
-    add("raw f64", sort(7, 0.01, Body::Raw), 512, false);
-    add("constant u8", sort(1, 0.5, Body::Constant), 512, false);
-    add("constant f32", sort(6, 0.01, Body::Constant), 512, false);
-    let masked = sort(3, 0.5, Body::Blocks).with_holes();
-    add("masked u16", masked, 256, false);
-    images
+    Ok((lines, left))
 }
 
-/// One line of the table, or why there is none.
-fn line(image: &Image, way: Way, how: &How) -> Result<Result<Line, String>, Box<dyn Error>> {
-    let refused = |number: u32| format!("refused {number}");
-    let mut task = match Task::new(&image.blob) {
+/// A task that both readers do alike, or why it is not measured.
+fn agreed(image: &Image, way: Way) -> Result<Result<Task, String>, Box<dyn Error>> {
+    let done = Task::new(&image.blob).and_then(|mut task| {
+        task.go(way, Reader::Proved)?;
+        Ok(task)
+    });
+    let mut task = match done {
         Ok(task) => task,
-        Err(number) => return Ok(Err(refused(number))),
+        Err(number) => return Ok(Err(format!("refused {number}"))),
     };
-    if let Err(number) = task.go(way, Reader::Proved) {
-        return Ok(Err(refused(number)));
-    }
     let cells = task.image.clone();
     task.image.fill(0);
     if task.go(way, Reader::Plain).is_err() || task.image != cells {
@@ -240,7 +201,16 @@ fn line(image: &Image, way: Way, how: &How) -> Result<Result<Line, String>, Box<
     if task.header.valid == 0 {
         return Ok(Err("no cell is valid".into()));
     }
-    let count = cells.len();
+    Ok(Ok(task))
+}
+
+/// One line of the table, or why there is none.
+fn line(image: &Image, way: Way, how: &How) -> Result<Result<Line, String>, Box<dyn Error>> {
+    let mut task = match agreed(image, way)? {
+        Ok(task) => task,
+        Err(why) => return Ok(Err(why)),
+    };
+    let count = task.image.len();
     let counted = how.counts && count <= COUNTED;
     if how.rounds.is_none() && !counted {
         return Ok(Err(format!("more than {COUNTED} cells are not counted")));
@@ -305,9 +275,9 @@ fn bar(task: &Task, blob: &[u8]) -> f64 {
     }
 }
 
-/// Seconds that this thread runs in one call; the readers take turns. There are
-/// at least so many rounds, and more while there is time: on a shared machine
-/// many rounds are disturbed.
+/// Seconds that this thread runs in one call; the readers take turns, of many
+/// calls where one is short. There are at least so many rounds, and more while
+/// there is time: on a shared machine many rounds are disturbed.
 fn least_times(
     task: &mut Task,
     way: Way,
@@ -315,6 +285,7 @@ fn least_times(
     rounds: usize,
 ) -> Vec<Option<f64>> {
     let mut least = vec![None::<f64>; taking.len()];
+    let mut calls = vec![1; taking.len()];
     let begun = Instant::now();
     let mut round = 0;
     while round < rounds || begun.elapsed().as_secs_f64() < SECONDS {
@@ -322,14 +293,27 @@ fn least_times(
             let Some(reader) = reader else {
                 continue;
             };
-            let begun = clock::now();
-            let _ = task.go(way, reader);
-            let time = clock::now() - begun;
+            let time = turn(task, way, reader, &mut calls[n]);
             least[n] = Some(least[n].map_or(time, |before| before.min(time)));
         }
         round += 1;
     }
     least
+}
+
+/// Seconds of one call, out of a turn that is long enough.
+fn turn(task: &mut Task, way: Way, reader: Reader, calls: &mut u32) -> f64 {
+    loop {
+        let begun = clock::now();
+        for _ in 0..*calls {
+            let _ = task.go(way, reader);
+        }
+        let time = clock::now() - begun;
+        if time >= TURN {
+            return time / f64::from(*calls);
+        }
+        *calls *= 2;
+    }
 }
 
 /// Instructions of one call, exact and repeatable.
@@ -384,34 +368,46 @@ fn timed(lines: &[Line]) -> bool {
     lines.iter().any(|line| line.times[0].is_some())
 }
 
-fn table(lines: &[Line]) -> String {
-    let timed = timed(lines);
-    let mut text = String::from("| image | way |");
-    for reader in Reader::ALL {
-        if timed {
-            text += &format!(" {} ns |", reader.name());
-        }
-        text += &format!(" {} instr |", reader.name());
+/// A column of the table: its name, and what it says of a line.
+type Column = (String, Box<dyn Fn(&Line) -> String>);
+
+fn columns(timed: bool, to_esri: bool) -> Vec<Column> {
+    let column = |name: &str, said: Box<dyn Fn(&Line) -> String>| (name.to_string(), said);
+    let mut columns = vec![
+        column("image", Box::new(|line| line.name.clone())),
+        column("way", Box::new(|line| line.way.name().into())),
+    ];
+    for (n, reader) in Reader::ALL.iter().enumerate() {
+        let name = reader.name();
+        let time = column(&format!("{name} ns"), Box::new(move |l| shown(l.times[n])));
+        columns.extend(timed.then_some(time));
+        let count = move |line: &Line| shown(line.counts[n]);
+        columns.push(column(&format!("{name} instr"), Box::new(count)));
     }
-    if timed {
-        text += " ratio, time |";
+    // Against the plain reader, and Esri's library after it.
+    for (name, other) in [("ratio", 1), ("to esri", 2)]
+        .into_iter()
+        .take(1 + usize::from(to_esri))
+    {
+        let time = move |line: &Line| shown(Line::ratio(&line.times, other));
+        let time = column(&format!("{name}, time"), Box::new(time));
+        columns.extend(timed.then_some(time));
+        let count = move |line: &Line| shown(Line::ratio(&line.counts, other));
+        columns.push(column(&format!("{name}, instr"), Box::new(count)));
     }
-    text += " ratio, instr | bar |\n|---|---|";
-    let columns = Reader::ALL.len() + 1;
-    text += &"---|".repeat(columns * if timed { 2 } else { 1 } + 1);
+    columns.push(column("bar", Box::new(|line| line.bar.to_string())));
+    columns
+}
+
+fn table(lines: &[Line], to_esri: bool) -> String {
+    let columns = columns(timed(lines), to_esri);
+    let names: Vec<&str> = columns.iter().map(|(name, _)| name.as_str()).collect();
+    let mut text = format!("| {} |\n|", names.join(" | "));
+    text += &"---|".repeat(columns.len());
     text += "\n";
     for line in lines {
-        text += &format!("| {} | {} |", line.name, line.way.name());
-        for n in 0..Reader::ALL.len() {
-            if timed {
-                text += &format!(" {} |", shown(line.times[n]));
-            }
-            text += &format!(" {} |", shown(line.counts[n]));
-        }
-        if timed {
-            text += &format!(" {} |", shown(Line::ratio(&line.times)));
-        }
-        text += &format!(" {} | {} |\n", shown(Line::ratio(&line.counts)), line.bar);
+        let cells: Vec<String> = columns.iter().map(|(_, said)| said(line)).collect();
+        text += &format!("| {} |\n", cells.join(" | "));
     }
     text
 }
@@ -477,7 +473,7 @@ fn bars(lines: &[Line]) -> String {
                 let worst = lines
                     .iter()
                     .filter(of_class)
-                    .filter_map(|line| Some((Line::ratio(numbers(line))?, &line.name)))
+                    .filter_map(|line| Some((Line::to_plain(numbers(line))?, &line.name)))
                     .max_by(|a, b| a.0.total_cmp(&b.0));
                 let name = worst.map_or(String::new(), |(_, name)| format!(" ({name})"));
                 Verdict::of(worst.map(|(ratio, _)| ratio), bar, &name)

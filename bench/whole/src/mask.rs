@@ -1,9 +1,10 @@
 //! What valid pixels cost, by instructions: a mask prepared by runs and by
 //! reuse, and walks and reads of images with and without holes.
 
-use crate::make::{self, Body, Sort};
+use crate::images::Image;
+use crate::make::{Body, Sort};
 use crate::task::{Reader, Task, Way};
-use crate::{instructions_by, scratch, shown, How, Image};
+use crate::{instructions_by, scratch, shown, How};
 use std::error::Error;
 use std::fs;
 
@@ -49,10 +50,8 @@ fn rows(how: &How) -> Result<Vec<Row>, Box<dyn Error>> {
 
 /// With the ways to count them.
 fn images() -> Vec<(Image, [Way; 2])> {
-    let image = |name: &str, sort: Sort, rows: usize, columns: usize| Image {
-        name: format!("{columns}x{rows} {name}"),
-        blob: make::blob(&sort, rows, columns),
-        sized: false,
+    let image = |name: &str, sort: Sort, rows: usize, columns: usize| {
+        Image::made(format!("{columns}x{rows} {name}"), &sort, rows, columns)
     };
     let mask = Sort::plain(1, 0.5, Body::Constant).with_holes();
     let full = Sort::plain(3, 0.5, Body::Blocks);
@@ -88,19 +87,9 @@ fn compare_readers(image: &Image, way: Way) -> Result<(), String> {
     }
     #[cfg(feature = "esri")]
     if Reader::Esri.has(way) {
-        compare_with_esri(image)?;
+        image.compare_with_esri()?;
     }
     Ok(())
-}
-
-#[cfg(feature = "esri")]
-fn compare_with_esri(image: &Image) -> Result<(), String> {
-    let mut tally = compare::esri::Tally::default();
-    tally.count(&image.name, &image.blob);
-    match tally.differ.first() {
-        Some(words) => Err(format!("Esri's library differs: {words}")),
-        None => Ok(()),
-    }
 }
 
 fn row(image: &Image, way: Way, how: &How) -> Result<Row, Box<dyn Error>> {

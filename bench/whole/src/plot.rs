@@ -48,7 +48,7 @@ fn ratio_row(out: &mut String, line: &Line, y: f64) {
         (&line.counts, "#2b5c8a", 5.0),
     ];
     for (numbers, colour, high) in bars {
-        if let Some(ratio) = Line::ratio(numbers) {
+        if let Some(ratio) = Line::to_plain(numbers) {
             let wide = (ratio * SCALE).min(WIDTH - LEFT - 10.0);
             *out += &format!(
                 "<rect x=\"{LEFT}\" y=\"{:.1}\" width=\"{wide:.1}\" height=\"{high}\" fill=\"{colour}\"/>\n",

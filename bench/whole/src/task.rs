@@ -249,7 +249,7 @@ fn measured_plain_read(task: &mut Task) -> Result<(Header, usize, usize), u32> {
         image,
         ..
     } = task;
-    second::read(blob, false, kept, spare, list, image)
+    plain::read(blob, false, kept, spare, list, image)
 }
 
 #[no_mangle]
@@ -289,12 +289,12 @@ fn measured_plain_steps(task: &mut Task) -> Result<(), u32> {
 fn plain_steps(task: &mut Task) -> Result<(), u32> {
     let (blob, list, image) = (&task.blob, &mut task.list, &mut task.image);
     let spare = &mut task.spare;
-    let header = second::read_header(blob)?;
-    second::prepare_mask(blob, &header, false, &task.kept, spare)?;
-    let ranges = second::read_ranges(blob, &header)?;
-    let (blocks, _) = second::walk(blob, &header, &ranges, spare, list)?;
+    let header = plain::read_header(blob)?;
+    plain::prepare_mask(blob, &header, false, &task.kept, spare)?;
+    let ranges = plain::read_ranges(blob, &header)?;
+    let (blocks, _) = plain::walk(blob, &header, &ranges, spare, list)?;
     for number in 0..blocks {
-        second::fill(blob, &header, &ranges, spare, list, number, image)?;
+        plain::fill(blob, &header, &ranges, spare, list, number, image)?;
     }
     Ok(())
 }
@@ -319,7 +319,7 @@ fn measured_proved_walk(task: &mut Task) -> Result<(), u32> {
 fn measured_plain_walk(task: &mut Task) -> Result<(usize, usize), u32> {
     let ranges = task.ranges.as_ref().expect("a task prepared for a walk");
     let list = &mut task.list;
-    second::walk(&task.blob, &task.header, ranges, &task.spare, list)
+    plain::walk(&task.blob, &task.header, ranges, &task.spare, list)
 }
 
 #[no_mangle]
@@ -356,7 +356,7 @@ fn measured_plain_reuse(task: &mut Task) -> Result<Mask, u32> {
 
 fn plain_mask(task: &mut Task, reuse: bool) -> Result<Mask, u32> {
     let (header, kept) = (&task.header, &task.kept);
-    second::prepare_mask(&task.blob, header, reuse, kept, &mut task.spare)
+    plain::prepare_mask(&task.blob, header, reuse, kept, &mut task.spare)
 }
 
 #[cfg(feature = "esri")]
@@ -383,7 +383,7 @@ mod tests {
         let sort = Sort::plain(3, 0.5, Body::Blocks).with_holes();
         for depth in [1, 2] {
             let blob = blob(&Sort { depth, ..sort }, 50, 70);
-            for way in [Way::Read, Way::Walk, Way::Runs, Way::Reuse] {
+            for way in Way::ALL {
                 let [proved, plain] =
                     [Reader::Proved, Reader::Plain].map(|reader| done(&blob, way, reader));
                 assert_eq!(proved.written(), plain.written(), "{way:?}");

@@ -5,6 +5,8 @@ use std::error::Error;
 #[derive(Debug)]
 pub struct Words<'a> {
     pub folder: Option<&'a str>,
+    /// Images of both float kinds in place of those of all.
+    pub floats: bool,
     /// Only images with this in their names.
     pub only: Option<&'a str>,
     pub rounds: usize,
@@ -20,6 +22,7 @@ impl<'a> Words<'a> {
     pub fn of(words: &[&'a str]) -> Result<Words<'a>, Box<dyn Error>> {
         let mut read = Words {
             folder: None,
+            floats: false,
             only: None,
             rounds: 15,
             plot: None,
@@ -35,6 +38,7 @@ impl<'a> Words<'a> {
             };
             match word {
                 "--folder" => read.folder = Some(value()?),
+                "--floats" => read.floats = true,
                 "--only" => read.only = Some(value()?),
                 "--rounds" => {
                     let rounds = value()?;
@@ -63,7 +67,8 @@ mod tests {
     #[test]
     fn known_and_unknown() {
         let words = Words::of(&["--rounds", "3", "--no-counts", "--plot", "x.svg"]).unwrap();
-        assert!(words.rounds == 3 && words.times && !words.counts);
+        assert!(words.rounds == 3 && words.times && !words.counts && !words.floats);
+        assert!(Words::of(&["--floats"]).unwrap().floats);
         assert_eq!(words.plot, Some("x.svg"));
         assert_eq!(words.folder, None);
         for wrong in [

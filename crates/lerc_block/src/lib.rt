@@ -85,8 +85,7 @@ fn read_level(
 fn step(q: u32, kind: u32, error: u64, top: u64, offset: u64) -> StoredAnswer
     ensures { λ r. ⌜ storedSaid r ≡ stepWord kind error top offset q ⌝ }
 {
-    let v = lerc_numeric::plus(offset, lerc_numeric::scale(error, q));
-    lerc_samples::stored(lerc_numeric::minimum(v, top), kind)
+    lerc_samples::stored(lerc_numeric::step(offset, error, top, q), kind)
 }
 
 // the words of all counts, which end at `next`; the first that does not fit decides

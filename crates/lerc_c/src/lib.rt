@@ -1,6 +1,7 @@
 // The reader for C: slices are a pointer and a length, records are arrays of 64-bit numbers.
-// Each entry returns 0, or the number of the refusal; after a refusal the records are as they were.
+// Each entry that can refuse returns 0, or the number of the refusal; after a refusal the records are as they were.
 ghost use mathlib.Core.Path.{_≡_};
+ghost use mathlib.Core.Bool.{true};
 ghost use Rattle.lerc_numeric.specs.Numeric.{sum, scaled};
 ghost use Rattle.lerc_numeric.specs.Kinds.{valueOf, narrowed};
 ghost use Rattle.lerc_c.specs.Entries as Entry;
@@ -205,6 +206,14 @@ pub extern "C" fn lerc2_fill(
     };
     said[0] = words as u64;
     0
+}
+
+// Whether this thread's float unit is as the language asks; `mix` is 0, or any word to try other operands.
+#[no_mangle]
+pub extern "C" fn lerc2_float_ready(mix: u64) -> bool
+    ensures { λ r. ⌜ r ≡ true ⌝ }
+{
+    lerc_numeric::float_ready(mix)
 }
 
 // a + b, both binary64 words

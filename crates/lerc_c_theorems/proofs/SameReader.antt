@@ -232,6 +232,7 @@ same-reader = record {
   fill = fill-same;
   read = read-same;
   stored = stored-same;
+  float-ready = λ k j a r q x y p s. p ∙ sym s;
   sum = λ k j a r q x y p s. p ∙ sym s;
   scaled = λ k j a r q x y p s. p ∙ sym s;
   narrow = λ k j a r q x y p s. p ∙ sym s;

@@ -12,6 +12,7 @@ use Rattle.lerc_c.proofs.lerc2_read_ranges.Reads as c-read-ranges
 use Rattle.lerc_c.proofs.lerc2_walk.Reads as c-walk
 use Rattle.lerc_c.proofs.lerc2_fill.Reads as c-fill
 use Rattle.lerc_c.proofs.lerc2_read.Reads as c-read
+use Rattle.lerc_c.proofs.lerc2_float_ready.Reads as c-ready
 use Rattle.lerc_c.proofs.lerc2_sum.Reads as c-sum
 use Rattle.lerc_c.proofs.lerc2_scaled.Reads as c-scaled
 use Rattle.lerc_c.proofs.lerc2_narrow.Reads as c-narrow
@@ -34,6 +35,7 @@ pub record NoRoomInC : Type 0 where
   pub walk : Writes {S = List ℕ × List ℕ} c-walk.Pre c-walk.Post (λ o. (o .1 .1 .1 .1 .0 .now, o .1 .1 .1 .1 .1 .0 .now))
   pub fill : Writes {S = List ℕ × List ℕ} c-fill.Pre c-fill.Post (λ o. (o .1 .1 .1 .1 .1 .1 .0 .now, o .1 .1 .1 .1 .1 .1 .1 .0 .now))
   pub read : Writes c-read.Pre c-read.Post c-lent
+  pub float-ready : Answers c-ready.Pre c-ready.Post
   pub sum : Answers c-sum.Pre c-sum.Post
   pub scaled : Answers c-scaled.Pre c-scaled.Post
   pub narrow : Answers c-narrow.Pre c-narrow.Post

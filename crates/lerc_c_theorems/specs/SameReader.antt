@@ -13,6 +13,7 @@ use Rattle.lerc_numeric.proofs.plus.Reads as plus
 use Rattle.lerc_numeric.proofs.scale.Reads as scale
 use Rattle.lerc_numeric.proofs.narrow.Reads as narrow
 use Rattle.lerc_numeric.proofs.number.Reads as number
+use Rattle.lerc_numeric.proofs.float_ready.Reads as float-ready
 use Rattle.lerc_samples.specs.declared.StoredAnswer.{StoredAnswer}
 use Rattle.lerc_samples.specs.Samples.{storedSaid}
 use Rattle.lerc_header.specs.declared.Header.{Header}
@@ -33,6 +34,7 @@ use Rattle.lerc.specs.declared.ReadAnswer.{ReadAnswer}
 use Rattle.lerc.specs.Read.{Lent, ReadTold, readSaid}
 use Rattle.lerc_c.specs.Records.{headerRoom, headerNumbers, rangesRoom, rangesNumbers}
 use Rattle.lerc_c.specs.Entries.{readRoom}
+use Rattle.lerc_c.proofs.lerc2_float_ready.Reads as c-ready
 use Rattle.lerc_c.proofs.lerc2_sum.Reads as c-sum
 use Rattle.lerc_c.proofs.lerc2_scaled.Reads as c-scaled
 use Rattle.lerc_c.proofs.lerc2_narrow.Reads as c-narrow
@@ -77,9 +79,9 @@ wholeNumbers w = headerNumbers (w .header) ++ (w .blocks ∷ w .end ∷ [])
 abbrev pub alone : ℕ → List ℕ
 alone w = w ∷ []
 
--- two functions of the same parameters that answer the same number
-abbrev pub SameNumber : {K J A O P : Type 0} → (K → A → ℕ → O → Type 0) → (J → A → ℕ → P → Type 0) → Type 0
-SameNumber {K} {J} {A} {O} {P} Post Other = (k : K) (j : J) (a : A) (r q : ℕ) (x : O) (y : P) → Post k a r x → Other j a q y → r ≡ q
+-- two functions of the same parameters that answer the same
+abbrev pub SameAnswer : {K J A R O P : Type 0} → (K → A → R → O → Type 0) → (J → A → R → P → Type 0) → Type 0
+SameAnswer {K} {J} {A} {R} {O} {P} Post Other = (k : K) (j : J) (a : A) (r q : R) (x : O) (y : P) → Post k a r x → Other j a q y → r ≡ q
 
 -- ---- entry by entry
 
@@ -102,8 +104,9 @@ pub record SameReader : Type 0 where
       → (answer : ReadAnswer) (left : Lent) → ReadCall b reuse answer old left → Tells (readSaid answer) wholeNumbers n said₀ said₁ × (new ≡ left)
   pub stored : (v kind n : ℕ) (said₀ said₁ : List ℕ) → StoredInC v kind n said₀ said₁ → 1 ≤ length said₀
       → (answer : StoredAnswer) → StoredCall v kind answer → Tells (storedSaid answer) alone n said₀ said₁
-  -- the arithmetic
-  pub sum : SameNumber c-sum.Post plus.Post
-  pub scaled : SameNumber c-scaled.Post scale.Post
-  pub narrow : SameNumber c-narrow.Post narrow.Post
-  pub number : SameNumber c-number.Post number.Post
+  -- the arithmetic, and whether a thread's float unit is ready for it
+  pub float-ready : SameAnswer c-ready.Post float-ready.Post
+  pub sum : SameAnswer c-sum.Post plus.Post
+  pub scaled : SameAnswer c-scaled.Post scale.Post
+  pub narrow : SameAnswer c-narrow.Post narrow.Post
+  pub number : SameAnswer c-number.Post number.Post

@@ -17,10 +17,11 @@ use Rattle.lerc_numeric.proofs.Sums.{sum-comm, sum-alike, sum-apart, sum-cancel
 use Rattle.lerc_numeric.proofs.Right.{nearest64, even64, infinite64, finite64, nearest32, even32, infinite32, finite32, own64, own32}
 use Rattle.lerc_numeric.proofs.Monotone.{less-sides, scaled-sign, sum-mono-right, less-asym, less-trans}
 use Rattle.lerc_numeric.proofs.NearestSum.{sum-nearest, sum-even, sum-own}
+use Rattle.lerc_numeric.proofs.ByMachine.{machine-sum, machine-scaled, machine-less}
 use Rattle.lerc_numeric.proofs.Fits.{cut-integer, held-cut, cut-held}
 use Rattle.lerc_numeric.proofs.RoundTrip.{narrow-wide}
 use Rattle.lerc_overflow.proofs.Steps.{is-finite}
-use Rattle.lerc_claims.specs.Arithmetic.{Rounding, Sums, NearestSums, InfiniteSums, Order, Conversions, Computes, Arithmetic}
+use Rattle.lerc_claims.specs.Arithmetic.{Rounding, Sums, NearestSums, InfiniteSums, Order, ByMachine, Conversions, Computes, Arithmetic}
 
 sum-infinite : (a b : ℕ) → infinite a ≡ true → finite b ≡ true → (sum a b ≡ a) × (sum b a ≡ a)
 sum-infinite a b i f = let x = absorbs-both a b i (is-finite b f) in (sum-left a b x, sum-right b a x)
@@ -102,6 +103,13 @@ order = record {
   less-trans = less-trans;
 }
 
+by-machine : ByMachine
+by-machine = record {
+  machine-sum = machine-sum;
+  machine-scaled = λ a q h l. machine-scaled a q h (omega arith);
+  machine-less = machine-less;
+}
+
 conversions : Conversions
 conversions = record {
   narrowed-is = narrowed-is;
@@ -120,7 +128,9 @@ computes = record {
   less = λ k a r x p. p;
   same = λ k a r x p. p;
   minimum = λ k a r x p. p;
+  step = λ k a r x p. p;
+  float-ready = λ k a r x p. p;
 }
 
 pub arithmetic : Arithmetic
-arithmetic = record { rounding = rounding; sums = sums; nearest-sums = nearest-sums; infinite-sums = infinite-sums; order = order; conversions = conversions; computes = computes }
+arithmetic = record { rounding = rounding; sums = sums; nearest-sums = nearest-sums; infinite-sums = infinite-sums; order = order; by-machine = by-machine; conversions = conversions; computes = computes }

@@ -7,6 +7,8 @@ use mathlib.Core.Path.{_≡_}
 use mathlib.Core.Logic.{_≢_}
 use mathlib.Core.Bool.{Bool·beq, true, false, cond}
 use lib.Dec.{ltb}
+use lib.IntN.{pos}
+use lib.Ieee.{binary64, add, mul, lt, ofInt, ofBits, toBits}
 use Rattle.lerc_words.specs.Res.{ok}
 use Rattle.lerc_numeric.specs.Numeric.{negative, field, finite, infinite, mag, bits64, bits32, signed, absorbs, sum, scaled, less, lesser}
 use Rattle.lerc_numeric.specs.Numeric as Numeric
@@ -19,6 +21,8 @@ use Rattle.lerc_numeric.proofs.to_integer.Reads as integers
 use Rattle.lerc_numeric.proofs.less.Reads as compares
 use Rattle.lerc_numeric.proofs.same.Reads as equates
 use Rattle.lerc_numeric.proofs.minimum.Reads as chooses
+use Rattle.lerc_numeric.proofs.step.Reads as moves
+use Rattle.lerc_numeric.proofs.float_ready.Reads as readies
 
 -- how far two numbers are apart
 abbrev pub distance : ℕ → ℕ → ℕ
@@ -100,6 +104,13 @@ pub record Order : Type 0 where
   pub less-asym : (a b : ℕ) → less a b ≡ true → less b a ≡ false
   pub less-trans : (a b c : ℕ) → less a b ≡ true → less b c ≡ true → less a c ≡ true
 
+pub record ByMachine : Type 0 where
+  -- "the language's own binary64 add and multiply, each rounding once, .. agree bit for bit with the definitions": all finite words, zeros, subnormal ones, ties and overflow included, with twice any count of 32 bits
+  pub machine-sum : (a b : ℕ) → field a < 2047 → field b < 2047 → toBits binary64 (add binary64 (ofBits binary64 a) (ofBits binary64 b)) ≡ sum a b
+  pub machine-scaled : (a q : ℕ) → field a < 2047 → q < 2 ^ 32 → toBits binary64 (mul binary64 (ofBits binary64 a) (ofInt binary64 (pos (2 * q)))) ≡ scaled a q
+  -- so does its order, of a sum, which may be infinite, and a finite word
+  pub machine-less : (w t : ℕ) → IsNumber w → field t < 2047 → lt (ofBits binary64 w) (ofBits binary64 t) ≡ less w t
+
 pub record Conversions : Type 0 where
   -- "6 rounds to binary32", of a finite value; what is not finite is converted as `narrowed` says
   pub narrowed-is : (w : ℕ) → field w < 2047 → narrowed w ≡ cond (negative w) (2 ^ 31) 0 + bits32 (mag w)
@@ -120,6 +131,10 @@ pub record Computes : Type 0 where
   pub less : (k : _) (a : _) (r : _) (x : _) → compares.Post k a r x → r ≡ Numeric.less (a .0) (a .1 .0)
   pub same : (k : _) (a : _) (r : _) (x : _) → equates.Post k a r x → r ≡ Numeric.same (a .0) (a .1 .0)
   pub minimum : (k : _) (a : _) (r : _) (x : _) → chooses.Post k a r x → r ≡ lesser (a .0) (a .1 .0)
+  -- "the lesser of sum(offset, scaled(error, q)) and the depth's maximum", of offset, error, maximum and q
+  pub step : (k : _) (a : _) (r : _) (x : _) → moves.Post k a r x → r ≡ lesser (sum (a .0) (scaled (a .1 .0) (a .1 .1 .1 .0))) (a .1 .1 .0)
+  -- a thread that is told otherwise has a float unit that is not as the language says
+  pub float-ready : (k : _) (a : _) (r : _) (x : _) → readies.Post k a r x → r ≡ true
 
 pub record Arithmetic : Type 0 where
   pub rounding : Rounding
@@ -127,5 +142,6 @@ pub record Arithmetic : Type 0 where
   pub nearest-sums : NearestSums
   pub infinite-sums : InfiniteSums
   pub order : Order
+  pub by-machine : ByMachine
   pub conversions : Conversions
   pub computes : Computes

@@ -11,7 +11,7 @@ use lib.Dec.{ltb, eqb}
 use Rattle.lerc_numeric.specs.Numeric.{mag, less, same}
 use Rattle.lerc_numeric.proofs.Magnitude.{mag-lt, mag-le, mag-eq}
 
-ltb-same : (a b x y : ℕ) → (a < b → x < y) → (b ≤ a → y ≤ x) → ltb a b ≡ ltb x y
+pub ltb-same : (a b x y : ℕ) → (a < b → x < y) → (b ≤ a → y ≤ x) → ltb a b ≡ ltb x y
 ltb-same a b x y f g = go (decLt a b)
   where
     go : Dec (a < b) → ltb a b ≡ ltb x y

@@ -18,3 +18,7 @@ pub mod Monotone
 pub mod NearestSum
 pub mod Fits
 pub mod RoundTrip
+pub mod Rounds
+pub mod ByMachine
+pub mod Stepping
+pub mod OneSum

@@ -12,3 +12,7 @@ jam v n = v / 2 ^ n + min (1 - v / 2 ^ n % 2) (v % 2 ^ n)
 -- a binary64 as a binary32 without its sign
 unfoldable pub unsigned32 : ℕ → ℕ
 unsigned32 w = cond (eqb (field w) 2047) (255 * 2 ^ 23 + w % 2 ^ 52 / 2 ^ 29) (bits32 (mag w))
+
+-- 2 ^ 991 as a word: times twice a count of 32 bits an error below it is finite
+abbrev pub errorEnd : ℕ
+errorEnd = 2014 * 2 ^ 52

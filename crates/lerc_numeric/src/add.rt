@@ -3,6 +3,7 @@ ghost use mathlib.Core.Path.{_≡_};
 ghost use Prim.Native.Nat.{_+_, _-_, _*_, _%_, _^_, _≤_, _<_, min};
 ghost use Rattle.lerc_numeric.specs.Numeric.{bits64, sig, exp, mag, sum};
 ghost use Rattle.lerc_numeric.specs.Inside as Inside;
+use super::machine;
 use super::parts::exponent;
 use super::parts::significand;
 use super::round::INFINITY;
@@ -59,8 +60,19 @@ fn rest(a: u64, b: u64) -> u64
     pack(t.big - t.small, t.e)
 }
 
-// a + b. Of one sign an infinity needs no test: whatever it is added to, the total is rounded to it.
+// a + b, by the machine where both are finite
 pub fn plus(a: u64, b: u64) -> u64
+    ensures { λ r. ⌜ r ≡ sum a b ⌝ }
+{
+    if machine::takes(a) & machine::takes(b) {
+        machine::plus(a, b)
+    } else {
+        plus_words(a, b)
+    }
+}
+
+// Over whole numbers. Of one sign an infinity needs no test: whatever it is added to, the total is rounded to it.
+pub(crate) fn plus_words(a: u64, b: u64) -> u64
     ensures { λ r. ⌜ r ≡ sum a b ⌝ }
 {
     let x = a % 0x8000_0000_0000_0000;

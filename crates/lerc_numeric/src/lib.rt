@@ -6,10 +6,13 @@ use lerc_words::Refusal;
 
 mod add;
 mod kinds;
+mod machine;
 mod order;
 mod parts;
+mod ready;
 mod round;
 mod single;
+mod steps;
 mod times;
 
 pub use add::plus;
@@ -19,7 +22,9 @@ pub use order::is_finite;
 pub use order::less;
 pub use order::minimum;
 pub use order::same;
+pub use ready::float_ready;
 pub use single::narrow;
+pub use steps::step;
 pub use times::scale;
 
 pub enum IntegerAnswer {

@@ -31,10 +31,18 @@ fn unsigned(v: u64) -> u64
     }
 }
 
-// the nearest binary32; too large becomes infinity
+// The nearest binary32; too large becomes infinity. From 2^-126 on and below 2^128 one sum rounds field and digits at once:
+// half a unit less one is added, and one more where the last digit kept is odd.
 pub fn narrow(v: u64) -> u32
     ensures { λ r. ⌜ r ≡ narrowed v ⌝ }
 {
+    let x = v % 0x8000_0000_0000_0000;
+    if 0x3810_0000_0000_0000 <= x {
+        if x < 0x47f0_0000_0000_0000 {
+            let y = (x + 0xfff_ffff + x / 0x2000_0000 % 2) / 0x2000_0000;
+            return (v / 0x8000_0000_0000_0000 * 0x8000_0000 + (y - 0x1_c000_0000)) as u32;
+        }
+    }
     (v / 0x8000_0000_0000_0000 * 0x8000_0000 + unsigned(v)) as u32
 }
 

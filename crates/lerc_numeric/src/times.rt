@@ -3,6 +3,7 @@ ghost use mathlib.Core.Path.{_≡_};
 ghost use Prim.Native.Nat.{_+_, _*_, _^_, _<_};
 ghost use Rattle.lerc_numeric.specs.Numeric.{scaled};
 ghost use Rattle.lerc_numeric.specs.Inside as Inside;
+use super::machine;
 use super::parts::exponent;
 use super::parts::significand;
 use super::round::digits;
@@ -20,8 +21,19 @@ fn product(m: u64, q: u64, i: u64) -> u64
     if r == 0 { top } else { top + (1 - top % 2) }
 }
 
-// 2 * q * a
+// 2 * q * a, by the machine where a is finite
 pub fn scale(a: u64, q: u32) -> u64
+    ensures { λ r. ⌜ r ≡ scaled a q ⌝ }
+{
+    if machine::takes(a) {
+        machine::scale(a, q)
+    } else {
+        scale_words(a, q)
+    }
+}
+
+// over whole numbers
+pub(crate) fn scale_words(a: u64, q: u32) -> u64
     ensures { λ r. ⌜ r ≡ scaled a q ⌝ }
 {
     let m = significand(a);

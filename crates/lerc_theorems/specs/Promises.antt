@@ -31,6 +31,8 @@ use Rattle.lerc_numeric.proofs.size.Reads as size
 use Rattle.lerc_numeric.proofs.number.Reads as number
 use Rattle.lerc_numeric.proofs.narrow.Reads as narrow
 use Rattle.lerc_numeric.proofs.to_integer.Reads as to-integer
+use Rattle.lerc_numeric.proofs.step.Reads as step
+use Rattle.lerc_numeric.proofs.float_ready.Reads as float-ready
 use Rattle.lerc_samples.proofs.OffsetAnswer.refusal.Reads as offset-refusal
 use Rattle.lerc_samples.proofs.SampleAnswer.refusal.Reads as sample-refusal
 use Rattle.lerc_samples.proofs.StoredAnswer.refusal.Reads as stored-refusal
@@ -153,6 +155,8 @@ pub record NoRoom : Type 0 where
   pub number : Answers number.Pre number.Post
   pub narrow : Answers narrow.Pre narrow.Post
   pub to-integer : Answers to-integer.Pre to-integer.Post
+  pub step : Answers step.Pre step.Post
+  pub float-ready : Answers float-ready.Pre float-ready.Post
   -- lerc_samples
   pub offset-refusal : Answers offset-refusal.Pre offset-refusal.Post
   pub sample-refusal : Answers sample-refusal.Pre sample-refusal.Post

@@ -64,6 +64,9 @@ impl Published {
 }
 
 fn main() -> Result<(), Box<dyn std::error::Error>> {
+    if !lerc2::float_ready() {
+        return Err("the float unit rounds otherwise or flushes small numbers".into());
+    }
     let mut blob = Vec::new();
     std::io::stdin().read_to_end(&mut blob)?;
     let (mut published, mut stage) = (Published::default(), Stage::default());

@@ -14,6 +14,8 @@
 //! `p` at depth `d` stands at `p * depth + d`; [`Kind::number`] gives its
 //! number. Cells of pixels that are not valid are not written.
 //!
+//! A thread that has changed its float unit must not read: [`float_ready`].
+//!
 //! ```
 //! let blob = [
 //!     &b"Lerc2 "[..], &4u32.to_le_bytes(), &0u32.to_le_bytes(), // key, version, checksum
@@ -49,7 +51,7 @@ mod steps;
 #[allow(unsafe_code)]
 pub mod raw;
 
-pub use arithmetic::{narrow, scaled, sum};
+pub use arithmetic::{float_ready, narrow, scaled, sum};
 pub use header::{read_header, Header, Kind};
 pub use mask::{is_valid, prepare_mask, Mask};
 pub use ranges::{read_ranges, Ranges, MOST_DEPTH};

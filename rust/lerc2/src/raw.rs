@@ -1,7 +1,7 @@
 //! The entries of the C interface as they are, with slices in place of
 //! pointers and lengths.
 //!
-//! Each returns 0 or the number of a refusal. Records are slices of 64-bit
+//! Those that can refuse return 0 or the number of a refusal. Records are slices of 64-bit
 //! numbers: a header 11, ranges 130, what an entry says 1, 2 or 13. A record
 //! that is too short is refused 5, then a number that its field cannot hold 3,
 //! both before anything else. After a refusal the records are as they were.
@@ -98,6 +98,7 @@ mod c {
             said: *mut u64,
             said_n: usize,
         ) -> u32;
+        pub fn lerc2_float_ready(mix: u64) -> bool;
         pub fn lerc2_sum(a: u64, b: u64) -> u64;
         pub fn lerc2_scaled(a: u64, q: u32) -> u64;
         pub fn lerc2_narrow(v: u64) -> u32;
@@ -238,6 +239,12 @@ pub fn read(
             said.len(),
         )
     }
+}
+
+/// Whether the calling thread's float unit rounds as the reader needs. `mix`
+/// is 0; another word tries other operands, which may tell less.
+pub fn float_ready(mix: u64) -> bool {
+    unsafe { c::lerc2_float_ready(mix) }
 }
 
 /// The sum of two binary64 numbers, as bits.

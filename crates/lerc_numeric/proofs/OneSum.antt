@@ -1,0 +1,51 @@
+-- Rounding to a normal binary32 by one sum over the word.
+-- Assumes nothing.
+use mathlib.Core.Path.{_≡_, refl, sym, _∙_}
+use Prim.Native.Nat.{ℕ, suc, _+_, _-_, _*_, _/_, _%_, _^_, _≤_, _<_}
+use native.Mathlib.Decide.{decLt}
+use native.Mathlib.Omega.{arith}
+use lib.Ieee.Nearest.{closest}
+use Rattle.lerc_numeric.specs.Numeric.{sig, exp}
+use Rattle.lerc_numeric.specs.Inside.{unsigned32}
+use Rattle.lerc_numeric.proofs.Closest.{near-down, near-up, near-tie}
+use Rattle.lerc_numeric.proofs.Binary32.{narrow-normal}
+
+-- half a unit less one, and one more where the last digit kept is odd
+abbrev pub oneSum : ℕ → ℕ
+oneSum x = (x + (2 ^ 28 - 1) + x / 2 ^ 29 % 2) / 2 ^ 29
+
+nearest-sum : (m : ℕ) → closest m (2 ^ 29) ≡ oneSum m
+nearest-sum m = go (decLt (m % 2 ^ 29 * 2) (2 ^ 29)) (decLt (2 ^ 29) (m % 2 ^ 29 * 2))
+  where
+    go : Dec (m % 2 ^ 29 * 2 < 2 ^ 29) → Dec (2 ^ 29 < m % 2 ^ 29 * 2) → closest m (2 ^ 29) ≡ oneSum m
+    go (yes l) k = sym (near-down m (2 ^ 29) (m % 2 ^ 29) (2 ^ 29) refl refl l) ∙ omega arith
+    go (no g) (yes k) = sym (near-up m (2 ^ 29) (m % 2 ^ 29) (2 ^ 29) refl refl k) ∙ omega arith
+    go (no g) (no k) =
+        let a : 2 ^ 29 ≤ m % 2 ^ 29 * 2 = omega arith in
+        let b : m % 2 ^ 29 * 2 ≤ 2 ^ 29 = omega arith in
+        sym (near-tie m (2 ^ 29) (m % 2 ^ 29) (2 ^ 29) refl refl a b) ∙ omega arith
+
+-- the field stands above the digits and is not rounded
+beside : (g t : ℕ) → oneSum (suc g * 2 ^ 52 + t) ≡ g * 2 ^ 23 + oneSum (2 ^ 52 + t)
+beside g t =
+    let last : (suc g * 2 ^ 52 + t) / 2 ^ 29 % 2 ≡ (2 ^ 52 + t) / 2 ^ 29 % 2 = omega arith in
+    rw (last) (apart ((2 ^ 52 + t) / 2 ^ 29 % 2))
+  where
+    apart : (z : ℕ) → (suc g * 2 ^ 52 + t + (2 ^ 28 - 1) + z) / 2 ^ 29 ≡ g * 2 ^ 23 + (2 ^ 52 + t + (2 ^ 28 - 1) + z) / 2 ^ 29
+    apart z = omega arith
+
+-- with x for the magnitude's bits of w, from 2 ^ -126 on and below 2 ^ 128
+module _ (w x : ℕ) (e : x ≡ w % 2 ^ 63) (lo : 897 * 2 ^ 52 ≤ x) (hi : x < 1151 * 2 ^ 52) where
+  parts : oneSum x ≡ exp w * 2 ^ 23 + closest (sig w) (2 ^ 29)
+  parts =
+      let field-on : x ≡ suc (exp w) * 2 ^ 52 + w % 2 ^ 52 = omega arith in
+      let digits : sig w ≡ 2 ^ 52 + w % 2 ^ 52 = omega arith in
+      rw (field-on, digits, nearest-sum (2 ^ 52 + w % 2 ^ 52)) (beside (exp w) (w % 2 ^ 52))
+
+  pub one-sum : oneSum x - 896 * 2 ^ 23 ≡ unsigned32 w
+  one-sum =
+      let normal = narrow-normal w (sig w) (exp w) refl refl (λ z. absurd (omega arith)) (closest (sig w) (2 ^ 29)) (omega arith) refl (omega arith) in
+      moved (closest (sig w) (2 ^ 29)) (exp w) (unsigned32 w) (omega arith) parts normal
+    where
+      moved : (c g u : ℕ) → 896 ≤ g → oneSum x ≡ g * 2 ^ 23 + c → (g - 896) * 2 ^ 23 + c ≡ u → oneSum x - 896 * 2 ^ 23 ≡ u
+      moved c g u l p n = rw (p) (omega (arith, l, n))
