@@ -8,7 +8,7 @@ use crate::random::Random;
 use crate::sorts::{sum_outcome, INFINITY, SIGN};
 
 /// Errors below it go to the machine: no count makes their product infinite.
-pub const SMALL: u64 = 0x7DE0_0000_0000_0000;
+pub const ERROR_END: u64 = 0x7DE0_0000_0000_0000;
 
 /// The first error that a header may not have.
 const TOO_LARGE: u64 = 0x7FE0_0000_0000_0000;
@@ -58,7 +58,7 @@ impl Steps {
         let (offset, product) = overflowing(random);
         // A half of the product, for a count of 1.
         let error = product - (1 << 52);
-        if small == (error < SMALL) {
+        if small == (error < ERROR_END) {
             (self.offset, self.error, self.counts[0]) = (offset, error, 1);
         }
     }
@@ -156,8 +156,8 @@ impl Steps {
 
 fn any_error(random: &mut Random, small: bool) -> u64 {
     if small {
-        return (finite(random) & !SIGN).min(SMALL - 1);
+        return (finite(random) & !SIGN).min(ERROR_END - 1);
     }
-    let any = SMALL + random.word() % (TOO_LARGE - SMALL);
-    random.pick(&[SMALL, any, any, any, TOO_LARGE - 1])
+    let any = ERROR_END + random.word() % (TOO_LARGE - ERROR_END);
+    random.pick(&[ERROR_END, any, any, any, TOO_LARGE - 1])
 }
