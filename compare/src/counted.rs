@@ -53,21 +53,26 @@ pub fn counted(blob: &[u8], mask: &[u8], starts: &[usize]) -> Vec<Counted> {
 
 /// None if the block has no counts.
 fn offset_and_counts(blob: &[u8], start: usize, kind: u32) -> Option<(u64, Vec<u32>)> {
-    let flag = blob[start];
-    if flag % 4 != 1 {
+    if blob[start] % 4 != 1 {
         return None;
     }
-    let kind = OFFSET_KINDS[kind as usize][usize::from(flag / 64)];
+    let (offset, end) = offset_at(blob, start, kind);
+    let mut counts = [0; MOST_COUNTS];
+    let (n, _) = packed_counts(blob, end, &mut counts).expect("it was read");
+    Some((offset, counts[..n].to_vec()))
+}
+
+/// The offset of a block that has one, and where it ends.
+pub(crate) fn offset_at(blob: &[u8], start: usize, kind: u32) -> (u64, usize) {
+    let kind = OFFSET_KINDS[kind as usize][usize::from(blob[start] / 64)];
     let end = start + 1 + word_size(kind);
     let mut word = [0; 8];
     word[..word_size(kind)].copy_from_slice(&blob[start + 1..end]);
-    let mut counts = [0; MOST_COUNTS];
-    let (n, _) = packed_counts(blob, end, &mut counts).expect("it was read");
-    Some((number(u64::from_le_bytes(word), kind), counts[..n].to_vec()))
+    (number(u64::from_le_bytes(word), kind), end)
 }
 
 /// The valid pixels of a tile, by its number.
-fn pixels(header: &Header, mask: &[u8], tile: usize) -> Vec<usize> {
+pub(crate) fn pixels(header: &Header, mask: &[u8], tile: usize) -> Vec<usize> {
     let (rows, columns) = (header.rows as usize, header.columns as usize);
     let side = header.side as usize;
     let across = columns.div_ceil(side);

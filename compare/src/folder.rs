@@ -2,6 +2,7 @@
 //! long enough, and each block filled once.
 
 use crate::case::{Case, Op};
+use crate::paths::Paths;
 use crate::sides::{plain, proved, ranges_record, record};
 use crate::table::Table;
 use lerc2::raw;
@@ -23,11 +24,12 @@ pub fn files(folder: &Path) -> io::Result<Vec<PathBuf>> {
 }
 
 /// The first call on which the sides differ.
-pub fn compare(blob: &[u8], table: &mut Table) -> Result<(), Box<Case>> {
+pub fn compare(blob: &[u8], table: &mut Table, paths: &mut Paths) -> Result<(), Box<Case>> {
     let mut both = |case: &Case| {
-        let after = proved(case);
+        let (after, other) = (proved(case), plain(case));
         table.count(case.op, after.answer);
-        if after == plain(case) {
+        if after == other {
+            paths.count(case, &other);
             Ok(after)
         } else {
             Err(Box::new(case.clone()))

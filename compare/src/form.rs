@@ -228,6 +228,19 @@ impl Wanted {
             ..Wanted::any(random, esri)
         }
     }
+
+    /// Tiles of eight columns, most of them squares whose rows are bytes of
+    /// the mask.
+    pub fn in_eights(random: &mut Random, esri: bool) -> Wanted {
+        Wanted {
+            rows: random.pick(&[3, 8, 8, 13, 16, 24]),
+            columns: 8 * random.between(1, 4),
+            depth: random.pick(&[1, 1, 1, 2]),
+            side: 8,
+            body: Body::Blocks,
+            ..Wanted::any(random, esri)
+        }
+    }
 }
 
 fn geometry(random: &mut Random) -> (usize, usize, usize) {
@@ -252,10 +265,10 @@ fn geometry(random: &mut Random) -> (usize, usize, usize) {
 
 /// A form of any sort.
 pub fn any_form(random: &mut Random, esri: bool) -> Form {
-    let wanted = if random.once_in(8) {
-        Wanted::overflowing(random, esri)
-    } else {
-        Wanted::any(random, esri)
+    let wanted = match random.below(8) {
+        0 => Wanted::overflowing(random, esri),
+        1 => Wanted::in_eights(random, esri),
+        _ => Wanted::any(random, esri),
     };
     form(random, wanted)
 }

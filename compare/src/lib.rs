@@ -5,6 +5,7 @@
 //! slice must stand.
 
 pub mod arithmetic;
+pub mod block_paths;
 pub mod case;
 pub mod counted;
 pub mod damage;
@@ -14,6 +15,7 @@ pub mod folder;
 pub mod form;
 mod lent;
 pub mod operands;
+pub mod paths;
 pub mod plan;
 pub mod random;
 pub mod run;

@@ -1,5 +1,6 @@
 use compare::arithmetic::{self, PROVED};
 use compare::folder;
+use compare::paths::Paths;
 use compare::run::{Failure, Run};
 use compare::sides::{plain, proved};
 use compare::store;
@@ -28,7 +29,10 @@ compare esri [--overflow] [--blobs N] [--seed S]
 compare esri FOLDER..
     the same with every NAME.lerc2 of the folders
 
-Exit status: 0 no disagreement, 1 some, 2 wrong words, or it could not be run.
+run, folder and esri count accepted blocks, tiles and bodies by path.
+
+Exit status: 0 no disagreement, 1 some, 2 wrong words, or it could not be run,
+or a run of 200,000 calls or more left a path out.
 ";
 
 fn main() -> ExitCode {
@@ -143,6 +147,7 @@ fn run(rest: &[&str]) -> Result<bool, Box<dyn Error>> {
     let report = run.go(proved, plain);
     println!("\n{}", report.table.text());
     println!("Accepted whole reads:\n\n{}", report.bodies.text());
+    paths_shown(&report.paths);
     println!(
         "{} calls on {} blobs in {:.0} s, {} disagreements",
         grouped(report.table.total()),
@@ -154,7 +159,11 @@ fn run(rest: &[&str]) -> Result<bool, Box<dyn Error>> {
         let name = format!("{}-{}", run.seed, failure.blob);
         save(&out, &name, failure)?;
     }
-    Ok(report.failures.is_empty())
+    Ok(report.verdict()?)
+}
+
+fn paths_shown(paths: &Paths) {
+    println!("Blocks, tiles and bodies by path:\n\n{}", paths.text());
 }
 
 fn arithmetic_compared(rest: &[&str]) -> Result<bool, Box<dyn Error>> {
@@ -200,11 +209,12 @@ fn replay(file: &str) -> Result<bool, Box<dyn Error>> {
 
 fn folders_compared(folders: &[&str]) -> Result<bool, Box<dyn Error>> {
     ready()?;
-    let (mut table, mut count, mut disagreements) = (Table::default(), 0, 0);
+    let (mut table, mut paths) = (Table::default(), Paths::default());
+    let (mut count, mut disagreements) = (0, 0);
     for folder in folders {
         for file in blobs(folder)? {
             count += 1;
-            if let Err(case) = folder::compare(&bytes(&file)?, &mut table) {
+            if let Err(case) = folder::compare(&bytes(&file)?, &mut table, &mut paths) {
                 println!("{}:", file.display());
                 let name = file.file_stem().unwrap_or_default().to_string_lossy();
                 let failure = Failure::new(0, *case, proved, plain);
@@ -214,6 +224,7 @@ fn folders_compared(folders: &[&str]) -> Result<bool, Box<dyn Error>> {
         }
     }
     println!("\n{}", table.text());
+    paths_shown(&paths);
     println!(
         "{} calls on {count} blobs, {disagreements} disagreements",
         grouped(table.total())
@@ -250,6 +261,7 @@ fn esri(rest: &[&str]) -> Result<bool, Box<dyn Error>> {
             }
         }
     }
+    paths_shown(&tally.paths);
     println!("{}", tally.text());
     Ok(tally.differ.is_empty())
 }

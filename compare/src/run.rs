@@ -1,13 +1,17 @@
 //! A run over many blobs.
 
 use crate::case::{After, Case, Op};
+use crate::paths::Paths;
 use crate::plan;
 use crate::random::Random;
 use crate::shrink::shrunk;
-use crate::table::{Bodies, Table};
+use crate::table::{grouped, Bodies, Table};
 
 /// One blob in so many is a large one.
 const LARGE: u64 = 8192;
+
+/// A run of so many calls must have taken every path.
+pub const FULL_RUN: u64 = 200_000;
 
 /// One side of the comparison.
 pub type Side = fn(&Case) -> After;
@@ -45,8 +49,27 @@ impl Failure {
 pub struct Report {
     pub table: Table,
     pub bodies: Bodies,
+    pub paths: Paths,
     pub blobs: u64,
     pub failures: Vec<Failure>,
+}
+
+impl Report {
+    /// Whether the sides agreed, or a sentence that says what a full run left
+    /// out.
+    pub fn verdict(&self) -> Result<bool, String> {
+        if !self.failures.is_empty() {
+            return Ok(false);
+        }
+        let (calls, missing) = (self.table.total(), self.paths.missing());
+        if calls < FULL_RUN || missing.is_empty() {
+            return Ok(true);
+        }
+        let (calls, names) = (grouped(calls), missing.join("; "));
+        Err(format!(
+            "none of {calls} calls came upon this, so it was not compared: {names}"
+        ))
+    }
 }
 
 impl Run {
@@ -54,6 +77,7 @@ impl Run {
         let mut report = Report {
             table: Table::default(),
             bodies: Bodies::default(),
+            paths: Paths::default(),
             blobs: 0,
             failures: Vec::new(),
         };
@@ -67,17 +91,18 @@ impl Run {
                 plan::calls(&mut random, &mut cases);
             }
             for case in cases.drain(..) {
-                let one = proved(&case);
+                let (one, other) = (proved(&case), plain(&case));
                 report.table.count(case.op, one.answer);
                 if case.op == Op::Read && one.answer == 0 {
                     report.bodies.count(&case.blob, &one.lent.said);
                 }
-                if one.difference(&plain(&case)).is_some() {
+                if one.difference(&other).is_some() {
                     report
                         .failures
                         .push(Failure::new(blob, case, proved, plain));
                     break;
                 }
+                report.paths.count(&case, &other);
             }
             cases.clear();
             report.blobs += 1;

@@ -210,7 +210,7 @@ fn room(record: &[u64], numbers: usize) -> Result<(), u32> {
 }
 
 /// A number that its field cannot hold is 3.
-fn header_of(record: &[u64]) -> Result<Header, u32> {
+pub(crate) fn header_of(record: &[u64]) -> Result<Header, u32> {
     let field = |n: usize| u32::try_from(record[n]).map_err(|_| second::refusal::WRONG_FIELD);
     Ok(Header {
         rows: field(0)?,
@@ -228,7 +228,7 @@ fn header_of(record: &[u64]) -> Result<Header, u32> {
 }
 
 /// A constant mark other than 0 and 1 is 3.
-fn ranges_of(record: &[u64]) -> Result<Ranges, u32> {
+pub(crate) fn ranges_of(record: &[u64]) -> Result<Ranges, u32> {
     if record[1] > 1 {
         return Err(second::refusal::WRONG_FIELD);
     }

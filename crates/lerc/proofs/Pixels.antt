@@ -1,27 +1,29 @@
 -- Cells pixel by pixel: what one cell, and what one pixel, adds to a painted image.
 -- Assumes nothing.
 use mathlib.Core.Path.{_≡_, _∙_, sym, ap, refl}
-use mathlib.Core.Bool.{Bool, true, false, _&&_, _||_, and-false, and-eq-true-iff}
+use mathlib.Core.Bool.{Bool, true, false, cond, _&&_, _||_, and-false, and-eq-true-iff}
 use mathlib.Core.Logic.{_≢_}
-use mathlib.Core.List.{List}
+use mathlib.Core.List.{List, _++_}
 use Prim.Native.Nat.{ℕ, zero, suc, _+_, _-_, _*_, _/_, _%_, _≤_, _<_}
 use native.Mathlib.Decide.{decLt, decLe}
 use native.Mathlib.Omega.{arith}
 use lib.Arith.{digits-div, digits-mod, digits-lt}
 use lib.Dec.{ltb, leb}
-use lib.ListN.{length, getD, set}
+use lib.ListN.{length, getD, set, drop}
 use lib.Seq.{paste, paste-zero, paste-suc}
 use borrow.Author.Tests.{lt-ltb, le-ltb, le-leb, lt-leb, ltb-true, leb-true}
 use Rattle.lerc_header.specs.declared.Shape.{Shape}
-use native.Mathlib.Nat.{mul-le-mul, mul-le-mul-right, suc-mul, add-mul, add-zero, add-assoc}
+use native.Mathlib.Nat.{mul-le-mul, mul-le-mul-right, suc-mul, add-mul, add-zero, add-assoc, div-add-mod', div-lt-iff-lt-mul}
 use native.Mathlib.Numerals.{add-one}
 use Rattle.lerc_words.specs.Res.{little}
-use Rattle.lerc_words.proofs.Counts.{count-more, count-mono}
+use Rattle.lerc_words.specs.Lists.{tabulate}
+use Rattle.lerc_words.proofs.Tables.{length-table, table-front, table-behind}
+use Rattle.lerc_words.proofs.Counts.{count-more, count-mono, count-all, count-full}
 use Rattle.lerc_header.specs.Shape.{cells, Shaped}
 use Rattle.lerc_mask.specs.Mask.{pixelValid, validBelow}
 use Rattle.lerc_image.specs.Geometry.{isValidCell}
 use Rattle.lerc_image.specs.Paint.{painted}
-use Rattle.lerc_image.proofs.Painting.{painted-none, painted-same, painted-set, painted-twice, painted-words}
+use Rattle.lerc_image.proofs.Painting.{is-painted, painted-none, painted-same, painted-set, painted-twice, painted-words}
 use Rattle.lerc.specs.Linear.{within, validUpto, rawWord}
 
 -- ---- the cells of one pixel
@@ -196,3 +198,35 @@ raw-word s at size h m p c a b =
     let d : c / h .depth ≡ p = rw (e) at (digits-div p r) in
     let g : (validBelow p m * h .depth + (c - p * h .depth)) * size ≡ validBelow p m * h .depth * size + (c - p * h .depth) * size = add-mul (validBelow p m * h .depth) (c - p * h .depth) size in
     rw (d, pixel-depth p (h .depth) c a b, g, add-assoc)
+
+-- ---- a raw body without an invalid pixel
+
+module _ (h : Shape) (m : List ℕ) (shaped : Shaped h) (full : validBelow (h .rows * h .columns) m ≡ h .rows * h .columns) where
+  pixel-of : (c : ℕ) → c < cells h → c / h .depth < h .rows * h .columns
+  pixel-of c l = div-lt-iff-lt-mul (shaped .depth .0) .1 l
+
+  every : (p : ℕ) → p < h .rows * h .columns → pixelValid m p ≡ true
+  every = count-full (h .rows * h .columns) (pixelValid m) full
+
+  -- its words stand in the order of the cells
+  full-word : (s : List ℕ) (at size c : ℕ) → c < cells h → rawWord s at size h m c ≡ little size s (at + c * size)
+  full-word s at size c l =
+      let p = pixel-of c l in
+      let v : validBelow (c / h .depth) m ≡ c / h .depth = count-all (c / h .depth) (pixelValid m) (λ i k. every i (omega arith)) in
+      rw (v, div-add-mod' c (h .depth))
+
+  pub full-painted : (s : List ℕ) (at size : ℕ) (im : List ℕ) → cells h ≤ length im
+      → tabulate (cells h) (λ k. little size s (at + k * size)) ++ drop (cells h) im ≡ painted im (isValidCell h m) (rawWord s at size h m)
+  unfolding isValidCell
+  full-painted s at size im room =
+      is-painted im (rawWord s at size h m) (isValidCell h m) all (length-table (cells h) word im room) (λ c l. go c (decLt c (cells h)))
+    where
+      word : ℕ → ℕ
+      word k = little size s (at + k * size)
+
+      all : List ℕ
+      all = tabulate (cells h) word ++ drop (cells h) im
+
+      go : (c : ℕ) → Dec (c < cells h) → getD all c 0 ≡ cond (isValidCell h m c) (rawWord s at size h m c) (getD im c 0)
+      go c (yes p) = rw (lt-ltb c (cells h) p, every (c / h .depth) (pixel-of c p), full-word s at size c p) (table-front (cells h) word im c p)
+      go c (no p) = rw (le-ltb c (cells h) (omega arith)) (table-behind (cells h) word im c (omega arith))

@@ -56,8 +56,8 @@ fn put_raw(s: &[u8], at: usize, size: usize, depth: usize, base: usize, image: &
     }
 }
 
-// every valid pixel of a raw body
-pub(crate) fn write_raw(h: Shape, s: &[u8], at: usize, size: usize, mask: &[u8], image: &mut [u64])
+// every valid pixel of a raw body, one by one
+fn write_raw_masked(h: Shape, s: &[u8], at: usize, size: usize, mask: &[u8], image: &mut [u64])
     requires { ⌜ RawAsked h (now s) at size (now mask) (now image) ⌝ }
     ensures { λ r. ⌜ now (image .exit) ≡ painted (now (image .entry)) (isValidCell h (now (mask .entry))) (rawWord (now (s .entry)) at size h (now (mask .entry))) ⌝ }
 {
@@ -73,4 +73,17 @@ pub(crate) fn write_raw(h: Shape, s: &[u8], at: usize, size: usize, mask: &[u8],
         base += h.depth;
         p += 1;
     }
+}
+
+// every valid pixel of a raw body; where all are valid, its words are those of the cells in order
+pub(crate) fn write_raw(h: Shape, s: &[u8], at: usize, size: usize, mask: &[u8], image: &mut [u64])
+    requires { ⌜ RawAsked h (now s) at size (now mask) (now image) ⌝ }
+    ensures { λ r. ⌜ now (image .exit) ≡ painted (now (image .entry)) (isValidCell h (now (mask .entry))) (rawWord (now (s .entry)) at size h (now (mask .entry))) ⌝ }
+{
+    let pixels = h.rows * h.columns;
+    if lerc_mask::count(mask, pixels) == pixels {
+        lerc_words::words(s, at, size, &mut image[..pixels * h.depth]);
+        return;
+    }
+    write_raw_masked(h, s, at, size, mask, &mut image[..]);
 }

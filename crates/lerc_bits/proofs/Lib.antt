@@ -1,4 +1,5 @@
 pub mod Run
+pub mod Begun
 pub mod IndexWidth
 pub mod Choose
 pub mod Returns

@@ -7,7 +7,7 @@ use Prim.Native.Nat.{ℕ, zero, suc, _-_, _^_, _≤_, _<_}
 use native.Mathlib.Omega.{arith}
 use native.Mathlib.Decide.{decLt}
 use native.Mathlib.Nat.{lt-of-lt-of-le}
-use borrow.Author.Tests.{eqb-true, eqb-false}
+use borrow.Author.Tests.{eqb-true, eqb-false, eq-eqb, ne-eqb}
 use lib.Dec.{eqb}
 use lib.ListN.{length, getD, List·getD-eq-default}
 use lib.Pow.{pow-pos, pow-mono}
@@ -17,6 +17,7 @@ use Rattle.lerc_words.proofs.Binding.{bind-is, require-is, ok-is}
 use Rattle.lerc_words.proofs.Tables.{getD-tabulate}
 use Rattle.lerc_bits.specs.declared.Plan.{Plan}
 use Rattle.lerc_bits.specs.Bits.{plan, digits, run, chosen, allBelow, lookedUp, valuesOf, unpacked, Counts, counts}
+use Rattle.lerc_bits.specs.Unpacking.{valueBits}
 use Rattle.lerc_bits.proofs.Run.{length-digits, digits-small}
 use Rattle.lerc_bits.proofs.Choose.{length-chosen}
 use Rattle.lerc_bits.proofs.Returns.{counts-by, unpacked-plain, unpacked-table, unpacked-bad}
@@ -129,6 +130,19 @@ chosen-small m is whole n bits k = go (decLt k m)
 valued-small : {s : List ℕ} {p : Plan} {vs : List ℕ} → (p .entries ≡ 0 → p .width ≡ p .bits) → Valued s p vs → (k : ℕ) → getD vs k 0 < 2 ^ p .bits
 valued-small {s} {p} w (valued-plain z e) k = rw (e, ← w z) (digits-small _ (p .n) (p .width) k)
 valued-small {s} {p} w (valued-table h b e) k = rw (e) (chosen-small (p .n) _ _ (p .entries - 1) (p .bits) k)
+
+-- each is as wide as its plan says
+pub unpacked-bits : (s : List ℕ) (p : Plan) {c : Counts} → unpacked s p ≡ ok c → (k : ℕ) → getD (c .values) k 0 < 2 ^ valueBits p
+unfolding unpacked
+unpacked-bits s p {c} e k =
+    let (vs, d, e) = bind-is (valuesOf s p) _ e in
+    rw (← ok-is e) (small (values-is s p d))
+  where
+    small : {vs : List ℕ} → Valued s p vs → getD vs k 0 < 2 ^ valueBits p
+    small (valued-plain z e) = rw (e, eq-eqb _ _ z) (digits-small _ (p .n) (p .width) k)
+    small (valued-table h b e) =
+        let f : p .entries ≡ 0 → ⊥ = λ z. omega arith in
+        rw (e, ne-eqb _ _ f) (chosen-small (p .n) _ _ (p .entries - 1) (p .bits) k)
 
 -- each is below 2^bits
 pub counts-bits : (s : List ℕ) (at : ℕ) {p : Plan} {c : Counts} → plan s at ≡ ok p → counts s at ≡ ok c → (k : ℕ) → getD (c .values) k 0 < 2 ^ p .bits

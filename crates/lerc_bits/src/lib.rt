@@ -2,9 +2,11 @@
 ghost use mathlib.Core.Path.{_≡_};
 ghost use mathlib.Core.List.{_++_};
 ghost use mathlib.Core.Bool.{true};
-ghost use Prim.Native.Nat.{_≤_};
+ghost use Prim.Native.Nat.{_+_, _-_, _%_, _^_, _≤_};
 ghost use lib.ListN.{length, drop};
-ghost use Rattle.lerc_bits.specs.Bits.{runBytes, indexWidth, plainPlan, tablePlan, fits, tabled, plan, planSaid, refusalOfPlan, run, chosen, allBelow, unpacked, keeps, countsBy, counts, refusalOfCounts, CountsDecoded, PlanKept};
+ghost use lib.Seq.{sets};
+ghost use Rattle.lerc_bits.specs.Bits.{runBytes, indexWidth, plainPlan, tablePlan, fits, tabled, plan, planSaid, refusalOfPlan, digits, run, chosen, allBelow, unpacked, keeps, countsBy, counts, refusalOfCounts, CountsDecoded, PlanKept};
+ghost use Rattle.lerc_bits.specs.Unpacking.{begun};
 use lerc_words::Refusal;
 use lerc_words::WordAnswer;
 
@@ -167,21 +169,94 @@ pub fn inspect(s: &[u8], start: usize) -> PlanAnswer
     inspect_table(s, at, n as usize, bits)
 }
 
+// the lowest value in a word
+fn lowest(v: u64, bits: usize) -> u32
+    requires { ⌜ bits ≤ 31 ⌝ }
+    ensures { λ r. ⌜ r ≡ v % 2 ^ bits ⌝ }
+{
+    let base: u64 = 1 << bits;
+    (v % base) as u32
+}
+
+// four values of a word, lowest bit first, to the places from k on
+fn put_four(v: u64, bits: usize, k: usize, out: &mut [u32])
+    requires { ⌜ (bits ≤ 16) × (k + 4 ≤ length (now out)) ⌝ }
+    ensures { λ r. ⌜ now (out .exit) ≡ sets (now (out .entry)) k (digits v 4 bits) ⌝ }
+{
+    out[k] = lowest(v, bits);
+    let b = v >> bits;
+    out[k + 1] = lowest(b, bits);
+    let c = b >> bits;
+    out[k + 2] = lowest(c, bits);
+    let d = c >> bits;
+    out[k + 3] = lowest(d, bits);
+}
+
+// values of at most eight bits, eight from each word: a group starts on a byte
+fn unpack_eights(s: &[u8], at: usize, n: usize, bits: usize, out: &mut [u32])
+    requires { ⌜ (n ≤ 256) × (bits ≤ 8) × (at ≤ length (now s)) × (n ≤ length (now out)) ⌝ }
+    ensures { λ r. ⌜ now (out .exit) ≡ begun (now (s .entry)) at n bits (n - n % 8) (now (out .entry)) ⌝ }
+{
+    let mut place = at;
+    let mut k = 0;
+    while k + 8 <= n {
+        let v = lerc_words::peek(s, place);
+        put_four(v, bits, k, &mut out[..]);
+        put_four(v >> (4 * bits), bits, k + 4, &mut out[..]);
+        place += bits;
+        k += 8;
+    }
+}
+
+// values of at most sixteen bits, four from each word: a group starts on a byte or in its middle
+fn unpack_fours(s: &[u8], at: usize, n: usize, bits: usize, out: &mut [u32])
+    requires { ⌜ (n ≤ 256) × (bits ≤ 16) × (at ≤ length (now s)) × (n ≤ length (now out)) ⌝ }
+    ensures { λ r. ⌜ now (out .exit) ≡ begun (now (s .entry)) at n bits (n - n % 4) (now (out .entry)) ⌝ }
+{
+    let mut bit = 0;
+    let mut k = 0;
+    while k + 4 <= n {
+        let v = lerc_words::peek(s, at + bit / 8);
+        let r = bit % 8;
+        put_four(v >> r, bits, k, &mut out[..]);
+        bit += 4 * bits;
+        k += 4;
+    }
+}
+
+// the values from `first` on, one by one, behind those that stand there already
+fn unpack_from(s: &[u8], at: usize, first: usize, n: usize, bits: usize, out: &mut [u32])
+    requires { ⌜ (first ≤ n) × (n ≤ 256) × (bits ≤ 31) × (at ≤ length (now s)) × (n ≤ length (now out)) ⌝ }
+    requires { ⌜ now out ≡ begun (now s) at n bits first (now out) ⌝ }
+    ensures { λ r. ⌜ now (out .exit) ≡ begun (now (s .entry)) at n bits n (now (out .entry)) ⌝ }
+{
+    let mut bit = first * bits;
+    let mut k = first;
+    while k < n {
+        let v = lerc_words::peek(s, at + bit / 8);
+        let r = bit % 8;
+        out[k] = lowest(v >> r, bits);
+        bit += bits;
+        k += 1;
+    }
+}
+
 // n values of `bits` bits each, lowest bit first, from the byte at `at` on
 fn unpack(s: &[u8], at: usize, n: usize, bits: usize, out: &mut [u32])
     requires { ⌜ (n ≤ 256) × (bits ≤ 31) × (at ≤ length (now s)) × (n ≤ length (now out)) ⌝ }
     ensures { λ r. ⌜ now (out .exit) ≡ run (now (s .entry)) at n bits ++ drop n (now (out .entry)) ⌝ }
 {
-    let base: u64 = 1 << bits;
-    let mut bit = 0;
-    let mut k = 0;
-    while k < n {
-        let v = lerc_words::peek(s, at + bit / 8);
-        let r = bit % 8;
-        out[k] = ((v >> r) % base) as u32;
-        bit += bits;
-        k += 1;
+    if 16 < bits {
+        unpack_from(s, at, 0, n, bits, &mut out[..]);
+        return;
     }
+    if 8 < bits {
+        unpack_fours(s, at, n, bits, &mut out[..]);
+        unpack_from(s, at, n - n % 4, n, bits, &mut out[..]);
+        return;
+    }
+    unpack_eights(s, at, n, bits, &mut out[..]);
+    unpack_from(s, at, n - n % 8, n, bits, &mut out[..]);
 }
 
 fn all_below(index: &[u32], n: usize, entries: usize) -> bool

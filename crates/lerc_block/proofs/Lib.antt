@@ -7,3 +7,6 @@ pub mod Accepted
 pub mod Numbers
 pub mod Fitting
 pub mod Spared
+pub mod Usual
+pub mod WholeWords
+pub mod FloatWords

@@ -11,7 +11,10 @@ use Rattle.lerc_numeric.specs.Numeric.{negative}
 use Rattle.lerc_numeric.specs.Kinds.{typeSize}
 use Rattle.lerc_samples.specs.Samples.{stored}
 use Rattle.lerc_bits.specs.Bits.{PlanKept}
+use Rattle.lerc_block.specs.declared.heads.Head.{Head}
 use Rattle.lerc_block.specs.declared.plan.StoredOffset.{StoredOffset}
+use Rattle.lerc_block.specs.declared.plan.Steps.{Steps}
+use Rattle.lerc_block.specs.declared.plan.BlockPlan.{BlockPlan}
 use Rattle.lerc_block.specs.declared.plan.Form.{Form}
 use Rattle.lerc_block.specs.declared.plan.Form.the-variants as coded
 use Rattle.lerc_block.specs.Block.{flagAt, tileLimit}
@@ -37,3 +40,14 @@ Sound s kind n (coded.Raw at) = at + n * typeSize kind ≤ length s
 Sound s kind n coded.Zero = Unit {0}
 Sound s kind n (coded.Level o) = OffsetHeld kind o
 Sound s kind n (coded.Stepped steps) = OffsetHeld kind (steps .offset) × PlanKept (length s) (steps .counts)
+
+-- the plan that a usual head tells: n numbers of `bits` bits from `at` to `end`
+abbrev pub headSteps : Head → Steps
+headSteps h =
+    record {
+      offset = h .offset;
+      counts = record { n = h .n; bits = h .bits; entries = 0; table = h .at; at = h .at; width = h .bits; next = h .end };
+    }
+
+abbrev pub headPlan : Head → BlockPlan
+headPlan h = record { form = coded.Stepped (headSteps h); next = h .end }

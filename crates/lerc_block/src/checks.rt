@@ -6,6 +6,7 @@ ghost use Rattle.lerc_block.specs.Block.{blockSaid, nextBlock, readBlock
 ghost use Rattle.lerc_block.specs.Plan.{steppedWords, ended, plannedBlock};
 ghost use Rattle.lerc_block.specs.Check.{stepsFit, Sound};
 use super::BlockAnswer;
+use super::heads::usual_head;
 use super::plan::BlockPlan;
 use super::plan::BlockPlanAnswer;
 use super::plan::Form;
@@ -76,8 +77,8 @@ fn check_planned(s: &[u8], p: BlockPlan, kind: u32, error: u64, top: u64, n: usi
     }
 }
 
-// what `read_block` answers, without the words
-pub fn check_block(
+// what `read_any` answers, without the words
+fn check_any(
     s: &[u8],
     at: usize,
     kind: u32,
@@ -94,4 +95,25 @@ pub fn check_block(
         return BlockAnswer::Refused(why);
     };
     check_planned(s, p, kind, error, maximum, n)
+}
+
+// what `read_block` answers, without the words
+pub fn check_block(
+    s: &[u8],
+    at: usize,
+    kind: u32,
+    error: u64,
+    maximum: u64,
+    x: usize,
+    n: usize,
+) -> BlockAnswer
+    ensures { λ r. ⌜ blockSaid r ≡ nextBlock (readBlockSays (now (s .entry)) at kind error maximum x n) ⌝ }
+{
+    if steps_fit(kind, error, maximum) {
+        let usual = usual_head(s, at, kind, x);
+        if (0 < usual.end) & (usual.n == n) {
+            return BlockAnswer::Block(usual.end);
+        }
+    }
+    check_any(s, at, kind, error, maximum, x, n)
 }

@@ -1,22 +1,24 @@
 // One block: the words of its tile's valid pixels.
 ghost use mathlib.Core.Path.{_≡_};
-ghost use mathlib.Core.List.{_++_};
-ghost use Prim.Native.Nat.{ℕ, _+_, _*_, _≤_};
-ghost use lib.ListN.{length, take, drop, replicate};
-ghost use Rattle.lerc_words.specs.Res.{little, each};
-ghost use Rattle.lerc_words.specs.Lists.{tabulate};
+ghost use Prim.Native.Nat.{_≤_};
+ghost use lib.ListN.{length};
+ghost use Rattle.lerc_words.specs.Res.{each};
+ghost use Rattle.lerc_bits.specs.Unpacking.{valueBits};
 ghost use Rattle.lerc_samples.specs.Samples.{storedSaid};
-ghost use Rattle.lerc_bits.specs.Bits.{PlanKept};
 ghost use Rattle.lerc_block.specs.Block.{levelBlock, readBlockSays, refusalOfBlock, BlockRead};
 ghost use Rattle.lerc_block.specs.Plan.{offsetValue, steppedWords, ended, plannedBlock};
-ghost use Rattle.lerc_block.specs.Steps.{stepWord, BlockConverted};
-ghost use Rattle.lerc_block.specs.Check.{Sound};
+ghost use Rattle.lerc_block.specs.Steps.{stepWord, BlockConverted, StepsTried, CountsOf};
+ghost use Rattle.lerc_block.specs.Check.{OffsetHeld, Sound};
+ghost use Rattle.lerc_block.specs.declared.plan.Form.the-variants as Form;
 use lerc_bits::CountsAnswer;
+use lerc_bits::Plan;
 use lerc_samples::StoredAnswer;
 use lerc_words::Refusal;
 
 mod checks;
+mod heads;
 mod plan;
+mod whole;
 
 pub use checks::check_block;
 pub use plan::BlockPlan;
@@ -24,6 +26,7 @@ pub use plan::BlockPlanAnswer;
 pub use plan::Form;
 pub use plan::Steps;
 pub use plan::StoredOffset;
+pub use plan::block_end;
 pub use plan::inspect_block;
 
 // Where the next block begins.
@@ -41,20 +44,6 @@ impl BlockAnswer {
             BlockAnswer::Block(_next) => Refusal { number: 0 },
             BlockAnswer::Refused(why) => why,
         }
-    }
-}
-
-// n words of `size` bytes, one after the other
-fn read_words(s: &[u8], at: usize, size: usize, n: usize, out: &mut [u64])
-    requires { ⌜ (size ≤ 8) × (at + n * size ≤ length (now s)) × (n ≤ length (now out)) ⌝ }
-    ensures { λ r. ⌜ now (out .exit) ≡ tabulate n (λ k. little size (now (s .entry)) (at + k * size)) ++ drop n (now (out .entry)) ⌝ }
-{
-    let mut place = at;
-    let mut k = 0;
-    while k < n {
-        out[k] = lerc_words::bytes(s, place, size);
-        place += size;
-        k += 1;
     }
 }
 
@@ -114,7 +103,83 @@ fn convert(
     BlockAnswer::Block(next)
 }
 
-// low bits 1; the words are kept aside until all of them fit
+// the words of all counts, kept aside until all of them fit
+fn convert_aside(
+    counts: &[u32],
+    next: usize,
+    kind: u32,
+    error: u64,
+    top: u64,
+    offset: u64,
+    words: &mut [u64],
+) -> BlockAnswer
+    requires { ⌜ (length (now counts) ≤ 256) × (length (now counts) ≤ length (now words)) ⌝ }
+    ensures { λ r. ⌜ BlockRead (ended next (each (stepWord kind error top offset) (now (counts .entry)))) r (now (words .entry)) (now (words .exit)) ⌝ }
+{
+    let n = counts.len();
+    let mut spare = [0u64; 256];
+    let b = convert(counts, next, kind, error, top, offset, &mut spare);
+    let BlockAnswer::Block(_end) = b else {
+        return b;
+    };
+    lerc_slices::copy_words(&spare, &mut words[..n]);
+    BlockAnswer::Block(next)
+}
+
+// the words of counts of `bits` bits at once, where none can fail; else nothing is written
+fn convert_all(
+    counts: &[u32],
+    bits: usize,
+    kind: u32,
+    error: u64,
+    top: u64,
+    offset: StoredOffset,
+    words: &mut [u64],
+) -> bool
+    requires { ⌜ (length (now counts) ≤ length (now words)) × OffsetHeld kind offset × CountsOf bits (now counts) ⌝ }
+    ensures { λ r. ⌜ StepsTried (each (stepWord kind error top (offsetValue offset)) (now (counts .entry))) r (now (words .entry)) (now (words .exit)) ⌝ }
+{
+    if kind < 6 {
+        return whole::whole_steps(counts, bits, kind, error, top, offset, &mut words[..]);
+    }
+    let value = lerc_numeric::number(offset.word, offset.kind);
+    if kind == 6 {
+        lerc_numeric::single_steps(value, error, top, bits, counts, &mut words[..]);
+    } else {
+        lerc_numeric::steps(value, error, top, bits, counts, &mut words[..]);
+    }
+    true
+}
+
+// the words of counts of `bits` bits, at once where that is sure, else one by one
+fn convert_counts(
+    counts: &[u32],
+    bits: usize,
+    next: usize,
+    kind: u32,
+    error: u64,
+    top: u64,
+    offset: StoredOffset,
+    words: &mut [u64],
+) -> BlockAnswer
+    requires { ⌜ (length (now counts) ≤ 256) × (length (now counts) ≤ length (now words)) × OffsetHeld kind offset × CountsOf bits (now counts) ⌝ }
+    ensures { λ r. ⌜ BlockRead (ended next (each (stepWord kind error top (offsetValue offset)) (now (counts .entry)))) r (now (words .entry)) (now (words .exit)) ⌝ }
+{
+    if convert_all(counts, bits, kind, error, top, offset, &mut words[..]) {
+        return BlockAnswer::Block(next);
+    }
+    let value = lerc_numeric::number(offset.word, offset.kind);
+    convert_aside(counts, next, kind, error, top, value, &mut words[..])
+}
+
+// the width of a plan's values
+fn value_bits(p: Plan) -> usize
+    ensures { λ r. ⌜ r ≡ valueBits p ⌝ }
+{
+    if p.entries == 0 { p.width } else { p.bits }
+}
+
+// low bits 1
 fn read_steps(
     s: &[u8],
     steps: Steps,
@@ -125,7 +190,7 @@ fn read_steps(
     n: usize,
     words: &mut [u64],
 ) -> BlockAnswer
-    requires { ⌜ (n ≤ 256) × (n ≤ length (now words)) × PlanKept (length (now s)) (steps .counts) ⌝ }
+    requires { ⌜ (n ≤ 256) × (n ≤ length (now words)) × Sound (now s) kind n (Form.Stepped steps) ⌝ }
     ensures { λ r. ⌜ BlockRead (ended next (steppedWords (now (s .entry)) kind error top n steps)) r (now (words .entry)) (now (words .exit)) ⌝ }
 {
     let plan = steps.counts;
@@ -138,14 +203,9 @@ fn read_steps(
         let why = a.refusal();
         return BlockAnswer::Refused(why);
     };
-    let offset = lerc_numeric::number(steps.offset.word, steps.offset.kind);
-    let mut spare = [0u64; 256];
-    let b = convert(&counts[..n], next, kind, error, top, offset, &mut spare);
-    let BlockAnswer::Block(_end) = b else {
-        return b;
-    };
-    lerc_slices::copy_words(&spare, &mut words[..n]);
-    BlockAnswer::Block(next)
+    let bits = value_bits(plan);
+    let offset = steps.offset;
+    convert_counts(&counts[..n], bits, next, kind, error, top, offset, words)
 }
 
 // the words that a plan leads to
@@ -164,7 +224,7 @@ fn read_planned(
     let form = p.form;
     match form {
         Form::Raw(at) => {
-            read_words(s, at, lerc_numeric::size(kind), n, &mut words[..]);
+            lerc_words::words(s, at, lerc_numeric::size(kind), &mut words[..n]);
             BlockAnswer::Block(p.next)
         }
         Form::Zero => {
@@ -176,8 +236,8 @@ fn read_planned(
     }
 }
 
-// the words of the block at `at` to the front of `words`, or a refusal, which leaves them
-pub fn read_block(
+// the words of the block at `at`, whatever its head
+fn read_any(
     s: &[u8],
     at: usize,
     kind: u32,
@@ -195,4 +255,24 @@ pub fn read_block(
         return BlockAnswer::Refused(why);
     };
     read_planned(s, p, kind, error, maximum, n, words)
+}
+
+// the words of the block at `at` to the front of `words`, or a refusal, which leaves them
+pub fn read_block(
+    s: &[u8],
+    at: usize,
+    kind: u32,
+    error: u64,
+    maximum: u64,
+    x: usize,
+    n: usize,
+    words: &mut [u64; 256],
+) -> BlockAnswer
+    ensures { λ r. ⌜ BlockRead (readBlockSays (now (s .entry)) at kind error maximum x n) r (now (words .entry)) (now (words .exit)) ⌝ }
+{
+    let usual = heads::usual_head(s, at, kind, x);
+    if (0 < usual.end) & (usual.n == n) {
+        return read_steps(s, usual.steps(), usual.end, kind, error, maximum, n, words);
+    }
+    read_any(s, at, kind, error, maximum, x, n, words)
 }

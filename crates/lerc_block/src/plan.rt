@@ -8,6 +8,7 @@ ghost use Rattle.lerc_block.specs.Block.{blockSaid};
 ghost use Rattle.lerc_block.specs.Plan.{finiteWord, rawPlan, steppedPlan, offsetPlan, planSays, planSaid, refusalOfPlan, planEnd};
 ghost use Rattle.lerc_block.specs.Check.{readFlag};
 use super::BlockAnswer;
+use super::heads::usual_head;
 use lerc_bits::Plan;
 use lerc_bits::PlanAnswer;
 use lerc_samples::OffsetAnswer;
@@ -85,7 +86,7 @@ fn flag_at(s: &[u8], at: usize, x: usize, n: usize) -> WordAnswer
 }
 
 // whether the word is a finite number; every word of a kind of integers is
-fn finite_word(word: u64, kind: u32) -> bool
+pub(crate) fn finite_word(word: u64, kind: u32) -> bool
     ensures { λ r. ⌜ r ≡ finite (valueOf kind word) ⌝ }
 {
     if kind < 6 {
@@ -187,4 +188,17 @@ pub fn inspect_block(s: &[u8], at: usize, kind: u32, x: usize, n: usize) -> Bloc
         });
     }
     inspect_offset(s, at + 1, kind, flag as u32)
+}
+
+// where the block at `at` ends, by all that stands in front of its values
+pub fn block_end(s: &[u8], at: usize, kind: u32, x: usize, n: usize) -> BlockAnswer
+    ensures { λ r. ⌜ blockSaid r ≡ planEnd (planSays (now (s .entry)) at kind x n) ⌝ }
+{
+    if n <= 256 {
+        let usual = usual_head(s, at, kind, x);
+        if 0 < usual.end {
+            return BlockAnswer::Block(usual.end);
+        }
+    }
+    inspect_block(s, at, kind, x, n).end()
 }

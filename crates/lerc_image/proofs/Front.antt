@@ -1,7 +1,7 @@
 -- Only as many words of a block matter as its tile has valid pixels.
 -- Assumes nothing.
-use mathlib.Core.Path.{_≡_, _∙_, sym, ap}
-use mathlib.Core.Bool.{true}
+use mathlib.Core.Path.{_≡_, _∙_, sym, ap, refl}
+use mathlib.Core.Bool.{Bool, true, false}
 use mathlib.Core.List.{List, _++_}
 use Prim.Native.Nat.{ℕ, _+_, _/_, _≤_, _<_}
 use native.Mathlib.Omega.{arith}
@@ -12,7 +12,7 @@ use Rattle.lerc_mask.specs.Mask.{pixelValid}
 use Rattle.lerc_image.specs.Geometry.{tileOf, tileSize, pixelOf, cellOf, placeIn, validInTile}
 use Rattle.lerc_image.specs.Paint.{inBlock, indexOf, wordOf, scattered}
 use Rattle.lerc_image.proofs.Partition.{place-lt, cell-back, cell-pixel}
-use Rattle.lerc_image.proofs.Painting.{painted-words}
+use Rattle.lerc_image.proofs.Painting.{painted-none, painted-words}
 use Rattle.lerc_image.proofs.Upto.{inside}
 use Rattle.lerc_image.proofs.Cursors.{rank-mono, rank-more}
 
@@ -33,3 +33,11 @@ module _ (h : Shape) (s : Shaped h) (m : List ℕ) (n : ℕ) (l : n < blockCount
   scattered-front words rest image e =
       painted-words image (wordOf h m (λ i. words ++ rest)) (wordOf h m (λ i. words)) (inBlock h m n)
       (λ c q. List·getD-append words rest 0 (indexOf h m c) (let k : indexOf h m c < length words = rw (e) (index-lt c q) in k))
+
+  -- a tile without valid pixels
+  pub scattered-none : (words image : List ℕ) → validInTile h m (tileOf h n) ≡ 0 → image ≡ scattered h m n words image
+  scattered-none words image e = painted-none image _ (inBlock h m n) (λ c q. none c (inBlock h m n c) refl)
+    where
+      none : (c : ℕ) (b : Bool) → inBlock h m n c ≡ b → b ≡ false
+      none c true q = absurd (omega (arith, index-lt c q))
+      none c false q = refl

@@ -15,4 +15,7 @@ pub mod Chain
 pub mod Heads
 pub mod Held
 pub mod Standing
+pub mod Scattering
+pub mod Laying
+pub mod RowTurns
 pub mod Stages

@@ -17,7 +17,7 @@ use Rattle.lerc_block.specs.Block.{Block, tileLimit, blockSays, readBlockSays, 
 use Rattle.lerc_image.specs.declared.FillAnswer.the-variants as answer
 use Rattle.lerc_image.specs.Geometry.{tileOf, validInTile}
 use Rattle.lerc_image.specs.Paint.{scattered}
-use Rattle.lerc_image.specs.Parts.{BlockScattered, BlockFilled}
+use Rattle.lerc_image.specs.Parts.{BlockFilled}
 use Rattle.lerc_image.proofs.Front.{scattered-front}
 
 -- with at most 256 pixels reading a block is the block
@@ -45,12 +45,12 @@ module _ {b : Res Block} {got : BlockAnswer} {old new : List ℕ} (e : BlockRead
   fill-refused h m n {why} q = let r : b ≡ fail why = said-refused (e .says) q in rw (r) (record { says = refl; image = refl })
 
   pub fill-accepted : (h : Shape) → Shaped h → (m : List ℕ) (n : ℕ) → n < blockCount h → {next r : ℕ} {image result : List ℕ}
-      → got ≡ block.Block next → ((k : Block) → b ≡ ok k → length (k .words) ≡ validInTile h m (tileOf h n)) → BlockScattered h n m new image r result
+      → got ≡ block.Block next → ((k : Block) → b ≡ ok k → length (k .words) ≡ validInTile h m (tileOf h n)) → r ≡ validInTile h m (tileOf h n) → result ≡ scattered h m n new image
       → BlockFilled h m n b (answer.Filled r) image result
-  fill-accepted h s m n l {image = image} q f w =
+  fill-accepted h s m n l {image = image} q f v w =
       let (k, p, is) = read-accepted q in
       rw (p)
       (record {
-        says = ap ok (w .says);
-        image = w .image ∙ ap (λ (x : List ℕ). scattered h m n x image) is ∙ scattered-front h s m n l (k .words) (drop (length (k .words)) old) image (f k p);
+        says = ap ok v;
+        image = w ∙ ap (λ (x : List ℕ). scattered h m n x image) is ∙ scattered-front h s m n l (k .words) (drop (length (k .words)) old) image (f k p);
       })

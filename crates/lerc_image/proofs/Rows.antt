@@ -3,7 +3,7 @@
 use mathlib.Core.Path.{_≡_, _∙_, sym, ap}
 use mathlib.Core.Bool.{true, and-eq-true-iff}
 use mathlib.Core.List.{List}
-use Prim.Native.Nat.{ℕ, suc, _+_, _-_, _*_, _/_, _%_, _≤_, _<_}
+use Prim.Native.Nat.{ℕ, suc, _+_, _-_, _*_, _%_, _≤_, _<_}
 use native.Mathlib.Nat.{suc-mul, mul-le-mul, zero-mod}
 use native.Mathlib.Numerals.{add-one}
 use Rattle.lerc_words.specs.Lists.{count}
@@ -29,18 +29,24 @@ use Rattle.lerc_image.proofs.Below.{tile-before}
 abbrev pub rowFrom : Shape → Tile → ℕ → ℕ
 rowFrom h t row = (t .y + row) * h .columns + t .x
 
+pub row-below : (h : Shape) (t : Tile) (row : ℕ) → rowFrom h t (row + 1) ≡ rowFrom h t row + h .columns
+row-below h t row = let e : t .y + (row + 1) ≡ suc (t .y + row) = omega arith in rw (e) (omega (arith, suc-mul (t .y + row) (h .columns)))
+
+-- the place i of a row
+pub pixel-row : (h : Shape) (t : Tile) (row i : ℕ) → i < t .w → pixelOf h t (row * t .w + i) ≡ rowFrom h t row + i
+unfolding pixelOf
+pixel-row h t row i l = rw (digits-div row l, digits-mod row l) (omega arith)
+
 module _ (h : Shape) (m : List ℕ) (t : Tile) (row : ℕ) where
   pub rank-row : rank h m t ((row + 1) * t .w) ≡ rank h m t (row * t .w) + validFrom (rowFrom h t row) (t .w) m
-  unfolding rank pixelOf
+  unfolding rank
   rank-row =
       let e : (row + 1) * t .w ≡ t .w + row * t .w = rw (add-one) (omega (arith, suc-mul row (t .w))) in
       let same : count (t .w) (λ i. pixelValid m (pixelOf h t (i + row * t .w))) ≡ validFrom (rowFrom h t row) (t .w) m = count-same (t .w) _ _ (λ i l. ap (pixelValid m) (place i l)) in
       rw (e, count-plus (row * t .w) (t .w) (λ i. pixelValid m (pixelOf h t i)), same)
     where
-      place : (i : ℕ) → i < t .w → (t .y + (i + row * t .w) / t .w) * h .columns + (t .x + (i + row * t .w) % t .w) ≡ rowFrom h t row + i
-      place i l =
-          let z : i + row * t .w ≡ row * t .w + i = omega arith in
-          rw (z, digits-div row l, digits-mod row l) (omega arith)
+      place : (i : ℕ) → i < t .w → pixelOf h t (i + row * t .w) ≡ rowFrom h t row + i
+      place i l = let z : i + row * t .w ≡ row * t .w + i = omega arith in rw (z) (pixel-row h t row i l)
 
 -- before a row of a tile: where it begins, and how many pixels of the rows above it are valid
 pub record RowsCounted (h : Shape) (m : List ℕ) (t : Tile) (first row found : ℕ) : Type 0 where
@@ -62,11 +68,10 @@ module _ {h : Shape} {m : List ℕ} {t : Tile} {first row found : ℕ} (c : Rows
   module _ (l : row < t .h) where
     pub rows-next : RowsCounted h m t (first + h .columns) (row + 1) (found + validFrom first (t .w) m)
     rows-next =
-        let e : t .y + (row + 1) ≡ suc (t .y + row) = omega arith in
         record {
           tile = c .tile;
           few = omega arith;
-          here = rw (c .here, e) (omega (arith, suc-mul (t .y + row) (h .columns)));
+          here = rw (c .here) (sym (row-below h t row));
           found-is = rw (c .here, c .found-is) (sym (rank-row h m t row));
         }
 

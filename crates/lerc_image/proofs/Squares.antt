@@ -17,12 +17,12 @@ use Rattle.lerc_words.proofs.Little.{Bytes}
 use Rattle.lerc_words.proofs.Counts.{total-zero, total-more}
 use Rattle.lerc_header.specs.declared.Shape.{Shape}
 use Rattle.lerc_header.specs.Limits.{sideways}
-use Rattle.lerc_mask.specs.Mask.{validFrom}
+use Rattle.lerc_mask.specs.Mask.{pixelValid, validFrom}
 use Rattle.lerc_mask.specs.Passes.{bitsOf}
 use Rattle.lerc_mask.proofs.Cut.{bits-whole, valid-first, zero-ones}
 use Rattle.lerc_image.specs.declared.Tile.{Tile}
 use Rattle.lerc_image.specs.Geometry.{rank, validInTile}
-use Rattle.lerc_image.specs.Parts.{TileIn, onesApart, isSquare}
+use Rattle.lerc_image.specs.Parts.{TileIn, onesApart, isSquare, bitSet}
 use Rattle.lerc_image.proofs.Cursors.{rank-zero}
 use Rattle.lerc_image.proofs.Rows.{rowFrom, rank-row}
 
@@ -88,6 +88,15 @@ module _ (h : Shape) (t : Tile) (m : List ℕ) (b : Bytes m) (wide : t .w ≡ 8)
       let p : (t .y + row) * (h .columns / 8 * 8) ≡ (t .y + row) * (h .columns / 8) * 8 = sym (mul-assoc (t .y + row) (h .columns / 8) 8) in
       let q : (t .y + row) * h .columns ≡ (t .y + row) * (h .columns / 8) * 8 = ap (λ (x : ℕ). (t .y + row) * x) c ∙ p in
       omega (arith, q, add-mul (t .y) row (h .columns / 8))
+
+  -- a pixel of a row is a bit of its byte
+  pub bit-row : (row c : ℕ) → c < t .w → pixelValid m (rowFrom h t row + c) ≡ bitSet (getD m (at + row * (h .columns / 8)) 0) c
+  unfolding pixelValid
+  bit-row row c l =
+      let k = at + row * (h .columns / 8) in
+      let d : (8 * k + c) / 8 ≡ k = omega (arith, wide) in
+      let r : (8 * k + c) % 8 ≡ c = omega (arith, wide) in
+      rw (row-byte row, d, r)
 
   byte-row : (row : ℕ) → validFrom (rowFrom h t row) (t .w) m ≡ onesApart m at (h .columns / 8) row
   byte-row row =

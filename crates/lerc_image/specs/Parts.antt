@@ -1,14 +1,14 @@
 -- What private functions promise; not part of the rules.
 -- Assumes nothing.
-use Prim.Native.Nat.{ℕ, _+_, _-_, _*_, _%_, _≤_, _<_}
+use Prim.Native.Nat.{ℕ, zero, suc, _+_, _-_, _*_, _/_, _%_, _^_, _≤_, _<_}
 use mathlib.Core.Path.{_≡_}
 use mathlib.Core.Bool.{Bool, true, cond, _&&_}
 use mathlib.Core.List.{List}
-use lib.ListN.{length, getD}
+use lib.ListN.{length, getD, set}
 use lib.Count.{ones}
 use lib.Dec.{ltb, eqb}
 use Rattle.lerc_words.specs.Res.{Res, ok, _>>=_, after}
-use Rattle.lerc_words.specs.Lists.{over}
+use Rattle.lerc_words.specs.Lists.{over, count}
 use Rattle.lerc_header.specs.declared.Header.{Header}
 use Rattle.lerc_header.specs.declared.Shape.{Shape}
 use Rattle.lerc_header.specs.declared.Extent.{Extent}
@@ -60,6 +60,12 @@ pub record Asked (h : Shape) (t : Tile) (n : ℕ) (image : List ℕ) : Type 0 wh
   pub tile : t ≡ tileOf h n
   pub room : cells h ≤ length image
 
+-- a row of the image: w cells, `depth` apart from `start` on, and w words for them from `from` on
+pub record RowIn (from w depth start : ℕ) (image : List ℕ) : Type 0 where
+  pub words : from + w ≤ tileLimit
+  pub fits : start + w * depth < 2 ^ 32
+  pub room : (c : ℕ) → c < w → start + c * depth < length image
+
 -- block n at its listed start
 pub record FillAsked (h : Header) (e : Extent) (n : ℕ) (b list image : List ℕ) : Type 0 where
   pub body : BodyAsked h e
@@ -91,6 +97,24 @@ abbrev pub cursorNext : ℕ → ℕ → Cursor → Cursor
 cursorNext w columns p =
     cond (ltb (p .column + 1) w) (record { pixel = p .pixel + 1; column = p .column + 1 })
     (record { pixel = p .pixel + 1 + (columns - w); column = 0 })
+
+-- the words from `from` on, one by one, to those of a row's first w cells that have the property
+unfoldable pub rowed : (ℕ → Bool) → List ℕ → ℕ → ℕ → ℕ → ℕ → List ℕ → List ℕ
+rowed valid words from depth start zero image = image
+rowed valid words from depth start (suc c) image =
+    let before = rowed valid words from depth start c image in
+    cond (valid c) (set before (start + c * depth) (getD words (from + count c valid) 0)) before
+
+abbrev pub everyOne : ℕ → Bool
+everyOne c = true
+
+-- bit c of a byte, the highest first
+abbrev pub bitSet : ℕ → ℕ → Bool
+bitSet byte c = eqb (byte / 2 ^ (7 - c) % 2) 1
+
+-- the words of block n, whose tile is t, where a mask has all of its pixels
+abbrev pub FullScattered : Shape → Tile → ℕ → List ℕ → List ℕ → List ℕ → Type 0
+FullScattered h t n words old new = (m : List ℕ) → validInTile h m t ≡ tileSize t → new ≡ scattered h m n words old
 
 -- the words of block n at its valid cells
 pub record BlockScattered (h : Shape) (n : ℕ) (m words start : List ℕ) (r : ℕ) (now : List ℕ) : Type 0 where

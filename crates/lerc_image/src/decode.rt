@@ -37,11 +37,24 @@ fn fill_listed(
     let mut n: usize = 0;
     let full = all_valid(h.valid, e.pixels, mask);
     let mut valid: usize = 0;
+    let mut words = [0u64; 256];
     while n < e.blocks {
         let t = p.current(shape);
         valid = valid_here(shape, t, mask, full, valid);
         let at = list[n];
-        let _filled = fill_at(s, at, h, shape, n, t, valid, maxima, mask, &mut image[..]);
+        let _filled = fill_at(
+            s,
+            at,
+            h,
+            shape,
+            n,
+            t,
+            valid,
+            maxima,
+            mask,
+            &mut words,
+            &mut image[..],
+        );
         p = p.advance(shape);
         n += 1;
     }

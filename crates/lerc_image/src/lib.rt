@@ -26,6 +26,7 @@ use lerc_sweep::WayAnswer;
 use lerc_words::Refusal;
 
 mod decode;
+mod put;
 
 pub use decode::check_tiles;
 pub use decode::decode_tiles;
@@ -319,17 +320,18 @@ fn fill_tile(
     valid: usize,
     number: usize,
     mask: &[u8],
+    words: &mut [u64; 256],
     image: &mut [u64],
 ) -> FillAnswer
     requires { ⌜ Asked h t number (now image) × (valid ≡ validInTile h (now mask) t) ⌝ }
     ensures { λ r. ⌜ BlockFilled h (now (mask .entry)) number (blockSays (now (s .entry)) at (c .kind) (c .error) (c .maximum) (t .x) (validInTile h (now (mask .entry)) t)) r (now (image .entry)) (now (image .exit)) ⌝ }
 {
-    let mut words = [0u64; 256];
-    let got = lerc_block::read_block(s, at, c.kind, c.error, c.maximum, t.x, valid, &mut words);
+    let got = lerc_block::read_block(s, at, c.kind, c.error, c.maximum, t.x, valid, words);
     let BlockAnswer::Block(_next) = got else {
         return FillAnswer::Refused(got.refusal());
     };
-    FillAnswer::Filled(scatter(h, t, number, mask, &words, &mut image[..]))
+    put::put_tile(h, t, number, valid, mask, words, &mut image[..]);
+    FillAnswer::Filled(valid)
 }
 
 // Block n at a place, whose tile is `t` with `valid` valid pixels: its words to the image once it is accepted.
@@ -343,6 +345,7 @@ fn fill_at(
     valid: usize,
     maxima: &[u64; DEPTHS],
     mask: &[u8],
+    words: &mut [u64; 256],
     image: &mut [u64],
 ) -> FillAnswer
     requires { ⌜ (BlockTile h shape n t) × (valid ≡ validInTile shape (now mask) t) × (cells shape ≤ length (now image)) ⌝ }
@@ -354,7 +357,7 @@ fn fill_at(
         error: h.error,
         maximum: maxima[depth],
     };
-    fill_tile(s, at, c, shape, t, valid, n, mask, &mut image[..])
+    fill_tile(s, at, c, shape, t, valid, n, mask, words, &mut image[..])
 }
 
 // Block `number` at its listed start, of a blob whose header is held.
@@ -378,6 +381,7 @@ fn fill_number(
     let p = Position::of(shape, number);
     let t = p.current(shape);
     let valid = count_valid(shape, t, mask);
+    let mut words = [0u64; 256];
     fill_at(
         s,
         at,
@@ -388,6 +392,7 @@ fn fill_number(
         valid,
         maxima,
         mask,
+        &mut words,
         &mut image[..],
     )
 }
@@ -480,10 +485,10 @@ fn end_at(s: &[u8], at: usize, kind: u32, h: Shape, t: Tile, mask: &[u8]) -> Blo
     ensures { λ r. ⌜ blockSaid r ≡ planEnd (planAt (now (s .entry)) at kind (t .x) (validInTile h (now (mask .entry)) t)) ⌝ }
 {
     if lerc_words::bytes(s, at, 1) % 4 != 0 {
-        return lerc_block::inspect_block(s, at, kind, t.x, 0).end();
+        return lerc_block::block_end(s, at, kind, t.x, 0);
     }
     let valid = count_valid(h, t, mask);
-    lerc_block::inspect_block(s, at, kind, t.x, valid).end()
+    lerc_block::block_end(s, at, kind, t.x, valid)
 }
 
 // The start of each block, read from the heads alone; none behind a head that cannot be read.

@@ -1,13 +1,14 @@
 -- Bits of a byte, cut at both ends, and the pixels that they are: by one law, `valid-bits`, every count of pixels goes.
 -- Assumes nothing.
-use mathlib.Core.Path.{_≡_, refl, sym, _∙_}
+use mathlib.Core.Path.{_≡_, refl, sym, ap, _∙_}
 use mathlib.Core.List.{List}
 use Prim.Native.Nat.{ℕ, zero, suc, _+_, _-_, _*_, _/_, _%_, _^_, _≤_, _<_}
 use native.Mathlib.Omega.{arith}
-use native.Mathlib.Nat.{pow-suc, div-div-eq-div-mul, div-one, zero-div, zero-mod, mod-one, mod-lt, mod-eq-of-lt}
+use native.Mathlib.Nat.{pow-suc, div-div-eq-div-mul, div-one, zero-div, zero-mod, mod-one, mod-lt, mod-eq-of-lt, mul-assoc, mul-le-mul}
 use lib.Count.{ones, onesIn, ones-step, ones-le}
 use lib.Arith.{mod-mul}
-use lib.Pow.{pow-pos}
+use lib.Pow.{pow-add, pow-pos, pow-mono}
+use lib.Ieee.Nearest.{div-same}
 use lib.ListN.{getD, replicate}
 use Rattle.lerc_words.specs.Lists.{count}
 use Rattle.lerc_mask.specs.Mask.{validBelow, validFrom}
@@ -94,3 +95,16 @@ valid-two m k n h =
     let d : 8 * k / 8 ≡ k = omega arith in
     let r : 8 * k % 8 ≡ 0 = omega arith in
     rw (d, r) at (valid-across m (8 * k) n (omega arith))
+
+-- a bit of a byte, moved up to the highest
+pub moved-up : (x r : ℕ) → x < 256 → r < 8 → x * 2 ^ r % 2 ^ 64 / 128 ≡ x / 2 ^ (7 - r)
+moved-up x r b l =
+    let i : r + (7 - r) ≡ 7 = omega arith in
+    let t : 2 ^ r * 2 ^ (7 - r) ≡ 128 = sym (pow-add 2 r (7 - r)) ∙ ap (λ (k : ℕ). 2 ^ k) i in
+    let up : r ≤ 7 = omega arith in
+    let few : 2 ^ r ≤ 2 ^ 7 = pow-mono up in
+    let low : x ≤ 255 = omega arith in
+    let most : x * 2 ^ r ≤ 255 * 2 ^ 7 = mul-le-mul low few in
+    let small : x * 2 ^ r < 2 ^ 64 = omega arith in
+    let even : x * 2 ^ r * 2 ^ (7 - r) ≡ x * 128 = mul-assoc x (2 ^ r) (2 ^ (7 - r)) ∙ ap (λ (k : ℕ). x * k) t in
+    rw (mod-eq-of-lt small) (div-same (x * 2 ^ r) 128 x (2 ^ (7 - r)) (omega arith) (pow-pos (7 - r)) even)

@@ -34,7 +34,7 @@ pixel-take k m p h = pixel-same (take k m) m p (getD-take k m (p / 8) 0 (omega a
 
 -- ---- how many are valid
 
-bit-is : (x : ℕ) → x < 2 → cond (eqb x 1) 1 0 ≡ x
+pub bit-is : (x : ℕ) → x < 2 → cond (eqb x 1) 1 0 ≡ x
 bit-is zero h = refl
 bit-is (suc zero) h = refl
 bit-is (suc (suc x)) h = absurd (omega arith)

@@ -179,7 +179,7 @@ machine-less w t h ht = go (eq-or-lt-of-le h)
 no-nan : (x : Float) (w : ℕ) → T (Ieee.fits binary64 x) → toBits binary64 x ≡ w → IsNumber w → T (not (Ieee.isNan x))
 no-nan x w f e h = rw (sym (ofBits-toBits binary64 x f) ∙ ap (ofBits binary64) e, ← nanBits-is binary64 w) (no-nan-bits w h)
 
-signed-number : (s : Bool) (n : ℕ) → IsNumber (signed s (bits64 n))
+pub signed-number : (s : Bool) (n : ℕ) → IsNumber (signed s (bits64 n))
 signed-number s n = rw (rest-signed s (bits64 n) (bits-lt n)) (bits-le n)
 
 counted-number : (a b : ℕ) → IsNumber (countedSum a b)

@@ -21,4 +21,10 @@ pub mod RoundTrip
 pub mod Rounds
 pub mod ByMachine
 pub mod Stepping
+pub mod StepOrder
+pub mod Mapping
+pub mod Counts
+pub mod Normal
+pub mod WholeNumbers
+pub mod WholeSteps
 pub mod OneSum

@@ -31,7 +31,7 @@ small-product error q h l =
     fine : (b : ℕ) → b < 2047 * 2 ^ 52 → b / 2 ^ 52 < 2047
     fine b h = omega arith
 
-module _ (offset error top q : ℕ) (fo : field offset < 2047) (fe : error < errorEnd) (ft : field top < 2047) (lq : q < 2 ^ 32) where
+module _ (offset error q : ℕ) (fo : field offset < 2047) (fe : error < errorEnd) (lq : q < 2 ^ 32) where
   abbrev pub moved : Float
   moved = Ieee.add binary64 (ofBits binary64 offset) (product error q)
 
@@ -44,7 +44,7 @@ module _ (offset error top q : ℕ) (fo : field offset < 2047) (fe : error < err
   product-is : product error q ≡ ofBits binary64 (scaled error q)
   product-is = sym (ofBits-toBits binary64 (product error q) (product-fits error q)) ∙ ap (ofBits binary64) (machine-scaled error q (omega arith) (omega arith))
 
-  moved-bits : toBits binary64 moved ≡ reached
+  pub moved-bits : toBits binary64 moved ≡ reached
   moved-bits = rw (product-is) (machine-sum offset (scaled error q) fo finite-product)
 
   moved-is : moved ≡ ofBits binary64 reached
@@ -53,13 +53,14 @@ module _ (offset error top q : ℕ) (fo : field offset < 2047) (fe : error < err
   pub moved-no-nan : T (not (Ieee.isNan moved))
   moved-no-nan = rw (product-is) (sum-no-nan offset (scaled error q) fo finite-product)
 
-  test-is : Ieee.lt moved (ofBits binary64 top) ≡ less reached top
-  test-is = rw (moved-is) (machine-less reached top (sum-number offset (scaled error q) fo finite-product) ft)
+  module _ (top : ℕ) (ft : field top < 2047) where
+    pub test-is : Ieee.lt moved (ofBits binary64 top) ≡ less reached top
+    test-is = rw (moved-is) (machine-less reached top (sum-number offset (scaled error q) fo finite-product) ft)
 
-  pub taken-bits : Ieee.lt moved (ofBits binary64 top) ≡ true → toBits binary64 moved ≡ lesser reached top
-  unfolding lesser
-  taken-bits e = rw (sym test-is ∙ e) moved-bits
+    pub taken-bits : Ieee.lt moved (ofBits binary64 top) ≡ true → toBits binary64 moved ≡ lesser reached top
+    unfolding lesser
+    taken-bits e = rw (sym test-is ∙ e) moved-bits
 
-  pub left-bits : Ieee.lt moved (ofBits binary64 top) ≡ false → top ≡ lesser reached top
-  unfolding lesser
-  left-bits e = rw (sym test-is ∙ e)
+    pub left-bits : Ieee.lt moved (ofBits binary64 top) ≡ false → top ≡ lesser reached top
+    unfolding lesser
+    left-bits e = rw (sym test-is ∙ e)

@@ -5,17 +5,23 @@ ghost use Rattle.lerc_numeric.specs.Kinds.{integerSaid, refusalOfInteger
 use lerc_words::Refusal;
 
 mod add;
+mod block;
+mod clamp;
 mod kinds;
+mod lengths;
 mod machine;
 mod order;
 mod parts;
 mod ready;
 mod round;
 mod single;
-mod steps;
 mod times;
+mod whole;
 
 pub use add::plus;
+pub use block::single_steps;
+pub use block::steps;
+pub use clamp::step;
 pub use kinds::number;
 pub use kinds::size;
 pub use order::is_finite;
@@ -24,8 +30,9 @@ pub use order::minimum;
 pub use order::same;
 pub use ready::float_ready;
 pub use single::narrow;
-pub use steps::step;
 pub use times::scale;
+pub use whole::raised;
+pub use whole::twice_whole;
 
 pub enum IntegerAnswer {
     Word(u64),

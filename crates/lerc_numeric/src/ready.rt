@@ -3,8 +3,8 @@ ghost use mathlib.Core.Path.{_≡_};
 ghost use mathlib.Core.Bool.{true};
 use super::add::plus;
 use super::add::plus_words;
-use super::steps::step;
-use super::steps::step_words;
+use super::clamp::step;
+use super::clamp::step_words;
 use super::times::scale;
 use super::times::scale_words;
 

@@ -1,8 +1,11 @@
 // binary32 words out of binary64 words, and back.
 ghost use mathlib.Core.Path.{_≡_};
-ghost use Prim.Native.Nat.{_^_, _<_};
+ghost use mathlib.Core.Bool.{true};
+ghost use Prim.Native.Nat.{ℕ, _^_, _<_};
+ghost use lib.ListN.{length, getD};
 ghost use Rattle.lerc_numeric.specs.Inside as Inside;
 ghost use Rattle.lerc_numeric.specs.Kinds.{narrowed, widened};
+ghost use Rattle.lerc_numeric.specs.Steps.{mapped};
 use super::parts::exponent;
 use super::parts::significand;
 use super::round::nearest;
@@ -31,19 +34,68 @@ fn unsigned(v: u64) -> u64
     }
 }
 
-// The nearest binary32; too large becomes infinity. From 2^-126 on and below 2^128 one sum rounds field and digits at once:
-// half a unit less one is added, and one more where the last digit kept is odd.
-pub fn narrow(v: u64) -> u32
+// from 2^-126 on and below 2^128
+pub(crate) fn is_normal(v: u64) -> bool
+    ensures { λ r. ⌜ r ≡ Inside.normal32 v ⌝ }
+{
+    let x = v % 0x8000_0000_0000_0000;
+    (0x3810_0000_0000_0000 <= x) & (x < 0x47f0_0000_0000_0000)
+}
+
+// There one sum rounds field and digits at once: half a unit less one is added, and one more where the last digit kept is odd.
+fn round_normal(v: u64) -> u64
+    requires { ⌜ Inside.normal32 v ≡ true ⌝ }
     ensures { λ r. ⌜ r ≡ narrowed v ⌝ }
 {
     let x = v % 0x8000_0000_0000_0000;
-    if 0x3810_0000_0000_0000 <= x {
-        if x < 0x47f0_0000_0000_0000 {
-            let y = (x + 0xfff_ffff + x / 0x2000_0000 % 2) / 0x2000_0000;
-            return (v / 0x8000_0000_0000_0000 * 0x8000_0000 + (y - 0x1_c000_0000)) as u32;
-        }
-    }
+    let y = (x + 0xfff_ffff + x / 0x2000_0000 % 2) / 0x2000_0000;
+    v / 0x8000_0000_0000_0000 * 0x8000_0000 + (y - 0x1_c000_0000)
+}
+
+// apart from `narrow`, so that its quick branch is small
+fn narrow_any(v: u64) -> u32
+    ensures { λ r. ⌜ r ≡ narrowed v ⌝ }
+{
     (v / 0x8000_0000_0000_0000 * 0x8000_0000 + unsigned(v)) as u32
+}
+
+// the nearest binary32; too large becomes infinity
+pub fn narrow(v: u64) -> u32
+    ensures { λ r. ⌜ r ≡ narrowed v ⌝ }
+{
+    if is_normal(v) {
+        round_normal(v) as u32
+    } else {
+        narrow_any(v)
+    }
+}
+
+pub(crate) fn narrow_normal(words: &mut [u64])
+    requires { ⌜ ((k : ℕ) → k < length (now words) → Inside.normal32 (getD (now words) k 0) ≡ true) ⌝ }
+    ensures { λ r. ⌜ now (words .exit) ≡ mapped narrowed (now (words .entry)) (now (words .entry)) ⌝ }
+{
+    let n = words.len();
+    let mut k = 0;
+    while k < n {
+        words[k] = round_normal(words[k]);
+        k += 1;
+    }
+}
+
+pub(crate) fn narrow_each(words: &mut [u64])
+    ensures { λ r. ⌜ now (words .exit) ≡ mapped narrowed (now (words .entry)) (now (words .entry)) ⌝ }
+{
+    let n = words.len();
+    let mut k = 0;
+    while k < n {
+        let word = words[k];
+        words[k] = if is_normal(word) {
+            round_normal(word)
+        } else {
+            narrow_any(word) as u64
+        };
+        k += 1;
+    }
 }
 
 // a binary32 word as a binary64, exactly

@@ -1,37 +1,17 @@
--- A list that a loop fills from the front, with f k in turn k.
+-- What a list that a loop has filled is: a copy, and one value everywhere.
 -- Assumes nothing.
 use mathlib.Core.Path.{_≡_, _∙_, sym, ap, refl}
 use mathlib.Core.List.{List, [], _∷_, _++_, append-nil}
-use Prim.Native.Nat.{ℕ, zero, suc, _+_, _≤_, _<_, min}
+use Prim.Native.Nat.{ℕ, zero, suc, _≤_, min}
 use native.Mathlib.Omega.{arith}
 use native.Mathlib.Decide.{decLe}
 use native.Mathlib.Nat.{not-suc-le-zero, le-of-suc-le-suc}
-use lib.ListN.{length, getD, set, take, drop, replicate, length-take}
+use lib.ListN.{length, getD, take, drop, replicate, length-take}
 use lib.Seq.{take-all, drop-length}
 use Rattle.lerc_words.specs.Lists.{from, tabulate, over}
-use Rattle.lerc_words.proofs.Tables.{table-more, length-table, from-shift}
+use Rattle.lerc_words.proofs.Tables.{from-shift}
+use Rattle.lerc_words.proofs.Filling.{Filling, filling-done}
 use Rattle.lerc_slices.specs.Slices.{copied}
-
-pub record Filling (f : ℕ → ℕ) (n k : ℕ) (old now : List ℕ) : Type 0 where
-  pub few : k ≤ n
-  pub room : n ≤ length old
-  pub is : now ≡ tabulate k f ++ drop k old
-
-pub filling-none : (f : ℕ → ℕ) (n : ℕ) (old : List ℕ) → n ≤ length old → Filling f n 0 old old
-unfolding from
-filling-none f n old h = record { few = omega arith; room = h; is = refl }
-
-module _ {f : ℕ → ℕ} {n k : ℕ} {old now : List ℕ} (t : Filling f n k old now) where
-  pub filling-length : length now ≡ length old
-  filling-length = rw (t .is) (length-table k f old (omega (arith, t .few, t .room)))
-
-  pub filling-more : (v : ℕ) → k < n → v ≡ f k → Filling f n (k + 1) old (set now k v)
-  filling-more v h e =
-      let l : k < length old = omega (arith, t .room) in
-      record { few = omega arith; room = t .room; is = rw (e, t .is) (table-more k f old l) }
-
-  pub filling-done : n ≤ k → now ≡ tabulate n f ++ drop n old
-  filling-done h = let e : k ≡ n = omega (arith, t .few) in rw (← e) (t .is)
 
 -- ---- what the tables are: one word, and the front of a list
 

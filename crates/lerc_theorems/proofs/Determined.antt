@@ -60,6 +60,7 @@ no-room = record {
   peek = given (λ k a. tt) _ (λ k a r x p. p);
   bytes = given (λ k a. tt) _ (λ k a r x p. p);
   word = told (λ k a. tt) word-same _ (λ k a r x p. p);
+  words = record { asks-nothing = λ k a. tt; same = λ k a r q x y p s. (refl, p ∙ sym s) };
   copy-bytes = record { asks-nothing = λ k a. tt; same = λ k a r q x y p s. (refl, p ∙ sym s) };
   copy-words = record { asks-nothing = λ k a. tt; same = λ k a r q x y p s. (refl, p ∙ sym s) };
   fill-bytes = record { asks-nothing = λ k a. tt; same = λ k a r q x y p s. (refl, p ∙ sym s) };
@@ -76,6 +77,10 @@ no-room = record {
   narrow = given (λ k a. tt) _ (λ k a r x p. p);
   to-integer = told (λ k a. tt) integer-same _ (λ k a r x p. p);
   step = given (λ k a. tt) _ (λ k a r x p. p);
+  twice-whole = given (λ k a. tt) _ (λ k a r x p. p);
+  raised = given (λ k a. tt) _ (λ k a r x p. p);
+  steps = record { asks-nothing = λ k a. tt; same = λ k a r q x y p s. (refl, p ∙ sym s) };
+  single-steps = record { asks-nothing = λ k a. tt; same = λ k a r q x y p s. (refl, p ∙ sym s) };
   float-ready = given (λ k a. tt) _ (λ k a r x p. p);
   offset-refusal = given (λ k a. tt) _ (λ k a r x p. p);
   sample-refusal = given (λ k a. tt) _ (λ k a r x p. p);
@@ -118,6 +123,7 @@ no-room = record {
   block-plan-refusal = given (λ k a. tt) _ (λ k a r x p. p);
   block-plan-end = told (λ k a. tt) block-same _ (λ k a r x p. p);
   inspect-block = told (λ k a. tt) block-plan-same _ (λ k a r x p. p);
+  block-end = told (λ k a. tt) block-same _ (λ k a r x p. p);
   read-block = record { asks-nothing = λ k a. tt; same = λ k a r q x y p s. block-read-same p s };
   check-block = told (λ k a. tt) block-same _ (λ k a r x p. p);
   walk-refusal = given (λ k a. tt) _ (λ k a r x p. p);

@@ -45,6 +45,7 @@ use Rattle.lerc_ranges.specs.declared.RangesAnswer.the-variants as ranges-answe
 use Rattle.lerc_ranges.proofs.convert.Reads as convert
 use Rattle.lerc_ranges.specs.declared.ConstantsAnswer.the-variants as constants-answer
 use Rattle.lerc_block.proofs.inspect_block.Reads as inspect-block
+use Rattle.lerc_block.proofs.block_end.Reads as block-end
 use Rattle.lerc_block.specs.declared.plan.BlockPlanAnswer.the-variants as block-plan-answer
 use Rattle.lerc_block.specs.declared.BlockAnswer.the-variants as block-answer
 use Rattle.lerc_block.proofs.read_block.Reads as read-block
@@ -98,6 +99,7 @@ pub record NumbersExactly : Type 0 where
   pub read-ranges : Exactly read-ranges.Post (λ r. By ranges-answer.Refused (r .answer)) (λ a. ReadRangesRefused (a .0 .now) (a .1 .0))
   pub convert : Exactly convert.Post (λ r. By constants-answer.Refused (r .answer)) (λ a. ConstantsRefused (a .1 .0) (a .1 .1 .0) (a .0))
   pub inspect-block : Exactly inspect-block.Post (By block-plan-answer.Refused) (λ a. BlockPlanRefused (a .0 .now) (a .1 .0) (a .1 .1 .0) (a .1 .1 .1 .0) (a .1 .1 .1 .1 .0))
+  pub block-end : Exactly block-end.Post (By block-answer.Refused) (λ a. BlockPlanRefused (a .0 .now) (a .1 .0) (a .1 .1 .0) (a .1 .1 .1 .0) (a .1 .1 .1 .1 .0))
   pub read-block : Exactly read-block.Post (By block-answer.Refused) (λ a. ReadBlockRefused (a .0 .now) (a .1 .0) (a .1 .1 .0) (a .1 .1 .1 .0) (a .1 .1 .1 .1 .0) (a .1 .1 .1 .1 .1 .0) (a .1 .1 .1 .1 .1 .1 .0))
   pub check-block : Exactly check-block.Post (By block-answer.Refused) (λ a. ReadBlockRefused (a .0 .now) (a .1 .0) (a .1 .1 .0) (a .1 .1 .1 .0) (a .1 .1 .1 .1 .0) (a .1 .1 .1 .1 .1 .0) (a .1 .1 .1 .1 .1 .1 .0))
   pub read-sweep : Exactly read-sweep.Post (By way-answer.Refused) (λ a. SweepRefused (a .0 .now) (a .1 .1 .0) (a .1 .1 .1 .0) (a .1 .0))
@@ -130,6 +132,7 @@ pub record NumbersOnly : Type 0 where
   pub read-ranges : Only read-ranges.Post (λ r. By ranges-answer.Refused (r .answer)) (1 ∷ 3 ∷ 4 ∷ 7 ∷ [])
   pub convert : Only convert.Post (λ r. By constants-answer.Refused (r .answer)) (9 ∷ [])
   pub inspect-block : Only inspect-block.Post (By block-plan-answer.Refused) (1 ∷ 8 ∷ [])
+  pub block-end : Only block-end.Post (By block-answer.Refused) (1 ∷ 8 ∷ [])
   pub read-block : Only read-block.Post (By block-answer.Refused) (1 ∷ 8 ∷ 9 ∷ [])
   pub check-block : Only check-block.Post (By block-answer.Refused) (1 ∷ 8 ∷ 9 ∷ [])
   pub read-sweep : Only read-sweep.Post (By way-answer.Refused) (1 ∷ 8 ∷ 10 ∷ [])

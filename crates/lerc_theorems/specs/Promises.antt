@@ -16,6 +16,7 @@ use Rattle.lerc_words.proofs.WordAnswer.refusal.Reads as word-refusal
 use Rattle.lerc_words.proofs.peek.Reads as peek
 use Rattle.lerc_words.proofs.bytes.Reads as bytes
 use Rattle.lerc_words.proofs.word.Reads as word
+use Rattle.lerc_words.proofs.words.Reads as words
 use Rattle.lerc_slices.proofs.copy_bytes.Reads as copy-bytes
 use Rattle.lerc_slices.proofs.copy_words.Reads as copy-words
 use Rattle.lerc_slices.proofs.fill_bytes.Reads as fill-bytes
@@ -32,6 +33,10 @@ use Rattle.lerc_numeric.proofs.number.Reads as number
 use Rattle.lerc_numeric.proofs.narrow.Reads as narrow
 use Rattle.lerc_numeric.proofs.to_integer.Reads as to-integer
 use Rattle.lerc_numeric.proofs.step.Reads as step
+use Rattle.lerc_numeric.proofs.twice_whole.Reads as twice-whole
+use Rattle.lerc_numeric.proofs.raised.Reads as raised
+use Rattle.lerc_numeric.proofs.steps.Reads as steps
+use Rattle.lerc_numeric.proofs.single_steps.Reads as single-steps
 use Rattle.lerc_numeric.proofs.float_ready.Reads as float-ready
 use Rattle.lerc_samples.proofs.OffsetAnswer.refusal.Reads as offset-refusal
 use Rattle.lerc_samples.proofs.SampleAnswer.refusal.Reads as sample-refusal
@@ -75,6 +80,7 @@ use Rattle.lerc_block.proofs.BlockAnswer.refusal.Reads as block-refusal
 use Rattle.lerc_block.proofs.plan.BlockPlanAnswer.refusal.Reads as block-plan-refusal
 use Rattle.lerc_block.proofs.plan.BlockPlanAnswer.end.Reads as block-plan-end
 use Rattle.lerc_block.proofs.inspect_block.Reads as inspect-block
+use Rattle.lerc_block.proofs.block_end.Reads as block-end
 use Rattle.lerc_block.proofs.read_block.Reads as read-block
 use Rattle.lerc_block.proofs.check_block.Reads as check-block
 use Rattle.lerc_image.proofs.WalkAnswer.refusal.Reads as walk-refusal
@@ -138,6 +144,7 @@ pub record NoRoom : Type 0 where
   pub peek : Answers peek.Pre peek.Post
   pub bytes : Answers bytes.Pre bytes.Post
   pub word : Answers word.Pre word.Post
+  pub words : Writes words.Pre words.Post (λ o. o .1 .1 .1 .0 .now)
   -- lerc_slices
   pub copy-bytes : Writes copy-bytes.Pre copy-bytes.Post (λ o. o .1 .0 .now)
   pub copy-words : Writes copy-words.Pre copy-words.Post (λ o. o .1 .0 .now)
@@ -156,6 +163,10 @@ pub record NoRoom : Type 0 where
   pub narrow : Answers narrow.Pre narrow.Post
   pub to-integer : Answers to-integer.Pre to-integer.Post
   pub step : Answers step.Pre step.Post
+  pub twice-whole : Answers twice-whole.Pre twice-whole.Post
+  pub raised : Answers raised.Pre raised.Post
+  pub steps : Writes steps.Pre steps.Post (λ o. o .1 .1 .1 .1 .1 .0 .now)
+  pub single-steps : Writes single-steps.Pre single-steps.Post (λ o. o .1 .1 .1 .1 .1 .0 .now)
   pub float-ready : Answers float-ready.Pre float-ready.Post
   -- lerc_samples
   pub offset-refusal : Answers offset-refusal.Pre offset-refusal.Post
@@ -205,6 +216,7 @@ pub record NoRoom : Type 0 where
   pub block-plan-refusal : Answers block-plan-refusal.Pre block-plan-refusal.Post
   pub block-plan-end : Answers block-plan-end.Pre block-plan-end.Post
   pub inspect-block : Answers inspect-block.Pre inspect-block.Post
+  pub block-end : Answers block-end.Pre block-end.Post
   pub read-block : Writes read-block.Pre read-block.Post (λ o. o .1 .1 .1 .1 .1 .1 .1 .0 .now)
   pub check-block : Answers check-block.Pre check-block.Post
   -- lerc_sweep

@@ -12,6 +12,7 @@ use Rattle.lerc_words.specs.Res.{ok, fail, refuse, little, wordAt, wordS
 use Rattle.lerc_words.specs.declared.WordAnswer.{WordAnswer}
 use Rattle.lerc_words.specs.declared.WordAnswer.the-variants as word
 use Rattle.lerc_words.specs.declared.Refusal.{Refusal}
+use lib.Bits.{bitAnd, and-mask}
 use lib.Pow.{pow-add, pow-lt}
 use borrow.Author.Tests.{le-leb, lt-leb}
 use native.Mathlib.Numerals.{add-one, add-two, add-three, add-four, add-five, add-six, add-seven}
@@ -71,6 +72,14 @@ little-short n s at h k =
     let z : little (n + (8 - n)) s at ≡ little n s at + 256 ^ n * little (8 - n) s (at + n) = little-split n (8 - n) s at in
     rw (e, little-past (8 - n) s (at + n) k, mul-zero, add-zero) at z
 
+-- a place past the end may be taken for the end
+pub little-end : (n : ℕ) (s : List ℕ) (at : ℕ) → little n s (min at (length s)) ≡ little n s at
+little-end n s at = go (decLe (length s) at)
+  where
+    go : Dec (length s ≤ at) → little n s (min at (length s)) ≡ little n s at
+    go (yes p) = little-past n s (min at (length s)) (omega arith) ∙ sym (little-past n s at p)
+    go (no q) = let e : min at (length s) ≡ at = omega arith in rw (e)
+
 -- the bytes from k on are those from `at` on
 pub little-tail : (s : List ℕ) (at k : ℕ) → length s < at + 8 → k ≤ length s → min at (length s) ≤ k → k ≤ at → little (length s - k) s k ≡ little 8 s at
 unfolding little
@@ -118,6 +127,10 @@ little-word n s at b h =
     let e : n + (8 - n) ≡ 8 = omega arith in
     let z : little (n + (8 - n)) s at % 256 ^ n ≡ little n s at = little-low n (8 - n) s at b in
     rw (e, byte-pow) at z
+
+-- the same by a mask
+pub little-masked : (n : ℕ) (s : List ℕ) (at v low : ℕ) → Bytes s → n ≤ 8 → v ≡ little 8 s at → low ≡ 2 ^ (8 * n) - 1 → bitAnd v low ≡ little n s at
+little-masked n s at v low b h e d = rw (e, d, and-mask) (little-word n s at b h)
 
 pub wordAt-ok : (n : ℕ) (s : List ℕ) (at : ℕ) → at + n ≤ length s → wordAt n s at ≡ ok (little n s at)
 unfolding wordAt

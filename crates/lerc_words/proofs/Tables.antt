@@ -1,15 +1,15 @@
 -- Laws of tables of a function, and of arrays filled from the front.
 -- Assumes nothing.
 use mathlib.Core.Path.{_≡_, _∙_, sym, ap, refl}
-use mathlib.Core.List.{List, [], _∷_, _++_}
+use mathlib.Core.List.{List, [], _∷_, _++_, append-nil, append-assoc}
 use mathlib.Core.Bool.{Bool, true, false, _&&_}
 use Prim.Native.Nat.{ℕ, zero, suc, _+_, _-_, _≤_, _<_}
 use native.Mathlib.Omega.{arith}
 use native.Mathlib.Decide.{decLt}
 use native.Mathlib.Numerals.{add-one}
-use native.Mathlib.Nat.{zero-add, not-suc-le-zero, le-of-suc-le-suc}
-use lib.ListN.{length, getD, set, take, drop, length-append, length-drop, replicate, length-take}
-use lib.Seq.{set-at, drop-cons, append-snoc, ext-getD, getD-take}
+use native.Mathlib.Nat.{zero-add, add-zero, not-suc-le-zero, le-of-suc-le-suc}
+use lib.ListN.{length, getD, set, take, drop, length-append, length-drop, replicate, length-take, List·getD-append}
+use lib.Seq.{set-at, drop-cons, append-snoc, ext-getD, getD-take, getD-drop, getD-append-add}
 use Rattle.lerc_words.specs.Lists.{from, tabulate, allTo, over}
 
 pub length-from : {A : Type 0} (n i : ℕ) (f : ℕ → A) → length (from n i f) ≡ n
@@ -61,6 +61,14 @@ unfolding from
 from-shift zero i f = refl
 from-shift {A} (suc n) i f = ap (λ (l : List A). f (suc i) ∷ l) (from-shift n (suc i) f)
 
+-- a table in two parts
+pub tabulate-parts : {A : Type 0} (n m : ℕ) (f : ℕ → A) → tabulate n f ++ tabulate m (λ k. f (n + k)) ≡ tabulate (n + m) f
+unfolding from
+tabulate-parts n zero f = append-nil (tabulate n f) ∙ sym (ap (λ (k : ℕ). tabulate k f) (add-zero n))
+tabulate-parts {A} n (suc m) f =
+    let e : n + suc m ≡ suc (n + m) = omega arith in
+    rw (tabulate-snoc m (λ k. f (n + k)), e, tabulate-snoc (n + m) f, ← tabulate-parts n m f) (sym (append-assoc (tabulate n f) _ _))
+
 -- a turn of a loop that stores f k at k
 pub table-more : (k : ℕ) (f : ℕ → ℕ) (old : List ℕ) → k < length old → set (tabulate k f ++ drop k old) k (f k) ≡ tabulate (k + 1) f ++ drop (k + 1) old
 table-more k f old h =
@@ -69,6 +77,15 @@ table-more k f old h =
 
 pub length-table : (k : ℕ) (f : ℕ → ℕ) (old : List ℕ) → k ≤ length old → length (tabulate k f ++ drop k old) ≡ length old
 length-table k f old h = simp (length-append, length-tabulate, length-drop) (omega arith)
+
+-- a table's entry, and one behind it
+pub table-front : (k : ℕ) (f : ℕ → ℕ) (old : List ℕ) (i : ℕ) → i < k → getD (tabulate k f ++ drop k old) i 0 ≡ f i
+table-front k f old i h = List·getD-append (tabulate k f) (drop k old) 0 i (rw (length-tabulate) h) ∙ getD-tabulate k f i 0 h
+
+pub table-behind : (k : ℕ) (f : ℕ → ℕ) (old : List ℕ) (i : ℕ) → k ≤ i → getD (tabulate k f ++ drop k old) i 0 ≡ getD old i 0
+table-behind k f old i h =
+    let e : k + (i - k) ≡ i = omega arith in
+    rw (length-tabulate, e) at (getD-append-add (tabulate k f) (drop k old) (i - k) 0 ∙ getD-drop k old (i - k) 0)
 
 -- ---- a test of every place
 

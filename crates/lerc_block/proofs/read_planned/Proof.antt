@@ -7,6 +7,7 @@ use lib.ListN.{replicate, length-replicate, length-take}
 use Rattle.lerc_words.specs.Res.{little}
 use Rattle.lerc_words.specs.Lists.{tabulate}
 use Rattle.lerc_words.proofs.Tables.{length-tabulate}
+use Rattle.lerc_words.proofs.Row.{row-front}
 use Rattle.lerc_numeric.specs.Kinds.{typeSize}
 use Rattle.lerc_numeric.proofs.Integers.{size-le}
 use Rattle.lerc_block.specs.Block.{levelBlock}
@@ -16,11 +17,8 @@ use Rattle.lerc_slices.proofs.Parts.{front-filled}
 use Rattle.lerc_block.proofs.read_planned.Statement.{statement}
 use Rattle.lerc_block.proofs.read_planned.Tie as tie
 
-read-words-requires : tie.Need-read-words-requires
-read-words-requires c κs =
-    let f = c .before .before .before .form .given in
-    let i = c .before .before .before .before .before .before .before in
-    (rw (c .before .size .ensures) (size-le (i .args .kind)), rw (c .before .size .ensures) (rw (f .1) at (i .pre .2)), i .pre .1)
+slice-aggregate-words : tie.Need-slice-aggregate-words
+slice-aggregate-words c = simp length-take (omega arith)
 
 slice-aggregate-fill-words : tie.Need-slice-aggregate-fill-words
 slice-aggregate-fill-words c = simp length-take (omega arith)
@@ -28,7 +26,7 @@ slice-aggregate-fill-words c = simp length-take (omega arith)
 read-steps-requires : tie.Need-read-steps-requires
 read-steps-requires c κs =
     let i = c .before .before .before .before .before .before in
-    (i .pre .0, i .pre .1, rw (c .before .before .form3 .given .1) at (i .pre .2) .1)
+    (i .pre .0, i .pre .1, rw (c .before .before .form3 .given .1) at (i .pre .2))
 
 returns : tie.Need-returns
 unfolding plannedBlock formWords
@@ -39,7 +37,7 @@ returns c =
     let a = z .before .before .before .before .before .before .args in
     rw (f .1)
     (given (tabulate (a .n) (λ k. little (typeSize (a .kind)) (now (a .s)) (f .0 .0 + k * typeSize (a .kind)))) (a .n) refl (length-tabulate (a .n) _)
-    (rw (z .size .ensures) at (t .read-words .ensures)))
+    (row-front (now (a .s)) (f .0 .0) (typeSize (a .kind)) (a .n) (now (a .words)) (size-le (a .kind)) (omega arith) (rw (z .size .ensures) at (t .words .ensures))))
 
 returns-2 : tie.Need-returns-2
 unfolding plannedBlock formWords
@@ -63,7 +61,9 @@ read-planned-spec =
     (tie.spec
     (λ c. search needs)
     (λ c κs. search needs)
-    read-words-requires
+    (λ c. search needs)
+    slice-aggregate-words
+    (λ c κs. search needs)
     (λ c. search needs)
     (λ c. search needs)
     slice-aggregate-fill-words

@@ -11,34 +11,24 @@ use Rattle.lerc_image.proofs.end_at.Tie as tie
 
 returns : tie.Need-returns
 returns c =
-    let t = c .before in
-    let a = t .before .before .before .before .before .args in
+    let t = c .before .before in
+    let a = t .before .before .before .args in
     let s = now (a .s) in
     let x = a .t .x in
     let n = validInTile (a .h) (now (a .mask)) (a .t) in
-    let d = rw (t .before .before .bytes .ensures) at (t .before .if1 .taken) in
-    c .end .ensures ∙ ap planEnd (t .inspect-block .ensures ∙ plan-few s (a .at) (a .kind) x 0 (omega arith) ∙ plan-any s (a .at) (a .kind) x 0 n d)
+    let d = rw (t .bytes .ensures) at (c .before .if1 .taken) in
+    c .block-end .ensures ∙ ap planEnd (plan-few s (a .at) (a .kind) x 0 (omega arith) ∙ plan-any s (a .at) (a .kind) x 0 n d)
 
 returns-2 : tie.Need-returns-2
 returns-2 c =
-    let t = c .before in
-    let i = t .before .before .before .before .before .before in
+    let i = c .before .before .before .before .before .before in
     let a = i .args in
     let s = now (a .s) in
     let x = a .t .x in
     let n = validInTile (a .h) (now (a .mask)) (a .t) in
-    c .end2 .ensures
-    ∙ ap planEnd (t .inspect-block2 .ensures ∙ ap (λ k. planSays s (a .at) (a .kind) x k) (t .before .count-valid .ensures) ∙ plan-few s (a .at) (a .kind) x n (valid-small (a .h) (a .t) (i .pre) (now (a .mask))))
+    c .block-end2 .ensures
+    ∙ ap planEnd (ap (λ k. planSays s (a .at) (a .kind) x k) (c .before .count-valid .ensures) ∙ plan-few s (a .at) (a .kind) x n (valid-small (a .h) (a .t) (i .pre) (now (a .mask))))
 
 pub end-at-spec : {M : Type 1} → statement M
 end-at-spec =
-    tie.close
-    (tie.spec
-    (λ c κs. search needs)
-    (λ c κs. search needs)
-    (λ c κs. search needs)
-    returns
-    (λ c κs. search needs)
-    (λ c κs. search needs)
-    (λ c κs. search needs)
-    returns-2)
+    tie.close (tie.spec (λ c κs. search needs) (λ c κs. search needs) returns (λ c κs. search needs) (λ c κs. search needs) returns-2)

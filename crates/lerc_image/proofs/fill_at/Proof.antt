@@ -6,20 +6,20 @@ use borrow.Author.Needs.{needs}
 use Rattle.lerc_image.proofs.fill_at.Statement.{statement}
 use Rattle.lerc_image.proofs.fill_at.Tie as tie
 
-mul-t13 : tie.Need-mul-t13
-mul-t13 c = omega (arith, here-depth (c .before .before .before .pre .0))
+mul-t14 : tie.Need-mul-t14
+mul-t14 c = omega (arith, here-depth (c .before .before .before .pre .0))
 
-element-copy-out-t16 : tie.Need-element-copy-out-t16
-element-copy-out-t16 c = omega (arith, here-depth (c .before .before .before .pre .0))
+element-copy-out-t17 : tie.Need-element-copy-out-t17
+element-copy-out-t17 c = omega (arith, here-depth (c .before .before .before .pre .0))
 
 fill-tile-requires : tie.Need-fill-tile-requires
-fill-tile-requires c κs = let b = c .before .before .before .before .before .pre in (here-asked (b .0) (b .2), b .1)
+fill-tile-requires c κs = let b = c .before .before .before .before .before .before .pre in (here-asked (b .0) (b .2), b .1)
 
 returns : tie.Need-returns
 returns c =
-    let i = c .before .before .before .before .before .before .before .before in
+    let i = c .before .before .before .before .before .before .before .before .before in
     let a = i .args in
     rw (sym (here-block (i .pre .0) (now (a .s)) (a .at) (now (a .maxima)) (now (a .mask)))) (c .before .before .fill-tile .ensures)
 
 pub fill-at-spec : {M : Type 1} → statement M
-fill-at-spec = tie.close (tie.spec mul-t13 element-copy-out-t16 fill-tile-requires (λ c. search needs) returns)
+fill-at-spec = tie.close (tie.spec mul-t14 element-copy-out-t17 fill-tile-requires (λ c. search needs) returns)

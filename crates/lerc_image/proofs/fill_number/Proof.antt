@@ -30,9 +30,9 @@ count-valid-requires c κs = here-in (tile c)
 
 fill-at-requires : tie.Need-fill-at-requires
 fill-at-requires c κs =
-    let t = c .before .before in
+    let t = c .before .before .before in
     let a = t .before .before .before .before .before .before .before .before .before .pre in
-    (tile t, c .before .count-valid .ensures, number-room a)
+    (tile t, c .before .before .count-valid .ensures, number-room a)
 
 pub fill-number-spec : {M : Type 1} → statement M
 fill-number-spec =

@@ -30,8 +30,9 @@ returns-2 c =
     let b = r .before .before .before .before .before in
     let a = b .pre .0 in
     let read = rw (b .pre .1, read-block _ _ _ _ _ _ _ (few r)) at (r .read-block .ensures) in
-    fill-accepted read (b .args .h) (a .shaped) (now (b .args .mask)) (b .args .number) (a .below) (g .got .given .1)
-    (λ k e. block-words _ _ _ _ _ _ _ e ∙ ap (validInTile (b .args .h) (now (b .args .mask))) (a .tile)) (c .before .before .scatter .ensures)
+    let count = ap (validInTile (b .args .h) (now (b .args .mask))) (a .tile) in
+    fill-accepted read (b .args .h) (a .shaped) (now (b .args .mask)) (b .args .number) (a .below) (g .got .given .1) (λ k e. block-words _ _ _ _ _ _ _ e ∙ count)
+    (b .pre .1 ∙ count) (c .before .before .put-tile .ensures)
 
 pub fill-tile-spec : {M : Type 1} → statement M
 fill-tile-spec =

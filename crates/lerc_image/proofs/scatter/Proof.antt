@@ -1,4 +1,3 @@
-mod Turn
 use mathlib.Core.Path.{_∙_, sym}
 use mathlib.Core.Logic.{⊎-elim}
 use Prim.Native.Nat.{_-_}
@@ -7,7 +6,7 @@ use borrow.Author.Needs.{needs}
 use Rattle.lerc_header.proofs.Sizes.{pixels-few}
 use Rattle.lerc_image.proofs.Cursors.{size-le, stepped-few, stepped-fits}
 use Rattle.lerc_image.proofs.Standing.{asked-in}
-use Rattle.lerc_image.proofs.scatter.Proof.Turn.{Scattering, scattering-none, scattering-length, scattering-all, scattering-few, scattering-room, scattering-used, scattering-valid, scattering-skip}
+use Rattle.lerc_image.proofs.Scattering.{Scattering, scattering-none, scattering-length, scattering-all, scattering-few, scattering-room, scattering-used, scattering-valid, scattering-skip}
 use Rattle.lerc_image.proofs.scatter.Statement.{statement}
 use Rattle.lerc_image.proofs.scatter.Tie as tie
 

@@ -1,29 +1,15 @@
 use borrow.Author.Needs.{needs}
-use Prim.Native.Nat.{ℕ, _+_, _*_, _-_, _/_, _%_, _^_, _≤_, _<_}
-use mathlib.Core.Path.{_≡_, _∙_, sym, ap}
+use Prim.Native.Nat.{ℕ, _/_, _%_, _<_}
+use mathlib.Core.Path.{ap}
 use native.Mathlib.Omega.{arith}
-use native.Mathlib.Nat.{zero-div, mod-lt, mod-eq-of-lt, mul-assoc, mul-le-mul}
+use native.Mathlib.Nat.{zero-div, mod-lt}
 use denote.Ref.{now}
 use lib.ListN.{getD, List·getD-eq-default}
 use lib.Dec.{eqb}
-use lib.Pow.{pow-add, pow-pos, pow-mono}
-use lib.Ieee.Nearest.{div-same}
 use Rattle.lerc_mask.specs.Mask.{pixelValid}
+use Rattle.lerc_mask.proofs.Cut.{moved-up}
 use Rattle.lerc_mask.proofs.is_valid.Statement.{statement}
 use Rattle.lerc_mask.proofs.is_valid.Tie as tie
-
--- a bit of a byte, moved up to the highest
-moved-up : (x r : ℕ) → x < 256 → r < 8 → x * 2 ^ r % 2 ^ 64 / 128 ≡ x / 2 ^ (7 - r)
-moved-up x r b l =
-    let i : r + (7 - r) ≡ 7 = omega arith in
-    let t : 2 ^ r * 2 ^ (7 - r) ≡ 128 = sym (pow-add 2 r (7 - r)) ∙ ap (λ (k : ℕ). 2 ^ k) i in
-    let up : r ≤ 7 = omega arith in
-    let few : 2 ^ r ≤ 2 ^ 7 = pow-mono up in
-    let low : x ≤ 255 = omega arith in
-    let most : x * 2 ^ r ≤ 255 * 2 ^ 7 = mul-le-mul low few in
-    let small : x * 2 ^ r < 2 ^ 64 = omega arith in
-    let even : x * 2 ^ r * 2 ^ (7 - r) ≡ x * 128 = mul-assoc x (2 ^ r) (2 ^ (7 - r)) ∙ ap (λ (k : ℕ). x * k) t in
-    rw (mod-eq-of-lt small) (div-same (x * 2 ^ r) 128 x (2 ^ (7 - r)) (omega arith) (pow-pos (7 - r)) even)
 
 returns : tie.Need-returns
 unfolding pixelValid

@@ -4,7 +4,8 @@ use mathlib.Core.Path.{refl}
 use native.Mathlib.Omega.{arith}
 use denote.Ref.{now}
 use lib.ListN.{getD}
-use Rattle.lerc_slices.proofs.Filling.{Filling, filling-none, filling-length, filling-more, filling-copied}
+use Rattle.lerc_words.proofs.Filling.{Filling, filling-none, filling-length, filling-more}
+use Rattle.lerc_slices.proofs.Filling.{filling-copied}
 use Rattle.lerc_slices.proofs.copy_words.Statement.{statement}
 use Rattle.lerc_slices.proofs.copy_words.Tie as tie
 

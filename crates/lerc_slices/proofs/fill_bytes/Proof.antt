@@ -3,7 +3,8 @@ use Prim.Native.Nat.{_-_}
 use mathlib.Core.Path.{refl}
 use native.Mathlib.Omega.{arith}
 use denote.Ref.{now}
-use Rattle.lerc_slices.proofs.Filling.{Filling, filling-none, filling-length, filling-more, filling-filled}
+use Rattle.lerc_words.proofs.Filling.{Filling, filling-none, filling-length, filling-more}
+use Rattle.lerc_slices.proofs.Filling.{filling-filled}
 use Rattle.lerc_slices.proofs.fill_bytes.Statement.{statement}
 use Rattle.lerc_slices.proofs.fill_bytes.Tie as tie
 

@@ -12,7 +12,7 @@ use Rattle.lerc_block.proofs.checks.check_steps.Statement.{statement}
 use Rattle.lerc_block.proofs.checks.check_steps.Tie as tie
 
 read-steps-requires : tie.Need-read-steps-requires
-read-steps-requires c κs = let i = c .before .before .before .before in (i .pre .0, i .pre .0, i .pre .1 .1)
+read-steps-requires c κs = let i = c .before .before .before .before in (i .pre .0, i .pre .0, i .pre .1)
 
 returns : tie.Need-returns
 returns c = c .before .read-steps .ensures .says

@@ -11,11 +11,11 @@ use Rattle.lerc_image.proofs.decode.fill_listed.Statement.{statement}
 use Rattle.lerc_image.proofs.decode.fill_listed.Tie as tie
 
 abbrev Inv-loop : tie.InvT-loop
-Inv-loop s h e maxima mask list image₀ shape p₀ n₀ full valid₀ image p n valid =
+Inv-loop s h e maxima mask list image₀ shape p₀ n₀ full valid₀ words₀ image p n valid words =
     Standing h e p n × Filling s h maxima mask list image₀ image n × Carried (e .shape) mask n valid
 
 abbrev μ-loop : tie.MeasureT-loop
-μ-loop s h e maxima mask list image₀ shape p₀ n₀ full valid₀ image p n valid = e .blocks - n
+μ-loop s h e maxima mask list image₀ shape p₀ n₀ full valid₀ words₀ image p n valid words = e .blocks - n
 
 -- block n and its tile
 tile : (c : tie.After-current Inv-loop μ-loop) →
@@ -50,7 +50,7 @@ shared-slice-read-at c =
 
 fill-at-requires : tie.Need-fill-at-requires Inv-loop μ-loop
 fill-at-requires c κs =
-    let v = c .before .before in
+    let v = c .before .before .before in
     let l = v .before .before .before .before in
     let i = l .loop .inv in
     let p = l .before .before .before .before .before .before .before .before .pre in
@@ -58,19 +58,19 @@ fill-at-requires c κs =
 
 advance-requires : tie.Need-advance-requires Inv-loop μ-loop
 advance-requires c κs =
-    let v = c .before .before .before .before .before in
+    let v = c .before .before .before .before .before .before in
     let w = v .before .before .before .before .loop .inv .0 in
     (w .asked .shaped, standing-within w (v .before .before .if1 .taken))
 
 add-n : tie.Need-add-n Inv-loop μ-loop
 add-n c =
-    let v = c .before .before .before .before .before .before in
+    let v = c .before .before .before .before .before .before .before in
     omega (arith, standing-few (v .before .before .before .before .loop .inv .0) (v .before .before .if1 .taken))
 
 loop-again : tie.Need-loop-again Inv-loop μ-loop
 loop-again c =
     let f = c .before .before .before in
-    let v = f .before .before .before in
+    let v = f .before .before .before .before in
     let i = v .before .before .before .before .loop .inv in
     let l = v .before .before .if1 .taken in (
       rw (c .advance .ensures) (standing-next (i .0) l),

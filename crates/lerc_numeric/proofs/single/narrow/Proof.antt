@@ -1,45 +1,23 @@
-use native.Mathlib.Omega.{arith}
-use mathlib.Core.Path.{refl, ap, _∙_}
-use Prim.Native.Nat.{ℕ, _+_, _*_, _/_, _^_}
-use Rattle.lerc_numeric.proofs.Binary32.{unsigned-lt, narrow-is}
-use Rattle.lerc_numeric.proofs.OneSum.{one-sum}
+use mathlib.Core.Path.{sym, _∙_}
+use Rattle.lerc_numeric.proofs.Binary32.{narrowed-lt}
 use borrow.Author.Needs.{needs}
 use Rattle.lerc_numeric.proofs.single.narrow.Statement.{statement}
 use Rattle.lerc_numeric.proofs.single.narrow.Tie as tie
 
-add-result : tie.Need-add-result
-add-result c =
-    let k = c .before .before in
-    record { fits = omega (arith, one-sum (k .args .v) _ refl (c .before .if1 .taken) (c .if2 .taken), unsigned-lt (k .args .v)) }
+round-normal-requires : tie.Need-round-normal-requires
+round-normal-requires c κs = sym (c .before .is-normal .ensures) ∙ c .if1 .taken
+
+cast-result : tie.Need-cast-result
+cast-result c =
+    let b = c .before .before .before in
+    record { fits = rw (c .round-normal .ensures) (narrowed-lt (b .args .v) (b .fits .v .fits)) }
 
 returns : tie.Need-returns
-returns c =
-    let k = c .before .before in
-    let v = k .args .v in
-    ap (λ (y : ℕ). v / 2 ^ 63 * 2 ^ 31 + y) (one-sum v _ refl (c .before .if1 .taken) (c .if2 .taken)) ∙ narrow-is v (k .fits .v .fits)
-
-add-result-2 : tie.Need-add-result-2
-add-result-2 c = record { fits = omega (arith, c .unsigned .ensures, unsigned-lt (c .before .before .args .v)) }
-
-cast-result-2 : tie.Need-cast-result-2
-cast-result-2 c = record { fits = omega (arith, c .unsigned .ensures, unsigned-lt (c .before .before .args .v)) }
+returns c = c .round-normal .ensures
 
 returns-2 : tie.Need-returns-2
-returns-2 c = rw (c .unsigned .ensures) (narrow-is (c .before .before .args .v) (c .before .before .fits .v .fits))
+returns-2 c = c .narrow-any .ensures
 
 pub narrow-spec : {M : Type 1} → statement M
 narrow-spec =
-    tie.close
-    (tie.spec
-    (λ c. search needs)
-    (λ c. search needs)
-    (λ c. search needs)
-    (λ c. search needs)
-    add-result
-    (λ c. search needs)
-    returns
-    (λ c. search needs)
-    (λ c κs. search needs)
-    add-result-2
-    cast-result-2
-    returns-2)
+    tie.close (tie.spec (λ c κs. search needs) round-normal-requires cast-result (λ c κs. search needs) returns returns-2)

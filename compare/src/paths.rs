@@ -1,0 +1,246 @@
+//! How many blocks, tiles and bodies there were of each sort that a fast reader
+//! takes another way, told from a blob's own bytes. A run that leaves one of
+//! them out has not compared that way.
+
+use crate::block_paths::{block_paths, Block};
+use crate::case::{After, Case, Op};
+use crate::counted::pixels;
+use crate::sides::{header_of, ranges_of};
+use crate::table::grouped;
+use lerc2::raw;
+use second::{Header, Ranges};
+
+/// What is told apart.
+#[derive(Clone, Copy, Debug, PartialEq, Eq)]
+pub enum Path {
+    UsualHead,
+    HeadAtEnd,
+    WideNumber,
+    Table,
+    RawBlock,
+    ZeroBlock,
+    OneOffset,
+    WholeUnclamped,
+    WholeClamped,
+    WholeOneByOne,
+    Float6Unclamped,
+    Float6Clamped,
+    Float6OverWhole,
+    Float7Unclamped,
+    Float7Clamped,
+    Float7OverWhole,
+    Normal,
+    NotNormal,
+    Bits8,
+    Bits16,
+    Bits31,
+    FullEight,
+    FullTile,
+    EmptyTile,
+    Square,
+    PartlyValid,
+    RawFull,
+    RawMasked,
+    ConstantFull,
+    ConstantMasked,
+    Empty,
+    Blocks,
+}
+
+/// All of them in order, with their names.
+pub const PATHS: [(Path, &str); 32] = [
+    (Path::UsualHead, "block: usual head"),
+    (Path::HeadAtEnd, "block: usual head, under 11 bytes left"),
+    (Path::WideNumber, "block: number of counts in 2 or 4 bytes"),
+    (Path::Table, "block: table"),
+    (Path::RawBlock, "block: raw"),
+    (Path::ZeroBlock, "block: zero"),
+    (Path::OneOffset, "block: one offset"),
+    (
+        Path::WholeUnclamped,
+        "kinds 0 to 5: whole numbers, no clamp",
+    ),
+    (Path::WholeClamped, "kinds 0 to 5: whole numbers, clamped"),
+    (Path::WholeOneByOne, "kinds 0 to 5: one by one"),
+    (Path::Float6Unclamped, "kind 6: by the float unit, no clamp"),
+    (Path::Float6Clamped, "kind 6: by the float unit, clamped"),
+    (Path::Float6OverWhole, "kind 6: over whole numbers"),
+    (Path::Float7Unclamped, "kind 7: by the float unit, no clamp"),
+    (Path::Float7Clamped, "kind 7: by the float unit, clamped"),
+    (Path::Float7OverWhole, "kind 7: over whole numbers"),
+    (Path::Normal, "kind 6, by the float unit: all normal"),
+    (Path::NotNormal, "kind 6, by the float unit: one by one"),
+    (Path::Bits8, "packed numbers: at most 8 bits"),
+    (Path::Bits16, "packed numbers: 9 to 16 bits"),
+    (Path::Bits31, "packed numbers: 17 bits and more"),
+    (Path::FullEight, "tile: full, eight wide, depth 1"),
+    (Path::FullTile, "tile: full, other"),
+    (Path::EmptyTile, "tile: empty"),
+    (Path::Square, "tile: square, partly valid"),
+    (Path::PartlyValid, "tile: other, partly valid"),
+    (Path::RawFull, "body: raw, full"),
+    (Path::RawMasked, "body: raw, masked"),
+    (Path::ConstantFull, "body: constant, full"),
+    (Path::ConstantMasked, "body: constant, masked"),
+    (Path::Empty, "body: empty"),
+    (Path::Blocks, "body: blocks"),
+];
+
+impl Path {
+    /// Of a whole image; a fill has none of these.
+    pub fn is_body(self) -> bool {
+        self as usize >= Path::RawFull as usize
+    }
+}
+
+/// Counts by path, of whole reads and of fills.
+#[derive(Clone, Default)]
+pub struct Paths {
+    pub reads: Counts,
+    pub fills: Counts,
+}
+
+#[derive(Clone, Debug, Default, PartialEq, Eq)]
+pub struct Counts([u64; PATHS.len()]);
+
+impl Counts {
+    pub fn add(&mut self, path: Path) {
+        self.0[path as usize] += 1;
+    }
+
+    pub fn of(&self, path: Path) -> u64 {
+        self.0[path as usize]
+    }
+
+    /// The block at `start`, of a depth with this maximum.
+    fn add_block(&mut self, blob: &[u8], start: usize, header: &Header, maximum: u64) {
+        let block = Block {
+            bytes: &blob[..header.size as usize],
+            start,
+            kind: header.kind,
+            error: header.error,
+            maximum,
+        };
+        block_paths(&block, |path| self.add(path));
+    }
+}
+
+impl Paths {
+    /// Counts a call that both sides answered alike, given what is left of it.
+    pub fn count(&mut self, case: &Case, after: &After) {
+        if after.answer != 0 {
+            return;
+        }
+        let lent = &after.lent;
+        match case.op {
+            Op::Read => {
+                let blocks = lent.said[raw::HEADER] as usize;
+                self.count_read(&case.blob, &lent.kept, &lent.list[..blocks]);
+            }
+            Op::Fill => self.count_fill(case),
+            _ => {}
+        }
+    }
+
+    /// Reads a blob by the plain reader and counts it, if it is accepted.
+    pub fn count_blob(&mut self, blob: &[u8]) {
+        let Ok(header) = second::read_header(blob) else {
+            return;
+        };
+        let mut kept = vec![0; header.mask_length()];
+        let mut spare = kept.clone();
+        let mut list = vec![0; header.blocks()];
+        let mut image = vec![0; header.cells()];
+        let read = second::read(blob, false, &mut kept, &mut spare, &mut list, &mut image);
+        if let Ok((_, blocks, _)) = read {
+            self.count_read(blob, &kept, &list[..blocks]);
+        }
+    }
+
+    /// An accepted whole read, given the mask in force and the block starts.
+    fn count_read(&mut self, blob: &[u8], mask: &[u8], starts: &[usize]) {
+        let header = second::read_header(blob).expect("it was read");
+        if header.valid == 0 {
+            self.reads.add(Path::Empty);
+            return;
+        }
+        let ranges = second::read_ranges(blob, &header).expect("it was read");
+        self.reads.add(body_path(&header, &ranges, starts));
+        let depths = header.depth as usize;
+        for (block, &start) in starts.iter().enumerate() {
+            if block % depths == 0 {
+                let tile = tile_path(&header, mask, block / depths);
+                self.reads.add(tile);
+            }
+            let maximum = ranges.max[block % depths];
+            self.reads.add_block(blob, start, &header, maximum);
+        }
+    }
+
+    /// An accepted fill: its block, and the block's tile.
+    fn count_fill(&mut self, case: &Case) {
+        let header = header_of(&case.header).expect("it was filled");
+        let ranges = ranges_of(&case.ranges).expect("it was filled");
+        let (block, depths) = (case.numbers[0] as usize, header.depth as usize);
+        self.fills
+            .add(tile_path(&header, &case.mask, block / depths));
+        let (start, maximum) = (case.list[block], ranges.max[block % depths]);
+        self.fills.add_block(&case.blob, start, &header, maximum);
+    }
+
+    /// What no whole read had, and what no fill had.
+    pub fn missing(&self) -> Vec<String> {
+        let mut missing = Vec::new();
+        for (path, name) in PATHS {
+            if self.reads.of(path) == 0 {
+                missing.push(format!("{name} (whole reads)"));
+            }
+            if self.fills.of(path) == 0 && !path.is_body() {
+                missing.push(format!("{name} (fills)"));
+            }
+        }
+        missing
+    }
+
+    pub fn text(&self) -> String {
+        let mut text = String::from("| path | whole reads | fills |\n|---|---|---|\n");
+        for (path, name) in PATHS {
+            let (reads, fills) = (grouped(self.reads.of(path)), self.fills.of(path));
+            // A fill has no body, and not every run has fills.
+            let fills = match fills {
+                0 => "-".into(),
+                _ => grouped(fills),
+            };
+            text += &format!("| {name} | {reads} | {fills} |\n");
+        }
+        text
+    }
+}
+
+fn body_path(header: &Header, ranges: &Ranges, starts: &[usize]) -> Path {
+    let full = header.valid as usize == header.pixels();
+    match (ranges.constant, full) {
+        (true, true) => Path::ConstantFull,
+        (true, false) => Path::ConstantMasked,
+        _ if !starts.is_empty() => Path::Blocks,
+        (false, true) => Path::RawFull,
+        (false, false) => Path::RawMasked,
+    }
+}
+
+fn tile_path(header: &Header, mask: &[u8], tile: usize) -> Path {
+    let (rows, columns) = (header.rows as usize, header.columns as usize);
+    let side = header.side as usize;
+    let across = columns.div_ceil(side);
+    let (x, y) = (tile % across * side, tile / across * side);
+    let (width, height) = (side.min(columns - x), side.min(rows - y));
+    let valid = pixels(header, mask, tile).len();
+    let is_square = width == 8 && height == 8 && x % 8 == 0 && columns % 8 == 0;
+    match valid {
+        0 => Path::EmptyTile,
+        _ if valid < width * height && is_square => Path::Square,
+        _ if valid < width * height => Path::PartlyValid,
+        _ if width == 8 && header.depth == 1 => Path::FullEight,
+        _ => Path::FullTile,
+    }
+}
