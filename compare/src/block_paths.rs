@@ -3,7 +3,7 @@
 use crate::counted::offset_at;
 use crate::paths::Path;
 use crate::step::ERROR_END;
-use second::{is_finite, number, stored};
+use second::{is_finite, number, packed_counts, stored, MOST_COUNTS};
 
 /// Flag, offset of 8 bytes, head and number: bytes that hold any usual head.
 const HEAD_BYTES: usize = 11;
@@ -63,7 +63,8 @@ fn stepped_paths(block: &Block, mut take: impl FnMut(Path)) {
         _ => Path::Bits31,
     });
     if block.kind < 6 {
-        take(whole_path(block, offset, counts.bits));
+        let counts = [(1 << counts.bits) - 1, largest_at(block.bytes, at)];
+        take(whole_path(block, offset, counts));
         return;
     }
     let by_unit = is_finite(offset) && is_finite(block.maximum) && block.error < ERROR_END;
@@ -97,6 +98,13 @@ fn counts_at(bytes: &[u8], at: usize) -> Counts {
     }
 }
 
+/// The largest count there is; of a table, the largest entry that is named.
+fn largest_at(bytes: &[u8], at: usize) -> u32 {
+    let mut counts = [0; MOST_COUNTS];
+    let (n, _) = packed_counts(bytes, at, &mut counts).expect("it was read");
+    counts[..n].iter().copied().max().unwrap_or(0)
+}
+
 fn head_path(block: &Block, counts: &Counts) -> Path {
     if counts.table {
         Path::Table
@@ -109,8 +117,9 @@ fn head_path(block: &Block, counts: &Counts) -> Path {
     }
 }
 
-/// Kinds 0 to 5: offsets are whole.
-fn whole_path(block: &Block, offset: u64, bits: u32) -> Path {
+/// Kinds 0 to 5, whose offsets are whole: by the largest count that the width
+/// holds and the largest that there is.
+fn whole_path(block: &Block, offset: u64, [width, largest]: [u32; 2]) -> Path {
     let twice = 2.0 * f64::from_bits(block.error);
     let steps_are_whole = (1.0..=MOST_TWICE).contains(&twice) && twice.fract() == 0.0;
     let Ok(maximum) = stored(block.maximum, block.kind) else {
@@ -120,9 +129,12 @@ fn whole_path(block: &Block, offset: u64, bits: u32) -> Path {
         return Path::WholeOneByOne;
     }
     let whole = |number: u64| f64::from_bits(number) as i64;
-    let last = whole(offset) + twice as i64 * ((1 << bits) - 1);
-    if last <= whole(number(maximum, block.kind)) {
-        Path::WholeUnclamped
+    let maximum = whole(number(maximum, block.kind));
+    let fits = |count: u32| whole(offset) + twice as i64 * i64::from(count) <= maximum;
+    if fits(width) {
+        Path::WholeByWidth
+    } else if fits(largest) {
+        Path::WholeByLargest
     } else {
         Path::WholeClamped
     }

@@ -289,6 +289,8 @@ struct Maker<'a> {
     form: Form,
     /// The block that has the fault.
     faulty: usize,
+    /// About the last count of the block that is not clamped.
+    fitting: u64,
 }
 
 impl<'a> Maker<'a> {
@@ -315,6 +317,7 @@ impl<'a> Maker<'a> {
             pixels,
             pairs,
             faulty,
+            fitting: u64::MAX,
             form: Form {
                 fields: Fields {
                     rows: rows as u32,
@@ -506,6 +509,7 @@ impl<'a> Maker<'a> {
                 let word = self.offset(kind, depth, fault);
                 put_word(&mut self.form.after, word, kind);
                 if low == 1 {
+                    self.fitting = self.last_fitting(second::number(word, kind), depth);
                     self.put_counts(valid, fault);
                 }
             }
@@ -568,6 +572,17 @@ impl<'a> Maker<'a> {
         wanted_word(self.random, &self.wanted, kind)
     }
 
+    /// Or one that is never packed: with huge errors, and if even the offset is
+    /// above the maximum.
+    fn last_fitting(&self, offset: u64, depth: usize) -> u64 {
+        let maximum = number(self.pairs[depth].1, self.wanted.kind);
+        let room = f64::from_bits(maximum) - f64::from_bits(offset);
+        if self.wanted.huge || room < 0.0 {
+            return u64::MAX;
+        }
+        (room / (2.0 * f64::from_bits(self.form.fields.error))) as u64
+    }
+
     fn put_counts(&mut self, valid: usize, fault: Fault) {
         let n = self.counts(valid, fault);
         let codes: &[(u8, usize)] = match n {
@@ -595,7 +610,8 @@ impl<'a> Maker<'a> {
         if table {
             self.put_table(n, bits, fault);
         } else {
-            self.put_run(n, bits, 1 << bits);
+            let counts = self.some_counts(n, bits);
+            self.put_run(&counts, bits);
         }
     }
 
@@ -638,26 +654,61 @@ impl<'a> Maker<'a> {
             },
         };
         self.form.after.push(entries as u8);
-        self.put_run(entries.max(1) - 1, bits, 1 << bits);
+        let mut table = self.some_counts(entries.max(1) - 1, bits);
+        self.put_run(&table, bits);
+        table.insert(0, 0);
         let width = entries.max(1).next_power_of_two().trailing_zeros() as usize;
         let below = match fault {
             Fault::TableIndex => 1 << width,
-            _ => entries.max(1) as u64,
+            _ => table.len() as u64,
         };
-        self.put_run(n, width, below);
+        let indices = self.some_indices(n, below, &table);
+        self.put_run(&indices, width);
+    }
+
+    /// Counts of some bits.
+    fn some_counts(&mut self, n: usize, bits: usize) -> Vec<u64> {
+        let greatest = (1 << bits) - 1;
+        let last = last_finite(self.form.fields.error);
+        match self.random.below(4) {
+            0 => vec![greatest; n],
+            1 if last < greatest => (0..n).map(|_| last + self.random.word() % 2).collect(),
+            2 if self.fitting < greatest => {
+                // Up to the last one that is not clamped, or one above it.
+                let largest = self.fitting + u64::from(self.random.once_in(4));
+                self.up_to(n, largest)
+            }
+            _ => (0..n).map(|_| self.random.word() & greatest).collect(),
+        }
+    }
+
+    /// The largest at any place, and the others at most that.
+    fn up_to(&mut self, n: usize, largest: u64) -> Vec<u64> {
+        let place = self.random.below(n.max(1));
+        let counts = (0..n).map(|at| match at {
+            _ if at == place => largest,
+            _ => self.random.word() % (largest + 1),
+        });
+        counts.collect()
+    }
+
+    /// Indices below a limit, in some tables only of entries that are not clamped.
+    fn some_indices(&mut self, n: usize, below: u64, table: &[u64]) -> Vec<u64> {
+        let within = below == table.len() as u64;
+        let mut named: Vec<u64> = (0..below).collect();
+        match self.random.below(4) {
+            0 => named = vec![below - 1],
+            1 if within => named.retain(|&index| table[index as usize] <= self.fitting),
+            _ => {}
+        }
+        (0..n).map(|_| self.random.pick(&named)).collect()
     }
 
     /// Values of some bits each, the lowest bit first; bits after the last one
     /// are any.
-    fn put_run(&mut self, n: usize, bits: usize, below: u64) {
-        let last = last_finite(self.form.fields.error);
-        let values: Vec<u64> = match self.random.below(4) {
-            0 => vec![below - 1; n],
-            1 if last < below - 1 => (0..n).map(|_| last + self.random.word() % 2).collect(),
-            _ => (0..n).map(|_| self.random.word() % below).collect(),
-        };
-        let mut run = packed(&values, bits);
-        let rest = n * bits % 8;
+    fn put_run(&mut self, values: &[u64], bits: usize) {
+        let mut run = packed(values, bits);
+        let rest = values.len() * bits % 8;
         if let (Some(last), true) = (run.last_mut(), rest > 0) {
             *last |= self.random.byte() << rest;
         }

@@ -20,7 +20,8 @@ pub enum Path {
     RawBlock,
     ZeroBlock,
     OneOffset,
-    WholeUnclamped,
+    WholeByWidth,
+    WholeByLargest,
     WholeClamped,
     WholeOneByOne,
     Float6Unclamped,
@@ -48,7 +49,7 @@ pub enum Path {
 }
 
 /// All of them in order, with their names.
-pub const PATHS: [(Path, &str); 32] = [
+pub const PATHS: [(Path, &str); 33] = [
     (Path::UsualHead, "block: usual head"),
     (Path::HeadAtEnd, "block: usual head, under 11 bytes left"),
     (Path::WideNumber, "block: number of counts in 2 or 4 bytes"),
@@ -57,8 +58,12 @@ pub const PATHS: [(Path, &str); 32] = [
     (Path::ZeroBlock, "block: zero"),
     (Path::OneOffset, "block: one offset"),
     (
-        Path::WholeUnclamped,
-        "kinds 0 to 5: whole numbers, no clamp",
+        Path::WholeByWidth,
+        "kinds 0 to 5: whole numbers, no clamp by the width",
+    ),
+    (
+        Path::WholeByLargest,
+        "kinds 0 to 5: whole numbers, no clamp by the largest count",
     ),
     (Path::WholeClamped, "kinds 0 to 5: whole numbers, clamped"),
     (Path::WholeOneByOne, "kinds 0 to 5: one by one"),
@@ -100,8 +105,14 @@ pub struct Paths {
     pub fills: Counts,
 }
 
-#[derive(Clone, Debug, Default, PartialEq, Eq)]
+#[derive(Clone, Debug, PartialEq, Eq)]
 pub struct Counts([u64; PATHS.len()]);
+
+impl Default for Counts {
+    fn default() -> Counts {
+        Counts([0; PATHS.len()])
+    }
+}
 
 impl Counts {
     pub fn add(&mut self, path: Path) {

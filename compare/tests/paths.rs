@@ -110,7 +110,7 @@ fn heads() -> Vec<Known> {
     let two = [1, 10, 0, 1 << 6 | 4, 2, 0, 0x21];
     let four = [1, 10, 0, 4, 2, 0, 0, 0, 0x21];
     let block = |bytes: &[u8], behind| block_of_2(0.5, 5000, bytes, behind);
-    let stepped = |head| vec![Blocks, FullTile, head, WholeUnclamped, Bits8];
+    let stepped = |head| vec![Blocks, FullTile, head, WholeByWidth, Bits8];
     let other = |head| vec![Blocks, FullTile, head];
     vec![
         ("11 bytes", block(&counts_of(4), 5), stepped(UsualHead)),
@@ -147,26 +147,78 @@ fn whole_steps() -> Vec<Known> {
         let blob = block_of_2(error, maximum, &counts_of(4), 9);
         (name, blob, vec![Blocks, FullTile, UsualHead, Bits8, path])
     };
-    // Entries of 12 bits and indices of 2: the last step is 10 + 4095.
-    let table = [1, 10, 0, 2 << 6 | 32 | 12, 2, 3, 1, 0x20, 0, 0b1001];
-    let by_table = |name, maximum, path| {
-        let blob = block_of_2(0.5, maximum, &table, 9);
-        (name, blob, vec![Blocks, FullTile, Table, Bits8, path])
-    };
     let half = f64::from(1 << 19);
     vec![
-        known("last step is the maximum", 0.5, 25, WholeUnclamped),
-        known("last step above it", 0.5, 24, WholeClamped),
-        known("steps of 3, to 55", 1.5, 55, WholeUnclamped),
-        known("steps of 3, to 54", 1.5, 54, WholeClamped),
+        known("last step is the maximum", 0.5, 25, WholeByWidth),
+        known("last step above it", 0.5, 24, WholeByLargest),
+        known("largest count to the maximum", 0.5, 11, WholeByLargest),
+        known("largest count above it", 0.5, 10, WholeClamped),
+        known("offset above it", 0.5, 9, WholeClamped),
+        known("steps of 3, to 55", 1.5, 55, WholeByWidth),
+        known("steps of 3, to 54", 1.5, 54, WholeByLargest),
+        known("steps of 3, to 13", 1.5, 13, WholeByLargest),
+        known("steps of 3, to 12", 1.5, 12, WholeClamped),
         known("steps of 2^20", half, 99, WholeClamped),
         known("steps of 2^20 + 1", half + 0.5, 99, WholeOneByOne),
         known("error 0.3", 0.3, 99, WholeOneByOne),
         known("error 0.25", 0.25, 99, WholeOneByOne),
         known("error 0.75", 0.75, 99, WholeOneByOne),
         known("error 0", 0.0, 99, WholeOneByOne),
-        by_table("table, to 4105", 4105, WholeUnclamped),
-        by_table("table, to 4104", 4104, WholeClamped),
+    ]
+}
+
+/// Two counts of 4 bits wherever the largest is, and a number in 2 or 4 bytes.
+fn largest_counts() -> Vec<Known> {
+    use Path::*;
+    let known = |name, block: &[u8], head, maximum, path| {
+        let blob = block_of_2(0.5, maximum, block, 9);
+        (name, blob, vec![Blocks, FullTile, head, Bits8, path])
+    };
+    let one = |run| [1, 10, 0, 2 << 6 | 4, 2, run];
+    let two = [1, 10, 0, 1 << 6 | 4, 2, 0, 0x05];
+    let four = [1, 10, 0, 4, 2, 0, 0, 0, 0x50];
+    let no_bits = [1, 10, 0, 2 << 6, 2];
+    let below_0 = [1, 0xF6, 0xFF, 2 << 6 | 4, 2, 0x53];
+    vec![
+        known("5 and 1, to 15", &one(0x15), UsualHead, 15, WholeByLargest),
+        known("5 and 1, to 14", &one(0x15), UsualHead, 14, WholeClamped),
+        known("1 and 5, to 15", &one(0x51), UsualHead, 15, WholeByLargest),
+        known("1 and 5, to 14", &one(0x51), UsualHead, 14, WholeClamped),
+        known("15, to 25", &one(0xF0), UsualHead, 25, WholeByWidth),
+        known("15, to 24", &one(0xF0), UsualHead, 24, WholeClamped),
+        known("0, to 10", &one(0), UsualHead, 10, WholeByLargest),
+        known("0, to 9", &one(0), UsualHead, 9, WholeClamped),
+        known("2 bytes, to 15", &two, WideNumber, 15, WholeByLargest),
+        known("2 bytes, to 14", &two, WideNumber, 14, WholeClamped),
+        known("4 bytes, to 15", &four, WideNumber, 15, WholeByLargest),
+        known("4 bytes, to 14", &four, WideNumber, 14, WholeClamped),
+        known("0 bits, to 10", &no_bits, UsualHead, 10, WholeByWidth),
+        known("0 bits, to 9", &no_bits, UsualHead, 9, WholeClamped),
+        known("-10, to -5", &below_0, UsualHead, -5, WholeByLargest),
+        known("-10, to -6", &below_0, UsualHead, -6, WholeClamped),
+    ]
+}
+
+/// Entries 0, 9 and 3 of 12 bits, two indices of 2: the width's last step is
+/// 10 + 4095, and what an index names counts, not the index.
+fn table_counts() -> Vec<Known> {
+    use Path::*;
+    let known = |name, indices, maximum, path| {
+        let table = [1, 10, 0, 2 << 6 | 32 | 12, 2, 3, 9, 0x30, 0, indices];
+        let blob = block_of_2(0.5, maximum, &table, 9);
+        (name, blob, vec![Blocks, FullTile, Table, Bits8, path])
+    };
+    vec![
+        known("table, to 4105", 0b0110, 4105, WholeByWidth),
+        known("table, to 4104", 0b0110, 4104, WholeByLargest),
+        known("9 and 3 named, to 19", 0b0110, 19, WholeByLargest),
+        known("9 and 3 named, to 18", 0b0110, 18, WholeClamped),
+        known("3 and 9 named, to 19", 0b1001, 19, WholeByLargest),
+        known("3 and 9 named, to 18", 0b1001, 18, WholeClamped),
+        known("9 not named, to 13", 0b0010, 13, WholeByLargest),
+        known("9 not named, to 12", 0b0010, 12, WholeClamped),
+        known("0 alone, to 10", 0b0000, 10, WholeByLargest),
+        known("0 alone, to 9", 0b0000, 9, WholeClamped),
     ]
 }
 
@@ -335,18 +387,19 @@ fn partly_valid() -> Vec<Known> {
     ]
 }
 
-/// Two tiles, the left one empty, in two depths with maxima 25 and 24; the
-/// last step of both blocks on the right is 25.
-fn two_depths() -> Vec<u8> {
-    let mut after = [-999i16, -999, 25, 24].map(i16::to_le_bytes).concat();
-    after.extend([0, 2, 2]);
-    for _ in 0..2 {
+/// Two tiles, the left one empty, in three depths with maxima 25, 24 and 12;
+/// the blocks on the right have the last step 25 and the largest count 3.
+fn three_depths() -> Vec<u8> {
+    let ranges = [-999i16, -999, -999, 25, 24, 12];
+    let mut after = ranges.map(i16::to_le_bytes).concat();
+    after.extend([0, 2, 2, 2]);
+    for _ in 0..3 {
         after.extend([1 | 1 << 2, 10, 0, 2 << 6 | 4, 4, 0x10, 0x32]);
     }
     after.extend([0; 9]);
     let image = Image {
         columns: 12,
-        depth: 2,
+        depth: 3,
         mask: vec![0, 0xF0],
         after,
         ..pair()
@@ -356,11 +409,11 @@ fn two_depths() -> Vec<u8> {
 
 fn depths() -> Known {
     use Path::*;
-    let left = [EmptyTile, ZeroBlock, ZeroBlock];
-    let right = [FullTile, UsualHead, UsualHead, Bits8, Bits8];
-    let steps = [WholeUnclamped, WholeClamped];
-    let paths = [&[Blocks], left.as_slice(), &right, &steps].concat();
-    ("two depths", two_depths(), paths)
+    let mut paths = vec![Blocks, EmptyTile, FullTile];
+    for step in [WholeByWidth, WholeByLargest, WholeClamped] {
+        paths.extend([ZeroBlock, UsualHead, Bits8, step]);
+    }
+    ("three depths", three_depths(), paths)
 }
 
 /// The left one of two tiles has no valid pixel, and a block without counts.
@@ -411,6 +464,8 @@ fn all() -> Vec<Known> {
     let mut all = heads();
     all.extend(widths());
     all.extend(whole_steps());
+    all.extend(largest_counts());
+    all.extend(table_counts());
     all.extend(float_steps());
     all.extend(normal_steps());
     all.extend(full_tiles());
@@ -484,7 +539,8 @@ fn found(calls: &[Case]) -> Paths {
 
 #[test]
 fn calls_are_counted() {
-    for (name, blob, mut paths) in [heads(), whole_steps(), float_steps()].concat() {
+    let whole = [whole_steps(), largest_counts(), table_counts()].concat();
+    for (name, blob, mut paths) in [heads(), whole, float_steps()].concat() {
         let found = found(&[whole_read(&blob), fill(&blob, 0)]);
         assert_eq!(found.reads, counts(&paths), "{name}");
         paths.retain(|path| !path.is_body());
@@ -495,10 +551,11 @@ fn calls_are_counted() {
 #[test]
 fn a_fill_is_counted_by_its_tile_and_depth() {
     use Path::*;
-    let blob = two_depths();
+    let blob = three_depths();
     let steps = |path| counts(&[FullTile, UsualHead, Bits8, path]);
-    assert_eq!(found(&[fill(&blob, 2)]).fills, steps(WholeUnclamped));
-    assert_eq!(found(&[fill(&blob, 3)]).fills, steps(WholeClamped));
+    assert_eq!(found(&[fill(&blob, 3)]).fills, steps(WholeByWidth));
+    assert_eq!(found(&[fill(&blob, 4)]).fills, steps(WholeByLargest));
+    assert_eq!(found(&[fill(&blob, 5)]).fills, steps(WholeClamped));
     let left = counts(&[EmptyTile, ZeroBlock]);
     assert_eq!(found(&[fill(&blob, 1)]).fills, left);
 }
@@ -526,6 +583,23 @@ fn maxima_that_are_no_words() {
     assert_eq!(found(&[case.clone()]).fills.of(Path::Normal), 1);
     case.ranges[maximum] = 2f64.powi(128).to_bits();
     assert_eq!(found(&[case]).fills.of(Path::NotNormal), 1);
+}
+
+/// Maxima by value are cut to the kind.
+#[test]
+fn maxima_with_a_fraction() {
+    use Path::*;
+    let cut = [
+        (25.0, WholeByWidth),
+        (24.9, WholeByLargest),
+        (11.9, WholeByLargest),
+        (10.9, WholeClamped),
+    ];
+    let mut case = fill(&block_of_2(0.5, 99, &counts_of(4), 9), 0);
+    for (maximum, path) in cut {
+        case.ranges[2 + second::MOST_DEPTH] = f64::to_bits(maximum);
+        assert_eq!(found(&[case.clone()]).fills.of(path), 1, "{maximum}");
+    }
 }
 
 /// Every path is counted but one, of whole reads or of fills.
@@ -619,7 +693,7 @@ fn every_step_comes_up_in_full_tiles_of_each_kind() {
         let steps: &[Path] = match kind {
             6 => &[float6, &[Normal, NotNormal]].concat(),
             7 => float7,
-            _ => &[WholeUnclamped, WholeClamped, WholeOneByOne],
+            _ => &[WholeByWidth, WholeByLargest, WholeClamped, WholeOneByOne],
         };
         for &path in [steps, &[Bits8, Bits16, Bits31, UsualHead, FullEight]]
             .concat()
@@ -629,6 +703,34 @@ fn every_step_comes_up_in_full_tiles_of_each_kind() {
             assert!(count >= 20, "kind {kind}, {path:?}: {count}");
         }
     }
+}
+
+/// In images of one tile: the steps over whole numbers, by head.
+#[test]
+fn every_whole_step_comes_up_with_each_head() {
+    use Path::*;
+    let mut random = Random::new(10);
+    let heads = [UsualHead, HeadAtEnd, WideNumber, Table];
+    let steps = [WholeByWidth, WholeByLargest, WholeClamped, WholeOneByOne];
+    let mut found = [[0; 4]; 4];
+    for _ in 0..40_000 {
+        let wanted = Wanted {
+            rows: random.between(1, 8),
+            columns: 8,
+            depth: 1,
+            kind: random.below(6) as u32,
+            fault: Fault::None,
+            ..Wanted::in_eights(&mut random, false)
+        };
+        let mut paths = Paths::default();
+        paths.count_blob(&form(&mut random, wanted).bytes());
+        for (row, head) in found.iter_mut().zip(heads) {
+            for (count, step) in row.iter_mut().zip(steps) {
+                *count += paths.reads.of(head) * paths.reads.of(step);
+            }
+        }
+    }
+    assert!(found.as_flattened().iter().all(|&n| n >= 10), "{found:?}");
 }
 
 /// The program prints the table, and its full run ends well.

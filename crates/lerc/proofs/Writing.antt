@@ -24,14 +24,14 @@ use Rattle.lerc_block.specs.Block.{rawWords}
 use Rattle.lerc_image.specs.Geometry.{isValidCell}
 use Rattle.lerc_image.specs.Paint.{painted}
 use Rattle.lerc_image.specs.Blocks.{Chain, allBlocks}
-use Rattle.lerc_image.specs.Tiles.{checkedTiles, listedTiles, filledTiles}
+use Rattle.lerc_image.specs.Tiles.{checkedTiles, writtenList, writtenImage}
 use Rattle.lerc_image.proofs.Painting.{painted-words}
-use Rattle.lerc_image.proofs.Stages.{checked-listed, checked-filled, starts-over}
+use Rattle.lerc_image.proofs.Stages.{checked-written}
 use Rattle.lerc.specs.declared.body.BodyFound.{BodyFound}
 use Rattle.lerc.specs.declared.body.BodyFound.the-variants as found
 use Rattle.lerc.specs.Meaning.{Body, empty, constant, blocks, rawBody, blockBody, startsOf, cellWord}
 use Rattle.lerc.specs.Linear.{depthWord, rawWord, RawAsked}
-use Rattle.lerc.specs.Parts.{ToWrite, Listed, bodyIn, bodyImage}
+use Rattle.lerc.specs.Parts.{ToWrite, Written, bodyIn, bodyImage}
 use Rattle.lerc.proofs.Bodies.{image-empty, image-raw}
 use Rattle.lerc.proofs.Endings.{raw-starts}
 use Rattle.lerc.proofs.Checking.{tiles-are}
@@ -129,19 +129,10 @@ module _ {s : List ℕ} {h : Header} {m words : List ℕ} {f : BodyFound} (w : T
     checked : checkedTiles s h m words at ≡ ok (chained .0)
     checked = tiles-are s h words m at (w .ready) ∙ chained .1
 
-    pub list-blocks : (list : List ℕ) {new : List ℕ} → blockCount (shapeOf h) ≤ length list → new ≡ listedTiles s h m at list → new ≡ listed list
-    unfolding blockBody
-    list-blocks list l q = rw (e, chained .1) (q ∙ checked-listed s h m words at checked list l)
-
-    pub image-blocks : (list image : List ℕ) {new : List ℕ} → Listed s h m words f list → blockCount (shapeOf h) ≤ length list → cells (shapeOf h) ≤ length image
-        → new ≡ filledTiles s h m words list image → new ≡ filled image
+    pub blocks-written : (list image : List ℕ) {new-list new-image : List ℕ} → blockCount (shapeOf h) ≤ length list → cells (shapeOf h) ≤ length image
+        → (new-list ≡ writtenList s h m words at list (length image)) × (new-image ≡ writtenImage s h m words at (length list) image)
+        → Written (bodyIn s h m words f) h m list new-list image new-image
     unfolding blockBody cellWord
-    image-blocks list image t l r q =
-        rw (e, chained .1) (q ∙ checked-filled s h m words at checked list image l r (t at n end e (chained .0) (chained .1)))
-
-  -- the list that was written holds the starts
-  pub written-listed : (list : List ℕ) {new : List ℕ} → new ≡ listed list → Listed s h m words f new
-  unfolding blockBody
-  written-listed list {new} q at n end e c p =
-      let is : new ≡ over (c .starts) list = q ∙ rw (e, p) in
-      rw (is) (starts-over s h words m at p list)
+    blocks-written list image l r (p, q) =
+        let (u, v) = checked-written s h m words at checked list image l r in
+        record { list = rw (e, chained .1) (p ∙ u); image = rw (e, chained .1) (q ∙ v) }

@@ -1,10 +1,10 @@
 -- What private functions promise; not part of the rules.
 -- Assumes nothing.
-use Prim.Native.Nat.{ℕ, _≤_, _<_}
+use Prim.Native.Nat.{ℕ, _≤_}
 use mathlib.Core.Path.{_≡_}
 use mathlib.Core.Bool.{cond}
 use mathlib.Core.List.{List}
-use lib.ListN.{length, getD, take}
+use lib.ListN.{length, take}
 use lib.Dec.{eqb}
 use Rattle.lerc_words.specs.Res.{Res, ok, fail, _>>=_, refuse, after}
 use Rattle.lerc_words.specs.Lists.{over}
@@ -17,7 +17,6 @@ use Rattle.lerc_validity.specs.declared.MaskAnswer.the-variants as mask
 use Rattle.lerc_validity.specs.Validity.{inForce}
 use Rattle.lerc_image.specs.Geometry.{isValidCell}
 use Rattle.lerc_image.specs.Paint.{painted}
-use Rattle.lerc_image.specs.Blocks.{Chain, allBlocks}
 use Rattle.lerc.specs.declared.ReadAnswer.{ReadAnswer}
 use Rattle.lerc.specs.declared.ReadAnswer.the-variants as answer
 use Rattle.lerc.specs.declared.body.BodyFound.{BodyFound}
@@ -68,12 +67,6 @@ pub record ToWrite (s : List ℕ) (h : Header) (m words : List ℕ) (f : BodyFou
   pub ready : Ready s h m
   pub body : Body
   pub is : bodyIn s h m words f ≡ ok body
-
--- of a body in blocks the list holds the starts
-abbrev pub Listed : List ℕ → Header → List ℕ → List ℕ → BodyFound → List ℕ → Type 0
-Listed s h m words f list =
-    (at n end : ℕ) → f ≡ found.Blocks at n end → (c : Chain) → allBlocks s h words m at ≡ ok c
-    → (i : ℕ) → i < blockCount (shapeOf h) → getD list i 0 ≡ getD (c .starts) i (c .end)
 
 pub record Written (y : Res Body) (h : Header) (m old-list new-list old-image new-image : List ℕ) : Type 0 where
   pub list : new-list ≡ after y old-list (λ b. over (startsOf b) old-list)

@@ -3,14 +3,12 @@ ghost use mathlib.Core.Path.{_≡_};
 ghost use mathlib.Core.List.{List};
 ghost use Prim.Native.Nat.{ℕ, _≤_};
 ghost use lib.ListN.{length};
-ghost use Rattle.lerc_words.specs.Res.{after};
-ghost use Rattle.lerc_words.specs.Lists.{over};
 ghost use Rattle.lerc_header.specs.Limits.{depthLimit};
 ghost use Rattle.lerc_header.specs.Header.{shapeOf};
 ghost use Rattle.lerc_header.specs.Shape.{blockCount, cells};
 ghost use Rattle.lerc.specs.declared.ReadAnswer.the-variants as Answer;
-ghost use Rattle.lerc.specs.Meaning.{rawBody, blockBody, constantBody, sweptBody, bodySays, startsOf};
-ghost use Rattle.lerc.specs.Parts.{Ready, answerOf, bodyIn, bodyImage, Checked, ToWrite, Listed, Written};
+ghost use Rattle.lerc.specs.Meaning.{rawBody, blockBody, constantBody, sweptBody, bodySays};
+ghost use Rattle.lerc.specs.Parts.{Ready, answerOf, bodyIn, Checked, ToWrite, Written};
 use super::ReadAnswer;
 use super::linear;
 use lerc_header::DEPTHS;
@@ -177,29 +175,17 @@ pub(crate) fn check_body(s: &[u8], h: Header, mask: &[u8]) -> BodyChecked
     BodyChecked { found, words }
 }
 
-// the starts of the blocks of a checked body
-fn list_body(s: &[u8], h: Header, mask: &[u8], body: BodyChecked, list: &mut [usize])
-    requires { ⌜ (ToWrite (now s) h (now mask) (body .words) (body .found)) × (blockCount (shapeOf h) ≤ length (now list)) ⌝ }
-    ensures { λ r. ⌜ now (list .exit) ≡ after (bodyIn (now (s .entry)) h (now (mask .entry)) (body .words) (body .found)) (now (list .entry)) (λ y. over (startsOf y) (now (list .entry))) ⌝ }
-{
-    let found = body.found;
-    match found {
-        BodyFound::Blocks {
-            at,
-            count: _n,
-            end: _end,
-        } => lerc_image::list_tiles(s, h, mask, at, &mut list[..]),
-        BodyFound::Empty => {}
-        BodyFound::Constant { end: _end } => {}
-        BodyFound::Raw { at: _at, end: _end } => {}
-        BodyFound::Refused(_why) => {}
-    }
-}
-
-// the words of a checked body, whose blocks are listed
-fn fill_body(s: &[u8], h: Header, mask: &[u8], body: BodyChecked, list: &[usize], image: &mut [u64])
-    requires { ⌜ (ToWrite (now s) h (now mask) (body .words) (body .found)) × (Listed (now s) h (now mask) (body .words) (body .found) (now list)) × (blockCount (shapeOf h) ≤ length (now list)) × (cells (shapeOf h) ≤ length (now image)) ⌝ }
-    ensures { λ r. ⌜ now (image .exit) ≡ after (bodyIn (now (s .entry)) h (now (mask .entry)) (body .words) (body .found)) (now (image .entry)) (bodyImage h (now (mask .entry)) (now (image .entry))) ⌝ }
+// List and image of a checked body; nothing is left that could be refused.
+pub(crate) fn write_body(
+    s: &[u8],
+    h: Header,
+    mask: &[u8],
+    body: BodyChecked,
+    list: &mut [usize],
+    image: &mut [u64],
+)
+    requires { ⌜ (ToWrite (now s) h (now mask) (body .words) (body .found)) × (blockCount (shapeOf h) ≤ length (now list)) × (cells (shapeOf h) ≤ length (now image)) ⌝ }
+    ensures { λ r. ⌜ Written (bodyIn (now (s .entry)) h (now (mask .entry)) (body .words) (body .found)) h (now (mask .entry)) (now (list .entry)) (now (list .exit)) (now (image .entry)) (now (image .exit)) ⌝ }
 {
     let found = body.found;
     let words = body.words;
@@ -213,27 +199,11 @@ fn fill_body(s: &[u8], h: Header, mask: &[u8], body: BodyChecked, list: &[usize]
             linear::write_raw(form, s, at, size, mask, &mut image[..])
         }
         BodyFound::Blocks {
-            at: _at,
+            at,
             count: _n,
             end: _end,
-        } => lerc_image::fill_tiles(s, h, mask, &words, list, &mut image[..]),
+        } => lerc_image::write_tiles(s, h, mask, &words, at, &mut list[..], &mut image[..]),
         BodyFound::Empty => {}
         BodyFound::Refused(_why) => {}
     }
-}
-
-// List and image of a checked body; nothing is left that could be refused.
-pub(crate) fn write_body(
-    s: &[u8],
-    h: Header,
-    mask: &[u8],
-    body: BodyChecked,
-    list: &mut [usize],
-    image: &mut [u64],
-)
-    requires { ⌜ (ToWrite (now s) h (now mask) (body .words) (body .found)) × (blockCount (shapeOf h) ≤ length (now list)) × (cells (shapeOf h) ≤ length (now image)) ⌝ }
-    ensures { λ r. ⌜ Written (bodyIn (now (s .entry)) h (now (mask .entry)) (body .words) (body .found)) h (now (mask .entry)) (now (list .entry)) (now (list .exit)) (now (image .entry)) (now (image .exit)) ⌝ }
-{
-    list_body(s, h, mask, body, &mut list[..]);
-    fill_body(s, h, mask, body, &list[..], &mut image[..]);
 }

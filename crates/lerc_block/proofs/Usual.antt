@@ -3,14 +3,15 @@
 use mathlib.Core.Path.{_≡_, _∙_, sym, ap, refl}
 use mathlib.Core.Bool.{true, _&&_, and-eq-true-iff}
 use mathlib.Core.List.{List}
-use Prim.Native.Nat.{ℕ, _+_, _*_, _/_, _%_, _≤_, _<_}
+use Prim.Native.Nat.{ℕ, _+_, _-_, _*_, _/_, _%_, _^_, _≤_, _<_}
 use native.Mathlib.Nat.{mul-le-mul}
+use native.Mathlib.Numerals.{add-one, add-two, add-three, add-four}
 use native.Mathlib.Omega.{arith}
 use borrow.Author.Tests.{ltb-true, eqb-true}
 use lib.Dec.{ltb, eqb}
 use lib.ListN.{length, getD}
 use Rattle.lerc_words.specs.Res.{ok, little, wordAt}
-use Rattle.lerc_words.proofs.Little.{Bytes, wordAt-ok, wordAt-is}
+use Rattle.lerc_words.proofs.Little.{Bytes, little-low, byte-pow, unit, wordAt-ok, wordAt-is}
 use Rattle.lerc_words.proofs.Binding.{bind-ok}
 use Rattle.lerc_numeric.specs.Numeric.{finite}
 use Rattle.lerc_numeric.specs.Kinds.{typeSize, valueOf}
@@ -37,6 +38,18 @@ bits-few n h l =
     let a : n ≤ 255 = omega arith in
     let b : h % 32 ≤ 31 = omega arith in
     mul-le-mul a b
+
+-- an offset of at most four bytes, as the code adds the four behind the flag and cuts them
+quad-is : (s : List ℕ) (at : ℕ) → little 4 s (at + 1) ≡ getD s (at + 1) 0 + 256 * (getD s (at + 2) 0 + 256 * (getD s (at + 3) 0 + 256 * getD s (at + 4) 0))
+unfolding little
+quad-is s at = rw (add-one, add-two, add-three, add-four) (omega arith)
+
+pub few-bytes : (s : List ℕ) (at size : ℕ) → Bytes s → size ≤ 4 → {v : ℕ} → v ≡ getD s (at + 1) 0 + 256 * (getD s (at + 2) 0 + 256 * (getD s (at + 3) 0 + 256 * getD s (at + 4) 0))
+    → v % ((1 * 2 ^ (8 * size)) % 2 ^ 64) ≡ little size s (at + 1)
+few-bytes s at size bytes l e =
+    let z : size + (4 - size) ≡ 4 = omega arith in
+    let h : little 4 s (at + 1) % 256 ^ size ≡ little size s (at + 1) = rw (z) at (little-low size (4 - size) s (at + 1) bytes) in
+    rw (unit (8 * size) (omega arith), e, ← quad-is s at, ← byte-pow size) h
 
 pub byte-is : (s : List ℕ) (at : ℕ) → at < length s → wordAt 1 s at ≡ ok (getD s at 0)
 unfolding little

@@ -16,7 +16,7 @@ use Rattle.lerc_words.specs.Res.{ok, each}
 use Rattle.lerc_words.specs.Lists.{tabulate, over}
 use Rattle.lerc_words.proofs.Binding.{accepts-is}
 use Rattle.lerc_words.proofs.Little.{unit}
-use Rattle.lerc_words.proofs.Tables.{tabulate-same, table-over, length-tabulate}
+use Rattle.lerc_words.proofs.Tables.{tabulate-same}
 use Rattle.lerc_numeric.specs.Kinds.{typeSize, modulus}
 use Rattle.lerc_numeric.specs.Whole.{twiceWhole, raised}
 use Rattle.lerc_numeric.proofs.Integers.{sizes}

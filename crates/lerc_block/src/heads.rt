@@ -1,7 +1,7 @@
 // The usual head of a block, read at once: an offset, and packed counts without a table, whose number is one byte.
 // Any other head is left to the functions that know each refusal.
 ghost use mathlib.Core.Path.{_≡_};
-ghost use Prim.Native.Nat.{ℕ, _+_, _≤_, _<_};
+ghost use Prim.Native.Nat.{ℕ, _+_, _*_, _≤_, _<_};
 ghost use lib.ListN.{length};
 ghost use Rattle.lerc_words.specs.Res.{ok};
 ghost use Rattle.lerc_block.specs.Plan.{planAt, steppedPlan};
@@ -57,6 +57,12 @@ impl Head {
     }
 }
 
+fn quad(a: u8, b: u8, c: u8, d: u8) -> u64
+    ensures { λ r. ⌜ r ≡ a + 256 * (b + 256 * (c + 256 * d)) ⌝ }
+{
+    a as u64 + 256 * (b as u64 + 256 * (c as u64 + 256 * (d as u64)))
+}
+
 // behind the offset
 fn usual_counts(s: &[u8], at: usize, offset: StoredOffset) -> Head
     requires { ⌜ at + 2 ≤ length (now s) ⌝ }
@@ -105,7 +111,13 @@ pub(crate) fn usual_head(s: &[u8], at: usize, kind: u32, x: usize) -> Head
         return Head::other();
     };
     let size = lerc_numeric::size(k);
-    let word = lerc_words::bytes(s, at + 1, size);
+    // most offsets have at most four bytes
+    let word = if 4 < size {
+        lerc_words::bytes(s, at + 1, size)
+    } else {
+        let base: u64 = 1 << (8 * size);
+        quad(s[at + 1], s[at + 2], s[at + 3], s[at + 4]) % base
+    };
     if !finite_word(word, k) {
         return Head::other();
     }

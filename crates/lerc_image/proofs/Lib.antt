@@ -13,6 +13,8 @@ pub mod Front
 pub mod Reading
 pub mod Chain
 pub mod Heads
+pub mod Written
+pub mod Listing
 pub mod Held
 pub mod Standing
 pub mod Scattering

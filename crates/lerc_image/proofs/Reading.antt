@@ -1,6 +1,6 @@
 -- A block that was read, put into the image.
 -- Assumes nothing.
-use mathlib.Core.Path.{_≡_, _∙_, sym, ap, refl}
+use mathlib.Core.Path.{_≡_, _∙_, sym, ap}
 use mathlib.Core.List.{List}
 use Prim.Native.Nat.{ℕ, _≤_, _<_}
 use lib.ListN.{length, drop}
@@ -17,7 +17,7 @@ use Rattle.lerc_block.specs.Block.{Block, tileLimit, blockSays, readBlockSays, 
 use Rattle.lerc_image.specs.declared.FillAnswer.the-variants as answer
 use Rattle.lerc_image.specs.Geometry.{tileOf, validInTile}
 use Rattle.lerc_image.specs.Paint.{scattered}
-use Rattle.lerc_image.specs.Parts.{BlockFilled}
+use Rattle.lerc_image.specs.Parts.{BlockPut, BlockFilled}
 use Rattle.lerc_image.proofs.Front.{scattered-front}
 
 -- with at most 256 pixels reading a block is the block
@@ -41,16 +41,25 @@ module _ {b : Res Block} {got : BlockAnswer} {old new : List ℕ} (e : BlockRead
       let (k, p, _) = said-accepted (e .says) q in
       (k, p, rw (p) at (e .words))
 
-  pub fill-refused : (h : Shape) (m : List ℕ) (n : ℕ) {why : Refusal} {image : List ℕ} → got ≡ block.Refused why → BlockFilled h m n b (answer.Refused why) image image
-  fill-refused h m n {why} q = let r : b ≡ fail why = said-refused (e .says) q in rw (r) (record { says = refl; image = refl })
+  pub put-refused : (h : Shape) (m : List ℕ) (n : ℕ) {why : Refusal} {image : List ℕ} → got ≡ block.Refused why → BlockPut h m n b got image image
+  put-refused h m n {why} q = let r : b ≡ fail why = said-refused (e .says) q in record { says = e .says; image = rw (r) }
 
-  pub fill-accepted : (h : Shape) → Shaped h → (m : List ℕ) (n : ℕ) → n < blockCount h → {next r : ℕ} {image result : List ℕ}
-      → got ≡ block.Block next → ((k : Block) → b ≡ ok k → length (k .words) ≡ validInTile h m (tileOf h n)) → r ≡ validInTile h m (tileOf h n) → result ≡ scattered h m n new image
-      → BlockFilled h m n b (answer.Filled r) image result
-  fill-accepted h s m n l {image = image} q f v w =
+  pub put-accepted : (h : Shape) → Shaped h → (m : List ℕ) (n : ℕ) → n < blockCount h → {next : ℕ} {image result : List ℕ}
+      → got ≡ block.Block next → ((k : Block) → b ≡ ok k → length (k .words) ≡ validInTile h m (tileOf h n)) → result ≡ scattered h m n new image
+      → BlockPut h m n b (block.Block next) image result
+  put-accepted h s m n l {image = image} q f w =
       let (k, p, is) = read-accepted q in
-      rw (p)
-      (record {
-        says = ap ok v;
-        image = w ∙ ap (λ (x : List ℕ). scattered h m n x image) is ∙ scattered-front h s m n l (k .words) (drop (length (k .words)) old) image (f k p);
-      })
+      record {
+        says = sym (ap blockSaid q) ∙ e .says;
+        image = rw (p) (w ∙ ap (λ (x : List ℕ). scattered h m n x image) is ∙ scattered-front h s m n l (k .words) (drop (length (k .words)) old) image (f k p));
+      }
+
+-- a block that was put, told by how many words it has
+module _ {h : Shape} {m : List ℕ} {n : ℕ} {b : Res Block} {got : BlockAnswer} {old new : List ℕ} (e : BlockPut h m n b got old new) where
+  pub filled-refused : {why : Refusal} → got ≡ block.Refused why → BlockFilled h m n b (answer.Refused why) old new
+  filled-refused {why} q = let r : b ≡ fail why = said-refused (e .says) q in record { says = rw (r); image = e .image }
+
+  pub filled-accepted : {next r : ℕ} → got ≡ block.Block next → r ≡ validInTile h m (tileOf h n) → BlockFilled h m n b (answer.Filled r) old new
+  filled-accepted q v =
+      let (k, p, _) = said-accepted {b = b} (e .says) q in
+      record { says = rw (p) (ap ok v); image = e .image }

@@ -8,7 +8,7 @@ use native.Mathlib.Nat.{add-mul, suc-mul, mul-le-mul, mul-le-mul-right}
 use native.Mathlib.Omega.{arith}
 use lib.ListN.{length}
 use Rattle.lerc_words.specs.Lists.{count}
-use Rattle.lerc_words.proofs.Counts.{count-full}
+use Rattle.lerc_words.proofs.Counts.{count-full, count-all}
 use Rattle.lerc_header.specs.declared.Shape.{Shape}
 use Rattle.lerc_header.specs.Shape.{cells}
 use Rattle.lerc_mask.specs.Mask.{pixelValid}
@@ -16,11 +16,12 @@ use Rattle.lerc_block.specs.Block.{tileLimit}
 use Rattle.lerc_image.specs.declared.Tile.{Tile}
 use Rattle.lerc_image.specs.Geometry.{tileSize, pixelOf, rank, validInTile}
 use Rattle.lerc_image.specs.Paint.{scattered}
-use Rattle.lerc_image.specs.Parts.{Asked, RowIn, rowed, cursorOf}
+use Rattle.lerc_image.specs.Parts.{Asked, RowIn, rowed, everyOne, cursorOf, FullScattered}
 use Rattle.lerc_image.proofs.Partition.{tile-wide, tile-depth, cell-lt}
 use Rattle.lerc_image.proofs.Cursors.{corner-fits, cursor-step}
 use Rattle.lerc_image.proofs.Rows.{rowFrom, row-below, pixel-row}
 use Rattle.lerc_image.proofs.Standing.{asked-in}
+use Rattle.lerc_image.proofs.Laying.{length-rowed}
 use Rattle.lerc_image.proofs.Scattering.{Scattering, scattering-none, scattering-all, scattering-turn}
 
 -- ---- before a row
@@ -123,3 +124,43 @@ rows-put-all {t = t} s l = scattering-all s (mul-le-mul-right (t .w) l) .image
 -- a row of eight words beside each other
 pub eight-in : {from start : ℕ} {image : List ℕ} → RowIn from 8 1 start image → (from + 8 ≤ tileLimit) × (start + 8 ≤ length image)
 eight-in i = let l : 7 < 8 = omega arith in (i .words, omega (arith, i .room 7 l))
+
+-- ---- a tile without invalid pixels
+
+pub record FullRows (h : Shape) (t : Tile) (n : ℕ) (words old image : List ℕ) (start row used : ℕ) : Type 0 where
+  pub at : RowAt h t n old image start row used
+  pub put : (m : List ℕ) → validInTile h m t ≡ tileSize t → RowsPut h t n m words old image row used
+
+pub full-first : {h : Shape} {t : Tile} {n : ℕ} {old : List ℕ} (words : List ℕ) → Asked h t n old → FullRows h t n words old old ((t .y * h .columns + t .x) * h .depth + t .d) 0 0
+full-first words a = record { at = row-first a; put = λ m e. rows-none a m words }
+
+module _ {h : Shape} {t : Tile} {n : ℕ} {words old image : List ℕ} {start row used : ℕ} (f : FullRows h t n words old image start row used) where
+  pub full-next : row < t .h → {next : List ℕ} → next ≡ rowed everyOne words used (h .depth) start (t .w) image → FullRows h t n words old next (start + h .columns * h .depth) (row + 1) (used + t .w)
+  full-next r e =
+      let all : count (t .w) everyOne ≡ t .w = count-all (t .w) everyOne (λ k q. refl) in
+      record {
+        at = rw (e) (row-next (f .at) r (length-rowed _ _ _ _ _ _ _) (omega arith));
+        put = λ m q. rw (e) (rw (all) at (row-put (f .at) r (f .put m q) everyOne (full-row (f .at) r m q)));
+      }
+
+  pub full-all : t .h ≤ row → FullScattered h t n words old image
+  full-all l = λ m e. rows-put-all (f .put m e) l
+
+-- rows of eight words beside each other: an image of depth 1
+module _ {h : Shape} {t : Tile} (w : t .w ≡ 8) (d : h .depth ≡ 1) {n : ℕ} {words old : List ℕ} where
+  pub eights-first : Asked h t n old → FullRows h t n words old old (t .y * h .columns + t .x) 0 0
+  eights-first a =
+      let deep : t .d < h .depth = rw (a .tile) (tile-depth h (a .shaped) n (a .below)) in
+      let z : (t .y * h .columns + t .x) * h .depth + t .d ≡ t .y * h .columns + t .x = rw (d) (omega arith) in
+      rw (z) at (full-first words a)
+
+  module _ {image : List ℕ} {start row used : ℕ} (f : FullRows h t n words old image start row used) (r : row < t .h) where
+    pub eights-in : (used + 8 ≤ tileLimit) × (start + 8 ≤ length image)
+    eights-in = eight-in (rw (w, d) at (row-in (f .at) r))
+
+    pub eights-next : {next : List ℕ} → next ≡ rowed everyOne words used 1 start 8 image → FullRows h t n words old next (start + h .columns) (row + 1) (used + 8)
+    eights-next {next} e =
+        let z : start + h .columns * h .depth ≡ start + h .columns = rw (d) (omega arith) in
+        let u : used + t .w ≡ used + 8 = rw (w) in
+        let q : next ≡ rowed everyOne words used (h .depth) start (t .w) image = rw (d, w) e in
+        rw (z, u) at (full-next f r q)

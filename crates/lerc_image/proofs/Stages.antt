@@ -22,13 +22,14 @@ use Rattle.lerc_image.specs.declared.WalkAnswer.the-variants as answer
 use Rattle.lerc_image.specs.Geometry.{blockOf, isValidCell}
 use Rattle.lerc_image.specs.Blocks.{Chain, chain, allBlocks}
 use Rattle.lerc_image.specs.Walk.{walkSaid, walkOf}
-use Rattle.lerc_image.specs.Tiles.{checkedTiles, headStarts, roomToList, listedTiles, listedBlock, listedImage, roomToFill, filledTiles, tilesSays, tilesImage, Tiled}
+use Rattle.lerc_image.specs.Tiles.{checkedTiles, headStarts, roomToList, listedTiles, listedBlock, listedImage, roomToFill, filledTiles, startsFrom, imageFrom, writtenList, writtenImage, tilesSays, tilesImage, Tiled}
 use Rattle.lerc_image.specs.Parts.{BodyAsked, BodyListed}
 use Rattle.lerc_image.proofs.Partition.{block-lt}
 use Rattle.lerc_image.proofs.Painting.{painted-same, painted-words}
 use Rattle.lerc_image.proofs.Upto.{valid-below}
 use Rattle.lerc_image.proofs.Chain.{chain-block, chain-lengths}
 use Rattle.lerc_image.proofs.Heads.{heads-are}
+use Rattle.lerc_image.proofs.Written.{written-starts, written-words}
 use Rattle.lerc_image.proofs.Standing.{shape-is, count-is}
 
 -- an entry that is there does not depend on the default
@@ -112,15 +113,31 @@ module _ (b : List ℕ) (h : Header) (m maxima : List ℕ) (at : ℕ) where
     pub checked-starts : (old : List ℕ) → Starts (over (c .starts) old) c (blockCount (shapeOf h))
     checked-starts = starts-over (take (h .size) b) h maxima m at (found .chained)
 
-    pub checked-filled : (list image : List ℕ) → blockCount (shapeOf h) ≤ length list → cells (shapeOf h) ≤ length image → Starts list c (blockCount (shapeOf h))
-        → filledTiles b h m maxima list image ≡ tilesImage h m image c
-    unfolding filledTiles roomToFill
-    checked-filled list image l r t =
-        let f = found in
-        let is = held-is h (length b) (f .kept) in
-        let u : f .extent .blocks ≤ length list = rw (is) l in
-        let v : f .extent .cells ≤ length image = rw (is) r in
-        rw (f .kept, f .mask, le-leb _ _ u, le-leb _ _ v) (image-is (take (h .size) b) h maxima m at (f .chained) list t (held-shaped h (length b) (f .kept)) image)
+    module _ (list image : List ℕ) (l : blockCount (shapeOf h) ≤ length list) (r : cells (shapeOf h) ≤ length image) where
+      room-is : roomToFill b h m (length list) (length image) ≡ ok true
+      unfolding roomToFill
+      room-is =
+          let f = found in
+          let is = held-is h (length b) (f .kept) in
+          let u : f .extent .blocks ≤ length list = rw (is) l in
+          let v : f .extent .cells ≤ length image = rw (is) r in
+          rw (f .kept, f .mask, le-leb _ _ u, le-leb _ _ v)
+
+      pub checked-filled : Starts list c (blockCount (shapeOf h)) → filledTiles b h m maxima list image ≡ tilesImage h m image c
+      unfolding filledTiles
+      checked-filled t =
+          let f = found in
+          rw (room-is) (image-is (take (h .size) b) h maxima m at (f .chained) list t (held-shaped h (length b) (f .kept)) image)
+
+      -- list and image in one pass
+      pub checked-written : (writtenList b h m maxima at list (length image) ≡ over (c .starts) list) × (writtenImage b h m maxima at (length list) image ≡ tilesImage h m image c)
+      unfolding writtenList writtenImage
+      checked-written =
+          let f = found in
+          rw (room-is) (
+            rw (written-starts (take (h .size) b) h maxima m at (f .chained)),
+            written-words (take (h .size) b) h maxima m at (f .chained) (held-shaped h (length b) (f .kept)) image,
+          )
 
 -- ---- what the stages together leave
 
@@ -141,20 +158,21 @@ pub tiled-no : (h : Header) (x : Res Chain) {m : List ℕ} {why : Refusal} {list
     → Tiled x h m (answer.Refused why) list list image image
 tiled-no h x e = tiled-refused (refused-is h x e)
 
--- one that accepts, then the list, then the image
+-- one that accepts, then the list
 module _ (s : List ℕ) {h : Header} {e : Extent} (a : BodyAsked h e) (maxima m : List ℕ) (at : ℕ) {n end : ℕ}
-    (p : walkSaid (answer.Walked n end) ≡ walkOf h (allBlocks s h maxima m at)) {list list' : List ℕ} (l : list' ≡ over (headStarts s h m (e .blocks) 0 at) list) where
-  pub listed-ok : BodyListed h (allBlocks s h maxima m at) (answer.Walked n end) list list'
-  listed-ok =
+    (p : walkSaid (answer.Walked n end) ≡ walkOf h (allBlocks s h maxima m at)) {list list' : List ℕ} where
+  pub listed-ok : list' ≡ over (headStarts s h m (e .blocks) 0 at) list → BodyListed h (allBlocks s h maxima m at) (answer.Walked n end) list list'
+  listed-ok l =
       let (c, q, _) = bind-is (allBlocks s h maxima m at) _ (sym p) in
       record { says = p; list = rw (q) (l ∙ rw (count-is a, starts-are s h maxima m at q)) }
 
-  pub tiled-ok : {image image' : List ℕ} → image' ≡ listedImage s h maxima m list' image → Tiled (allBlocks s h maxima m at) h m (answer.Walked n end) list list' image image'
-  tiled-ok {image} f =
+  -- and the image
+  pub tiled-ok : list' ≡ over (startsFrom s h maxima m (e .blocks) 0 at) list → {image image' : List ℕ} → image' ≡ imageFrom s h maxima m (e .blocks) 0 at image
+      → Tiled (allBlocks s h maxima m at) h m (answer.Walked n end) list list' image image'
+  tiled-ok l {image} f =
       let (c, q, _) = bind-is (allBlocks s h maxima m at) _ (sym p) in
-      let is : list' ≡ over (c .starts) list = rw (q) at (listed-ok .list) in
       record {
         says = p;
-        list = listed-ok .list;
-        image = rw (q) (f ∙ rw (is) (image-is s h maxima m at q (over (c .starts) list) (starts-over s h maxima m at q list) (rw (shape-is a) at (a .shaped)) image));
+        list = rw (q) (l ∙ rw (count-is a, written-starts s h maxima m at q));
+        image = rw (q) (f ∙ rw (count-is a) (written-words s h maxima m at q (rw (shape-is a) at (a .shaped)) image));
       }

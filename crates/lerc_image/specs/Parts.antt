@@ -15,7 +15,8 @@ use Rattle.lerc_header.specs.declared.Extent.{Extent}
 use Rattle.lerc_header.specs.Header.{shapeOf, extentOf}
 use Rattle.lerc_header.specs.Shape.{Shaped, pixels, cells, blockCount}
 use Rattle.lerc_mask.specs.Mask.{validBelow}
-use Rattle.lerc_block.specs.Block.{Block, tileLimit}
+use Rattle.lerc_block.specs.declared.BlockAnswer.{BlockAnswer}
+use Rattle.lerc_block.specs.Block.{Block, tileLimit, blockSaid, nextBlock}
 use Rattle.lerc_image.specs.declared.Tile.{Tile}
 use Rattle.lerc_image.specs.declared.Cursor.{Cursor}
 use Rattle.lerc_image.specs.declared.FillAnswer.{FillAnswer}
@@ -121,7 +122,12 @@ pub record BlockScattered (h : Shape) (n : ℕ) (m words start : List ℕ) (r : 
   pub says : r ≡ validInTile h m (tileOf h n)
   pub image : now ≡ scattered h m n words start
 
--- what a block does to the image: its words at the valid cells of its tile, or nothing where it is refused
+-- what a block does to the image: its words at the valid cells of its tile, or nothing where it is refused; told by where the next begins
+pub record BlockPut (h : Shape) (m : List ℕ) (n : ℕ) (b : Res Block) (r : BlockAnswer) (old new : List ℕ) : Type 0 where
+  pub says : blockSaid r ≡ nextBlock b
+  pub image : new ≡ after b old (λ k. scattered h m n (k .words) old)
+
+-- the same, told by how many words were put
 pub record BlockFilled (h : Shape) (m : List ℕ) (n : ℕ) (b : Res Block) (r : FillAnswer) (old new : List ℕ) : Type 0 where
   pub says : fillSaid r ≡ (b >>= λ k. ok (validInTile h m (tileOf h n)))
   pub image : new ≡ after b old (λ k. scattered h m n (k .words) old)

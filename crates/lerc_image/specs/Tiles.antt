@@ -1,4 +1,4 @@
--- All blocks of a body: checked, their starts listed, their words put into the image; each by itself, and all at once.
+-- All blocks of a body: checked, their starts listed, their words put into the image; each by itself, both writes in one pass, and all at once.
 -- Assumes nothing.
 use Prim.Native.Nat.{ℕ, zero, suc}
 use mathlib.Core.Path.{_≡_}
@@ -15,7 +15,7 @@ use Rattle.lerc_block.specs.Block.{Block}
 use Rattle.lerc_block.specs.Plan.{planAt, planEnd}
 use Rattle.lerc_image.specs.declared.WalkAnswer.{WalkAnswer}
 use Rattle.lerc_image.specs.Geometry.{tileOf, validInTile, blockOf, isValidCell}
-use Rattle.lerc_image.specs.Paint.{painted, wordOf}
+use Rattle.lerc_image.specs.Paint.{painted, wordOf, scattered}
 use Rattle.lerc_image.specs.Blocks.{blockAt, Chain, allBlocks}
 use Rattle.lerc_image.specs.Walk.{walkSaid, walkCount}
 
@@ -79,6 +79,29 @@ roomToFill b h m entries room = do
 unfoldable pub filledTiles : List ℕ → Header → List ℕ → List ℕ → List ℕ → List ℕ → List ℕ
 filledTiles b h m maxima list image =
     after (roomToFill b h m (length list) (length image)) image (λ _. listedImage (take (h .size) b) h maxima m list image)
+
+-- ---- write: each block where the one before it ends, its start and its words, up to the first that is refused
+
+-- the starts of f blocks from number n on, the first at `at`; none behind a block that is refused
+unfoldable pub startsFrom : List ℕ → Header → List ℕ → List ℕ → ℕ → ℕ → ℕ → List ℕ
+startsFrom s h maxima m zero n at = []
+startsFrom s h maxima m (suc f) n at = at ∷ after (blockAt s h maxima m n at) [] (λ b. startsFrom s h maxima m f (suc n) (b .next))
+
+-- the image with their words, put into it block by block
+unfoldable pub imageFrom : List ℕ → Header → List ℕ → List ℕ → ℕ → ℕ → ℕ → List ℕ → List ℕ
+imageFrom s h maxima m zero n at image = image
+imageFrom s h maxima m (suc f) n at image =
+    after (blockAt s h maxima m n at) image (λ b. imageFrom s h maxima m f (suc n) (b .next) (scattered (shapeOf h) m n (b .words) image))
+
+-- where there is no room, the list as it was; `room` is the length of the image
+unfoldable pub writtenList : List ℕ → Header → List ℕ → List ℕ → ℕ → List ℕ → ℕ → List ℕ
+writtenList b h m maxima at list room =
+    after (roomToFill b h m (length list) room) list (λ _. over (startsFrom (take (h .size) b) h maxima m (blockCount (shapeOf h)) 0 at) list)
+
+-- where there is no room, the image as it was; `entries` is the length of the list
+unfoldable pub writtenImage : List ℕ → Header → List ℕ → List ℕ → ℕ → ℕ → List ℕ → List ℕ
+writtenImage b h m maxima at entries image =
+    after (roomToFill b h m entries (length image)) image (λ _. imageFrom (take (h .size) b) h maxima m (blockCount (shapeOf h)) 0 at image)
 
 -- ---- all at once
 

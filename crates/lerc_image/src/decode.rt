@@ -2,17 +2,19 @@
 ghost use mathlib.Core.Path.{_≡_};
 ghost use Prim.Native.Nat.{ℕ, _≤_};
 ghost use lib.ListN.{length};
+ghost use Rattle.lerc_words.specs.Lists.{over};
 ghost use Rattle.lerc_image.specs.Blocks.{allBlocks};
 ghost use Rattle.lerc_image.specs.Walk.{walkSaid, walkOf};
-ghost use Rattle.lerc_image.specs.Tiles.{checkedTiles, listedTiles, listedImage, filledTiles, Tiled, tilesSays};
+ghost use Rattle.lerc_image.specs.Tiles.{checkedTiles, listedTiles, listedImage, filledTiles, startsFrom, imageFrom, writtenList, writtenImage, Tiled, tilesSays};
 ghost use Rattle.lerc_image.specs.Parts.{BodyAsked};
 use super::Position;
 use super::WalkAnswer;
 use super::all_valid;
 use super::check_blocks;
-use super::fill_at;
 use super::list_starts;
+use super::put_at;
 use super::valid_here;
+use lerc_block::BlockAnswer;
 use lerc_header::DEPTHS;
 use lerc_header::Extent;
 use lerc_header::Header;
@@ -42,7 +44,7 @@ fn fill_listed(
         let t = p.current(shape);
         valid = valid_here(shape, t, mask, full, valid);
         let at = list[n];
-        let _filled = fill_at(
+        let _put = put_at(
             s,
             at,
             h,
@@ -55,6 +57,54 @@ fn fill_listed(
             &mut words,
             &mut image[..],
         );
+        p = p.advance(shape);
+        n += 1;
+    }
+}
+
+// Each block from `at` on: its start to the list, its words to the image. At the first that is refused it ends.
+fn write_blocks(
+    s: &[u8],
+    at: usize,
+    h: Header,
+    e: Extent,
+    maxima: &[u64; DEPTHS],
+    mask: &[u8],
+    list: &mut [usize],
+    image: &mut [u64],
+)
+    requires { ⌜ (BodyAsked h e) × (e .blocks ≤ length (now list)) × (e .cells ≤ length (now image)) ⌝ }
+    ensures { λ r. ⌜ now (list .exit) ≡ over (startsFrom (now (s .entry)) h (now (maxima .entry)) (now (mask .entry)) (e .blocks) 0 at) (now (list .entry)) ⌝ }
+    ensures { λ r. ⌜ now (image .exit) ≡ imageFrom (now (s .entry)) h (now (maxima .entry)) (now (mask .entry)) (e .blocks) 0 at (now (image .entry)) ⌝ }
+{
+    let shape = e.shape;
+    let mut p = Position::start();
+    let mut n: usize = 0;
+    let mut next = at;
+    let full = all_valid(h.valid, e.pixels, mask);
+    let mut valid: usize = 0;
+    let mut words = [0u64; 256];
+    while n < e.blocks {
+        list[n] = next;
+        let t = p.current(shape);
+        valid = valid_here(shape, t, mask, full, valid);
+        let got = put_at(
+            s,
+            next,
+            h,
+            shape,
+            n,
+            t,
+            valid,
+            maxima,
+            mask,
+            &mut words,
+            &mut image[..],
+        );
+        let BlockAnswer::Block(end) = got else {
+            return;
+        };
+        next = end;
         p = p.advance(shape);
         n += 1;
     }
@@ -82,8 +132,7 @@ fn decode_blocks(
     else {
         return checked;
     };
-    list_starts(s, at, h, e, mask, &mut list[..]);
-    fill_listed(s, h, e, maxima, mask, &list[..], &mut image[..]);
+    write_blocks(s, at, h, e, maxima, mask, &mut list[..], &mut image[..]);
     checked
 }
 
@@ -145,6 +194,33 @@ pub fn fill_tiles(
     }
     let size = e.size;
     fill_listed(&blob[..size], h, e, maxima, mask, list, &mut image[..]);
+}
+
+// Each block from `at` on: its start to the list, its words to the image, up to the first that is refused. Nothing is refused here:
+// without room nothing is written.
+pub fn write_tiles(
+    blob: &[u8],
+    h: Header,
+    mask: &[u8],
+    maxima: &[u64; DEPTHS],
+    at: usize,
+    list: &mut [usize],
+    image: &mut [u64],
+)
+    ensures { λ r. ⌜ now (list .exit) ≡ writtenList (now (blob .entry)) h (now (mask .entry)) (now (maxima .entry)) at (now (list .entry)) (length (now (image .entry))) ⌝ }
+    ensures { λ r. ⌜ now (image .exit) ≡ writtenImage (now (blob .entry)) h (now (mask .entry)) (now (maxima .entry)) at (length (now (list .entry))) (now (image .entry)) ⌝ }
+{
+    let held = h.held(blob.len());
+    let HeldAnswer::Held(e) = held else {
+        return;
+    };
+    let room = (e.mask <= mask.len()) & (e.blocks <= list.len()) & (e.cells <= image.len());
+    if !room {
+        return;
+    }
+    let size = e.size;
+    let bytes = &blob[..size];
+    write_blocks(bytes, at, h, e, maxima, mask, &mut list[..], &mut image[..]);
 }
 
 // All blocks from `at` on: 3, 4, 1, 5, then block by block 1, 8, 9.

@@ -11,7 +11,7 @@ ghost use Rattle.lerc_image.specs.Blocks.{blockAt, allBlocks};
 ghost use Rattle.lerc_header.specs.Limits.{depthLimit};
 ghost use Rattle.lerc_image.specs.Walk.{BlocksWalked, bodyWalked, walkSaid, walkOf, refusalOfWalk};
 ghost use Rattle.lerc_image.specs.Tiles.{headStarts};
-ghost use Rattle.lerc_image.specs.Parts.{TileIn, BodyAsked, Asked, onesApart, isSquare, allValid, CountAsked, BlockTile, FillAsked, cursorOf, cursorNext, BlockScattered, BlockFilled, BodyListed};
+ghost use Rattle.lerc_image.specs.Parts.{TileIn, BodyAsked, Asked, onesApart, isSquare, allValid, CountAsked, BlockTile, FillAsked, cursorOf, cursorNext, BlockScattered, BlockPut, BlockFilled, BodyListed};
 ghost use Rattle.lerc_block.specs.Block.{blockSaid, blockSays, readBlockSays, nextBlock};
 ghost use Rattle.lerc_block.specs.Plan.{planAt, planEnd};
 use lerc_block::BlockAnswer;
@@ -32,6 +32,7 @@ pub use decode::check_tiles;
 pub use decode::decode_tiles;
 pub use decode::fill_tiles;
 pub use decode::list_tiles;
+pub use decode::write_tiles;
 
 pub struct Tile {
     pub x: usize,
@@ -310,8 +311,8 @@ fn scatter(
     used
 }
 
-// Block `number`, whose tile is `t` with `valid` valid pixels, at a place: its words to the image once it is accepted.
-fn fill_tile(
+// Block `number`, whose tile is `t` with `valid` valid pixels, at a place: its words to the image once it is accepted; where the next begins.
+fn put_block(
     s: &[u8],
     at: usize,
     c: Coding,
@@ -322,20 +323,20 @@ fn fill_tile(
     mask: &[u8],
     words: &mut [u64; 256],
     image: &mut [u64],
-) -> FillAnswer
+) -> BlockAnswer
     requires { ⌜ Asked h t number (now image) × (valid ≡ validInTile h (now mask) t) ⌝ }
-    ensures { λ r. ⌜ BlockFilled h (now (mask .entry)) number (blockSays (now (s .entry)) at (c .kind) (c .error) (c .maximum) (t .x) (validInTile h (now (mask .entry)) t)) r (now (image .entry)) (now (image .exit)) ⌝ }
+    ensures { λ r. ⌜ BlockPut h (now (mask .entry)) number (blockSays (now (s .entry)) at (c .kind) (c .error) (c .maximum) (t .x) (validInTile h (now (mask .entry)) t)) r (now (image .entry)) (now (image .exit)) ⌝ }
 {
     let got = lerc_block::read_block(s, at, c.kind, c.error, c.maximum, t.x, valid, words);
     let BlockAnswer::Block(_next) = got else {
-        return FillAnswer::Refused(got.refusal());
+        return got;
     };
     put::put_tile(h, t, number, valid, mask, words, &mut image[..]);
-    FillAnswer::Filled(valid)
+    got
 }
 
-// Block n at a place, whose tile is `t` with `valid` valid pixels: its words to the image once it is accepted.
-fn fill_at(
+// Block n at a place, whose tile is `t` with `valid` valid pixels: its words to the image once it is accepted; where the next begins.
+fn put_at(
     s: &[u8],
     at: usize,
     h: Header,
@@ -347,9 +348,9 @@ fn fill_at(
     mask: &[u8],
     words: &mut [u64; 256],
     image: &mut [u64],
-) -> FillAnswer
+) -> BlockAnswer
     requires { ⌜ (BlockTile h shape n t) × (valid ≡ validInTile shape (now mask) t) × (cells shape ≤ length (now image)) ⌝ }
-    ensures { λ r. ⌜ BlockFilled shape (now (mask .entry)) n (blockAt (now (s .entry)) h (now (maxima .entry)) (now (mask .entry)) n at) r (now (image .entry)) (now (image .exit)) ⌝ }
+    ensures { λ r. ⌜ BlockPut shape (now (mask .entry)) n (blockAt (now (s .entry)) h (now (maxima .entry)) (now (mask .entry)) n at) r (now (image .entry)) (now (image .exit)) ⌝ }
 {
     let depth = t.d;
     let c = Coding {
@@ -357,7 +358,7 @@ fn fill_at(
         error: h.error,
         maximum: maxima[depth],
     };
-    fill_tile(s, at, c, shape, t, valid, n, mask, words, &mut image[..])
+    put_block(s, at, c, shape, t, valid, n, mask, words, &mut image[..])
 }
 
 // Block `number` at its listed start, of a blob whose header is held.
@@ -382,7 +383,7 @@ fn fill_number(
     let t = p.current(shape);
     let valid = count_valid(shape, t, mask);
     let mut words = [0u64; 256];
-    fill_at(
+    let got = put_at(
         s,
         at,
         h,
@@ -394,7 +395,11 @@ fn fill_number(
         mask,
         &mut words,
         &mut image[..],
-    )
+    );
+    let BlockAnswer::Block(_next) = got else {
+        return FillAnswer::Refused(got.refusal());
+    };
+    FillAnswer::Filled(valid)
 }
 
 // Block `number` of a blob, at its listed start; the image is written once the block is accepted.

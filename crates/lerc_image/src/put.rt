@@ -57,13 +57,25 @@ fn copy_rows(h: Shape, t: Tile, number: usize, words: &[u64; 256], image: &mut [
     let mut row: usize = 0;
     let mut used: usize = 0;
     while row < t.h {
-        if (t.w == 8) & (h.depth == 1) {
-            copy_eight(words, used, start, &mut image[..]);
-        } else {
-            copy_row(words, used, t.w, h.depth, start, &mut image[..]);
-        }
+        copy_row(words, used, t.w, h.depth, start, &mut image[..]);
         start += h.columns * h.depth;
         used += t.w;
+        row += 1;
+    }
+}
+
+// The same where a row is eight words beside each other.
+fn copy_eights(h: Shape, t: Tile, number: usize, words: &[u64; 256], image: &mut [u64])
+    requires { ⌜ Asked h t number (now image) × (t .w ≡ 8) × (h .depth ≡ 1) ⌝ }
+    ensures { λ r. ⌜ FullScattered h t number (now (words .entry)) (now (image .entry)) (now (image .exit)) ⌝ }
+{
+    let mut start = t.y * h.columns + t.x;
+    let mut row: usize = 0;
+    let mut used: usize = 0;
+    while row < t.h {
+        copy_eight(words, used, start, &mut image[..]);
+        start += h.columns;
+        used += 8;
         row += 1;
     }
 }
@@ -137,6 +149,10 @@ pub(crate) fn put_tile(
     ensures { λ r. ⌜ now (image .exit) ≡ scattered h (now (mask .entry)) number (now (words .entry)) (now (image .entry)) ⌝ }
 {
     if valid == t.h * t.w {
+        if (t.w == 8) & (h.depth == 1) {
+            copy_eights(h, t, number, words, &mut image[..]);
+            return;
+        }
         copy_rows(h, t, number, words, &mut image[..]);
         return;
     }

@@ -135,6 +135,7 @@ no-room = record {
   check-tiles = told (λ k a. tt) walk-same _ (λ k a r x p. p);
   list-tiles = record { asks-nothing = λ k a. tt; same = λ k a r q x y p s. (refl, p ∙ sym s) };
   fill-tiles = record { asks-nothing = λ k a. tt; same = λ k a r q x y p s. (refl, p ∙ sym s) };
+  write-tiles = record { asks-nothing = λ k a. tt; same = λ k a r q x y p s. (refl, rw (p .0, p .1, s .0, s .1)) };
   decode-tiles = record { asks-nothing = λ k a. tt; same = λ k a r q x y p s. tiled-same p s };
   fill-each = record { asks-nothing = λ k a. tt; same = λ k a r q x y p s. (p .says ∙ sym (s .says), p .image ∙ sym (s .image)) };
   put-line = record { asks-nothing = λ k a. tt; same = λ k a r q x y p s. put-same p s };

@@ -36,7 +36,7 @@ use Rattle.lerc_image.specs.Blocks.{Chain, blockAt}
 use Rattle.lerc_image.specs.Paint.{scattered}
 use Rattle.lerc_image.specs.Walk.{Walk, walkSays, walkCount, walkOf, walkList}
 use Rattle.lerc_image.specs.Fill.{fillSays, fillCount, fillImage}
-use Rattle.lerc_image.specs.Tiles.{checkedTiles, roomToList, listedTiles, roomToFill, filledTiles, tilesSays, tilesImage}
+use Rattle.lerc_image.specs.Tiles.{checkedTiles, roomToList, listedTiles, roomToFill, filledTiles, writtenList, writtenImage, tilesSays, tilesImage}
 use Rattle.lerc_fills.specs.Each.{filledOf, fillEach}
 use Rattle.lerc.specs.Meaning.{Meaning, meaningFrom}
 use Rattle.lerc.specs.Read.{Lent, room, Masked, masked, readSays, readCount}
@@ -146,6 +146,14 @@ module _ (b c : List ℕ) (h : Header) (same : SameBelow h b c) where
   filled-as : (m maxima list image : List ℕ) → filledTiles b h m maxima list image ≡ filledTiles c h m maxima list image
   unfolding filledTiles roomToFill
   filled-as m maxima list image = rw (held-as, same)
+
+  written-list-as : (m maxima : List ℕ) (at : ℕ) (list : List ℕ) (room : ℕ) → writtenList b h m maxima at list room ≡ writtenList c h m maxima at list room
+  unfolding writtenList roomToFill
+  written-list-as m maxima at list room = rw (held-as, same)
+
+  written-image-as : (m maxima : List ℕ) (at entries : ℕ) (image : List ℕ) → writtenImage b h m maxima at entries image ≡ writtenImage c h m maxima at entries image
+  unfolding writtenImage roomToFill
+  written-image-as m maxima at entries image = rw (held-as, same)
 
 -- ---- a header's own bytes
 
@@ -368,6 +376,20 @@ unread = record {
         ∙ filled-as (a .0 .now) (c .0 .now) (a .1 .0) s (a .1 .1 .0 .now) (a .1 .1 .1 .0 .now) (a .1 .1 .1 .1 .0 .now) (a .1 .1 .1 .1 .1 .0 .now)
         ∙ ap (λ (z : Header × (RefT (List ℕ) × (RefT (List ℕ) × (RefT (List ℕ) × (RefT (List ℕ) × Unit {0}))))). filledTiles (c .0 .now) (z .0) (z .1 .0 .now) (z .1 .1 .0 .now) (z .1 .1 .1 .0 .now) (z .1 .1 .1 .1 .0 .now)) e
         ∙ sym t,
+  );
+  write-list = λ k a c r q x y e s p t. (
+    refl,
+    p .0
+        ∙ written-list-as (a .0 .now) (c .0 .now) (a .1 .0) s (a .1 .1 .0 .now) (a .1 .1 .1 .0 .now) (a .1 .1 .1 .1 .0) (a .1 .1 .1 .1 .1 .0 .now) (length (a .1 .1 .1 .1 .1 .1 .0 .now))
+        ∙ ap (λ (z : Header × (RefT (List ℕ) × (RefT (List ℕ) × (ℕ × (RefT (List ℕ) × (RefT (List ℕ) × Unit {0})))))). writtenList (c .0 .now) (z .0) (z .1 .0 .now) (z .1 .1 .0 .now) (z .1 .1 .1 .0) (z .1 .1 .1 .1 .0 .now) (length (z .1 .1 .1 .1 .1 .0 .now))) e
+        ∙ sym (t .0),
+  );
+  write-image = λ k a c r q x y e s p t. (
+    refl,
+    p .1
+        ∙ written-image-as (a .0 .now) (c .0 .now) (a .1 .0) s (a .1 .1 .0 .now) (a .1 .1 .1 .0 .now) (a .1 .1 .1 .1 .0) (length (a .1 .1 .1 .1 .1 .0 .now)) (a .1 .1 .1 .1 .1 .1 .0 .now)
+        ∙ ap (λ (z : Header × (RefT (List ℕ) × (RefT (List ℕ) × (ℕ × (RefT (List ℕ) × (RefT (List ℕ) × Unit {0})))))). writtenImage (c .0 .now) (z .0) (z .1 .0 .now) (z .1 .1 .0 .now) (z .1 .1 .1 .0) (length (z .1 .1 .1 .1 .0 .now)) (z .1 .1 .1 .1 .1 .0 .now)) e
+        ∙ sym (t .1),
   );
   header-own = λ b c h told l s t p q. header-same told (header-answer.Read h) (header-call q ∙ header-other b c s t h l (sym (header-call p)));
   prepare-own = λ b c h reuse kept said told old new other l m s p q.

@@ -27,18 +27,18 @@ use Rattle.lerc_validity.specs.declared.MaskAnswer.{MaskAnswer}
 use Rattle.lerc_validity.specs.Validity.{MaskInForce, reused, new, bytesOf, findSays, prepareSays, spareWith, Prepared}
 use Rattle.lerc_validity.proofs.Prepared.{prepare-found, mask-length, mask-told}
 use Rattle.lerc_block.specs.declared.BlockAnswer.the-variants as block
-use Rattle.lerc_block.specs.Block.{tileLimit, readBlockSays, BlockRead}
+use Rattle.lerc_block.specs.Block.{Block, tileLimit, readBlockSays, BlockRead}
 use Rattle.lerc_block.proofs.Accepted.{block-words}
-use Rattle.lerc_image.specs.Paint.{painted, inBlock, wordOf}
+use Rattle.lerc_image.specs.Paint.{painted, inBlock, wordOf, scattered}
 use Rattle.lerc_image.proofs.Painting.{length-painted, painted-cell}
 use Rattle.lerc_ranges.specs.Ranges.{rangesSays}
 use Rattle.lerc_image.specs.declared.WalkAnswer.{WalkAnswer}
 use Rattle.lerc_image.specs.Geometry.{isValidCell}
 use Rattle.lerc_sweep.specs.Sweep.{Way, rawFrom, blocksFrom, swept}
-use Rattle.lerc_image.specs.Blocks.{Chain, chain}
+use Rattle.lerc_image.specs.Blocks.{blockAt, Chain, chain}
 use Rattle.lerc_image.specs.Walk.{walkSays, walkList, BlocksWalked}
 use Rattle.lerc_image.specs.Fill.{fillSays, fillImage}
-use Rattle.lerc_image.specs.Tiles.{blockEnd, headStarts, roomToList, listedTiles, isListed, listedImage, roomToFill, filledTiles, tilesSays, Tiled}
+use Rattle.lerc_image.specs.Tiles.{blockEnd, headStarts, roomToList, listedTiles, isListed, listedImage, roomToFill, filledTiles, startsFrom, imageFrom, writtenList, writtenImage, tilesSays, Tiled}
 use Rattle.lerc_image.proofs.Chain.{chain-lengths}
 use Rattle.lerc_fills.specs.Each.{fillEach}
 use Rattle.lerc.specs.declared.ReadAnswer.the-variants as read
@@ -221,6 +221,50 @@ module _ (b : List ℕ) (h : Header) where
       go (fail r) = but-same _ refl
       go (ok t) = but-fewer (λ c e. rw (e)) (but-painted image (isListed s h maxima m list) _)
 
+  -- the same of a pass that writes starts and words
+  written-most : (s maxima m : List ℕ) (f n at : ℕ) → length (startsFrom s h maxima m f n at) ≤ f
+  unfolding startsFrom
+  written-most s maxima m zero n at = le-refl 0
+  written-most s maxima m (suc f) n at = go (blockAt s h maxima m n at) (λ end. written-most s maxima m f (suc n) end)
+    where
+      go : (x : Res Block) → ((end : ℕ) → length (startsFrom s h maxima m f (suc n) end) ≤ f) → suc (length (after x [] (λ b. startsFrom s h maxima m f (suc n) (b .next)))) ≤ suc f
+      go (fail r) k = omega arith
+      go (ok b) k = let l = k (b .next) in omega arith
+
+  written-list : (m maxima : List ℕ) (at : ℕ) (list : List ℕ) (room : ℕ) → AlikeFrom (blockCount (shapeOf h)) list (writtenList b h m maxima at list room)
+  unfolding writtenList roomToFill
+  written-list m maxima at list room = go (roomToFill b h m (length list) room) refl
+    where
+      go : (x : Res Bool) → roomToFill b h m (length list) room ≡ x → AlikeFrom (blockCount (shapeOf h)) list (after x list (λ _. over (startsFrom (take (h .size) b) h maxima m (blockCount (shapeOf h)) 0 at) list))
+      go (fail r) e = alike-same _ refl
+      go (ok t) e =
+          let (x, d, e) = bind-is (held h (length b)) _ e in
+          let i : x ≡ extentOf h = held-is h (length b) d in
+          let (p, _) = and-is (leb (x .mask) (length m) && leb (x .blocks) (length list)) _ (require-is _ 5 e) in
+          let (_, l) = and-is (leb (x .mask) (length m)) (leb (x .blocks) (length list)) p in
+          let k : blockCount (shapeOf h) ≤ length list = rw (i) at (leb-true (x .blocks) (length list) l) in
+          let few = written-most (take (h .size) b) maxima m (blockCount (shapeOf h)) 0 at in
+          alike-more few (alike-over (startsFrom (take (h .size) b) h maxima m (blockCount (shapeOf h)) 0 at) list (omega arith))
+
+  -- block by block, valid cells alone
+  from-writes : (s maxima m : List ℕ) (f n at : ℕ) (image : List ℕ) → AlikeBut (isValidCell (shapeOf h) m) image (imageFrom s h maxima m f n at image)
+  unfolding imageFrom inBlock
+  from-writes s maxima m zero n at image = but-same _ refl
+  from-writes s maxima m (suc f) n at image = go (blockAt s h maxima m n at) (λ end mid. from-writes s maxima m f (suc n) end mid)
+    where
+      go : (x : Res Block) → ((end : ℕ) (mid : List ℕ) → AlikeBut (isValidCell (shapeOf h) m) mid (imageFrom s h maxima m f (suc n) end mid))
+          → AlikeBut (isValidCell (shapeOf h) m) image (after x image (λ b. imageFrom s h maxima m f (suc n) (b .next) (scattered (shapeOf h) m n (b .words) image)))
+      go (fail r) k = but-same _ refl
+      go (ok b) k = but-fewer (λ c e. rw (e)) (but-then (but-painted image (inBlock (shapeOf h) m n) _) (k (b .next) (scattered (shapeOf h) m n (b .words) image)))
+
+  written-image : (m maxima : List ℕ) (at entries : ℕ) (image : List ℕ) → AlikeBut (isValidCell (shapeOf h) m) image (writtenImage b h m maxima at entries image)
+  unfolding writtenImage
+  written-image m maxima at entries image = go (roomToFill b h m entries (length image))
+    where
+      go : (x : Res Bool) → AlikeBut (isValidCell (shapeOf h) m) image (after x image (λ _. imageFrom (take (h .size) b) h maxima m (blockCount (shapeOf h)) 0 at image))
+      go (fail r) = but-same _ refl
+      go (ok t) = from-writes (take (h .size) b) maxima m (blockCount (shapeOf h)) 0 at image
+
   tiles-starts : (m maxima : List ℕ) (at entries words : ℕ) (c : Chain) → tilesSays b h m maxima at entries words ≡ ok c → (length (c .starts) ≡ blockCount (shapeOf h)) × (blockCount (shapeOf h) ≤ entries)
   unfolding tilesSays
   tiles-starts m maxima at entries words c e =
@@ -252,6 +296,8 @@ writes-only = record {
   fill-each = λ k a r x p. rw (p .image) (each-writes _ _ _ _ _ _ _);
   list-tiles = λ k a r x p. rw (p) (list-writes _ _ _ _ _);
   fill-tiles = λ k a r x p. rw (p) (fill-writes _ _ _ _ _ _);
+  write-list = λ k a r x p. rw (p .0) (written-list _ _ _ _ _ _ _);
+  write-image = λ k a r x p. rw (p .1) (written-image _ _ _ _ _ _ _);
   tiles-list = λ k a r x p. tiles-write _ _ _ _ _ p .0;
   tiles-image = λ k a r x p. tiles-write _ _ _ _ _ p .1;
 }

@@ -92,6 +92,7 @@ use Rattle.lerc_image.proofs.fill.Reads as fill
 use Rattle.lerc_image.proofs.check_tiles.Reads as check-tiles
 use Rattle.lerc_image.proofs.list_tiles.Reads as list-tiles
 use Rattle.lerc_image.proofs.fill_tiles.Reads as fill-tiles
+use Rattle.lerc_image.proofs.write_tiles.Reads as write-tiles
 use Rattle.lerc_image.proofs.decode_tiles.Reads as decode-tiles
 use Rattle.lerc_fills.proofs.fill_each.Reads as fill-each
 use Rattle.lerc.specs.Read.{Lent}
@@ -230,6 +231,7 @@ pub record NoRoom : Type 0 where
   pub check-tiles : Answers check-tiles.Pre check-tiles.Post
   pub list-tiles : Writes list-tiles.Pre list-tiles.Post (λ o. o .1 .1 .1 .1 .0 .now)
   pub fill-tiles : Writes fill-tiles.Pre fill-tiles.Post (λ o. o .1 .1 .1 .1 .1 .0 .now)
+  pub write-tiles : Writes {S = List ℕ × List ℕ} write-tiles.Pre write-tiles.Post (λ o. (o .1 .1 .1 .1 .1 .0 .now, o .1 .1 .1 .1 .1 .1 .0 .now))
   pub decode-tiles : Writes {S = List ℕ × List ℕ} decode-tiles.Pre decode-tiles.Post (λ o. (o .1 .1 .1 .1 .1 .0 .now, o .1 .1 .1 .1 .1 .1 .0 .now))
   -- lerc_fills
   pub fill-each : Writes fill-each.Pre fill-each.Post (λ o. o .1 .1 .1 .1 .1 .1 .0 .now)

@@ -25,6 +25,7 @@ use Rattle.lerc_image.specs.Blocks.{blockAt}
 use Rattle.lerc_image.proofs.check_tiles.Reads as checking
 use Rattle.lerc_image.proofs.list_tiles.Reads as listing
 use Rattle.lerc_image.proofs.fill_tiles.Reads as filling
+use Rattle.lerc_image.proofs.write_tiles.Reads as writing
 use Rattle.lerc.specs.declared.ReadAnswer.{ReadAnswer}
 use Rattle.lerc.specs.Read.{Lent}
 use Rattle.lerc_theorems.specs.Calls.{HeaderCall, PrepareCall, RangesCall, WalkCall, FillCall, EachCall, TilesCall, ReadCall}
@@ -72,6 +73,8 @@ pub record Unread : Type 0 where
   pub check-tiles : BehindSize {S = Unit {0}} checking.Post (λ o. tt)
   pub list-tiles : BehindSize listing.Post (λ o. o .1 .1 .1 .1 .0 .now)
   pub fill-tiles : BehindSize filling.Post (λ o. o .1 .1 .1 .1 .1 .0 .now)
+  pub write-list : BehindSize writing.Post (λ o. o .1 .1 .1 .1 .1 .0 .now)
+  pub write-image : BehindSize writing.Post (λ o. o .1 .1 .1 .1 .1 .1 .0 .now)
   -- "the checksum field is ignored": an accepted header depends on the other bytes of the header alone
   pub header-own : (b c : List ℕ) (h : Header) (told : HeaderAnswer) → h .size ≤ length c → SameWithin 0 10 b c → SameWithin 14 headerBytes b c
       → HeaderCall b (header-answer.Read h) → HeaderCall c told → told ≡ header-answer.Read h

@@ -25,6 +25,7 @@ use Rattle.lerc_image.proofs.walk.Reads as walk
 use Rattle.lerc_image.proofs.fill.Reads as fill
 use Rattle.lerc_image.proofs.list_tiles.Reads as list-tiles
 use Rattle.lerc_image.proofs.fill_tiles.Reads as fill-tiles
+use Rattle.lerc_image.proofs.write_tiles.Reads as write-tiles
 use Rattle.lerc_image.proofs.decode_tiles.Reads as decode-tiles
 use Rattle.lerc_fills.proofs.fill_each.Reads as fill-each
 use Rattle.lerc.specs.Meaning.{Meaning}
@@ -65,6 +66,9 @@ pub record WritesOnly : Type 0 where
   pub list-tiles : (k : _) (a : _) (r : _) (x : _) → list-tiles.Post k a r x → AlikeFrom (blockCount (shapeOf (a .1 .0))) (a .1 .1 .1 .1 .0 .now) (x .1 .1 .1 .1 .0 .now)
   pub fill-tiles : (k : _) (a : _) (r : _) (x : _) → fill-tiles.Post k a r x
       → AlikeBut (isValidCell (shapeOf (a .1 .0)) (a .1 .1 .0 .now)) (a .1 .1 .1 .1 .1 .0 .now) (x .1 .1 .1 .1 .1 .0 .now)
+  pub write-list : (k : _) (a : _) (r : _) (x : _) → write-tiles.Post k a r x → AlikeFrom (blockCount (shapeOf (a .1 .0))) (a .1 .1 .1 .1 .1 .0 .now) (x .1 .1 .1 .1 .1 .0 .now)
+  pub write-image : (k : _) (a : _) (r : _) (x : _) → write-tiles.Post k a r x
+      → AlikeBut (isValidCell (shapeOf (a .1 .0)) (a .1 .1 .0 .now)) (a .1 .1 .1 .1 .1 .1 .0 .now) (x .1 .1 .1 .1 .1 .1 .0 .now)
   pub tiles-list : (k : _) (a : _) (r : _) (x : _) → decode-tiles.Post k a r x → AlikeFrom (blockCount (shapeOf (a .1 .0))) (a .1 .1 .1 .1 .1 .0 .now) (x .1 .1 .1 .1 .1 .0 .now)
   pub tiles-image : (k : _) (a : _) (r : _) (x : _) → decode-tiles.Post k a r x
       → AlikeBut (isValidCell (shapeOf (a .1 .0)) (a .1 .1 .0 .now)) (a .1 .1 .1 .1 .1 .1 .0 .now) (x .1 .1 .1 .1 .1 .1 .0 .now)

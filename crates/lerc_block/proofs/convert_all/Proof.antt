@@ -1,6 +1,5 @@
 use borrow.Author.Needs.{needs}
 use Prim.Native.Nat.{ℕ}
-use native.Mathlib.Omega.{arith}
 use denote.Ref.{now}
 use Rattle.lerc_numeric.specs.Kinds.{narrowed}
 use Rattle.lerc_block.specs.Plan.{offsetValue}

@@ -1,8 +1,5 @@
 use borrow.Author.Needs.{needs}
-use Prim.Native.Nat.{_≤_}
 use mathlib.Core.Path.{ap, refl}
-use native.Mathlib.Omega.{arith}
-use denote.Ref.{now}
 use lib.ListN.{length}
 use Rattle.lerc_block.specs.Plan.{ended}
 use Rattle.lerc_block.proofs.Returns.{given}

@@ -1,4 +1,3 @@
-use borrow.Author.Needs.{needs}
 use borrow.Author.Tests.{eq-eqb, ne-eqb}
 use Rattle.lerc_block.proofs.value_bits.Statement.{statement}
 use Rattle.lerc_block.proofs.value_bits.Tie as tie

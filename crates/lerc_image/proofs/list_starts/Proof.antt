@@ -8,12 +8,12 @@ use borrow.Author.Needs.{needs}
 use Rattle.lerc_block.specs.Block.{blockSaid}
 use Rattle.lerc_image.specs.Tiles.{blockEnd}
 use Rattle.lerc_image.proofs.Standing.{here-in, here-end, Standing, standing-none, standing-tile, standing-within, standing-few, standing-next}
-use Rattle.lerc_image.proofs.list_starts.Proof.Turn.{Listing, listing-none, listing-all, listing-no, listing-next}
+use Rattle.lerc_image.proofs.list_starts.Proof.Turn.{Heads, heads-begin, heads-all, heads-no, heads-next}
 use Rattle.lerc_image.proofs.list_starts.Statement.{statement}
 use Rattle.lerc_image.proofs.list_starts.Tie as tie
 
 abbrev Inv-loop : tie.InvT-loop
-Inv-loop s at h e mask list₀ shape p₀ k₀ start₀ list p k start = Standing h e p k × Listing s h mask (e .blocks) at list₀ list k start
+Inv-loop s at h e mask list₀ shape p₀ k₀ start₀ list p k start = Standing h e p k × Heads s h mask (e .blocks) at list₀ list k start
 
 abbrev μ-loop : tie.MeasureT-loop
 μ-loop s at h e mask list₀ shape p₀ k₀ start₀ list p k start = e .blocks - k
@@ -30,13 +30,13 @@ ends c =
 loop-holds : tie.Need-loop-holds Inv-loop μ-loop
 loop-holds c =
     let b = c .before .before .before .before .before in
-    (rw (c .start .ensures) (standing-none (b .pre .0)), listing-none _ _ _ _ _ _ (b .pre .1))
+    (rw (c .start .ensures) (standing-none (b .pre .0)), heads-begin _ _ _ _ _ _ (b .pre .1))
 
 mul-list : tie.Need-mul-list Inv-loop μ-loop
 mul-list c = omega (arith, standing-few (c .before .before .loop .inv .0) (c .if1 .taken))
 
 slice-write-list : tie.Need-slice-write-list Inv-loop μ-loop
-slice-write-list c = let i = c .before .before .loop .inv .1 in omega (arith, i .room, i .long, c .if1 .taken)
+slice-write-list c = let i = c .before .before .loop .inv .1 .listing in omega (arith, i .room, i .long, c .if1 .taken)
 
 current-requires : tie.Need-current-requires Inv-loop μ-loop
 current-requires c κs = let w = c .before .before .loop .inv .0 in (w .asked .shaped, standing-within w (c .if1 .taken))
@@ -45,12 +45,12 @@ end-at-requires : tie.Need-end-at-requires Inv-loop μ-loop
 end-at-requires c κs = here-in (standing-tile (c .before .before .before .loop .inv .0) (c .before .if1 .taken) (c .current .ensures))
 
 same-length : tie.Need-same-length Inv-loop μ-loop
-same-length c = simp length-set (c .before .before .before .before .before .before .loop .inv .1 .long)
+same-length c = simp length-set (c .before .before .before .before .before .before .loop .inv .1 .listing .long)
 
 returns : tie.Need-returns Inv-loop μ-loop
 returns c =
     let i = c .before .before .before .before .before .before .loop .inv in
-    listing-no (i .1) (c .before .before .before .before .if1 .taken) (sym (ends (c .before .before)) ∙ ap blockSaid (c .enum-told .given .1))
+    heads-no (i .1) (c .before .before .before .before .if1 .taken) (sym (ends (c .before .before)) ∙ ap blockSaid (c .enum-told .given .1))
 
 advance-requires : tie.Need-advance-requires Inv-loop μ-loop
 advance-requires c κs =
@@ -64,13 +64,13 @@ loop-again : tie.Need-loop-again Inv-loop μ-loop
 loop-again c =
     let i = c .before .before .before .before .before .before .before .before .loop .inv in
     let l = c .before .before .before .before .before .before .if1 .taken in
-    (rw (c .advance .ensures) (standing-next (i .0) l), listing-next (i .1) l (sym (ends (c .before .before .before .before)) ∙ ap blockSaid (c .before .before .got .given .1)))
+    (rw (c .advance .ensures) (standing-next (i .0) l), heads-next (i .1) l (sym (ends (c .before .before .before .before)) ∙ ap blockSaid (c .before .before .got .given .1)))
 
 same-length-2 : tie.Need-same-length-2 Inv-loop μ-loop
-same-length-2 c = c .before .before .loop .inv .1 .long
+same-length-2 c = c .before .before .loop .inv .1 .listing .long
 
 returns-2 : tie.Need-returns-2 Inv-loop μ-loop
-returns-2 c = let i = c .before .before .loop .inv in listing-all (i .1) (c .if1 .left)
+returns-2 c = let i = c .before .before .loop .inv in heads-all (i .1) (c .if1 .left)
 
 pub list-starts-spec : {M : Type 1} → statement M
 list-starts-spec =

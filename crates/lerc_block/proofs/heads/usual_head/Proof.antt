@@ -1,18 +1,19 @@
 use borrow.Author.Needs.{needs}
 use borrow.Author.Tests.{not-false}
-use Prim.Native.Nat.{_+_, _/_, _≤_, min}
+use Prim.Native.Nat.{_+_, _*_, _/_, _%_, _^_, _≤_, min}
 use mathlib.Core.Path.{_≡_, _∙_, sym, ap, refl}
-use mathlib.Core.List.{List}
+use mathlib.Core.Logic.{⊎-elim}
 use native.Mathlib.Omega.{arith}
 use denote.Ref.{now}
 use lib.ListN.{length, getD}
+use lib.Pow.{pow-pos}
 use Rattle.lerc_words.specs.Res.{ok, little, wordAt}
-use Rattle.lerc_words.proofs.Little.{wordAt-ok}
+use Rattle.lerc_words.proofs.Little.{Bytes, unit, wordAt-ok}
 use Rattle.lerc_numeric.specs.Kinds.{typeSize}
 use Rattle.lerc_numeric.proofs.Integers.{size-le}
 use Rattle.lerc_samples.specs.Samples.{offsetKind, offsetSaid}
 use Rattle.lerc_block.proofs.Returns.{said-ok}
-use Rattle.lerc_block.proofs.Usual.{other, byte-is, usual-block}
+use Rattle.lerc_block.proofs.Usual.{other, few-bytes, byte-is, usual-block}
 use Rattle.lerc_block.proofs.heads.usual_head.Statement.{statement}
 use Rattle.lerc_block.proofs.heads.usual_head.Tie as tie
 
@@ -61,17 +62,25 @@ add-usual-counts-2 c = let k = c .before .before .before in omega (arith, few k,
 usual-counts-requires : tie.Need-usual-counts-requires
 usual-counts-requires c κs = let k = c .before .before .before in omega (arith, few k, room k)
 
-word-read : (k : tie.After-bytes) →
-    let z = k .before in
+base-is : (c : tie.Else5) → (1 * 2 ^ (8 * c .before .size .result)) % 2 ^ 64 ≡ 2 ^ (8 * c .before .size .result)
+base-is c = unit (8 * c .before .size .result) (omega (arith, c .if5 .left))
+
+rem-word : tie.Need-rem-word
+rem-word c = let e = c .before .before .before .before .before in rw (base-is e) (pow-pos (8 * e .before .size .result))
+
+word-read : (j : tie.Joined5) →
+    let z = j .before in
     let i = z .before .before .before .before .before .before .before .before .before .before .before in
-    wordAt (typeSize (z .before .before .a .given .0 .0)) (now (i .args .s)) (i .args .at + 1) ≡ ok (k .bytes .result)
-word-read k =
-    let z = k .before in
+    wordAt (typeSize (z .before .before .a .given .0 .0)) (now (i .args .s)) (i .args .at + 1) ≡ ok (j .if5 .word)
+word-read j =
+    let z = j .before in
     let i = z .before .before .before .before .before .before .before .before .before .before .before in
     let s = now (i .args .s) in
     let size = z .size .result in
     let e : min size 8 ≡ size = omega (arith, few z) in
-    let v : k .bytes .result ≡ little size s (i .args .at + 1) = rw (e) at (k .bytes .ensures) in
+    let bytes : Bytes s = λ p. omega (arith, z .before .before .before .before .before .before .before .shared-slice-known2 .given p) in
+    let v : j .if5 .word ≡ little size s (i .args .at + 1) =
+    ⊎-elim (λ w. w .2 ∙ rw (e) at (w .1 .ensures)) (λ w. w .6 ∙ few-bytes s (i .args .at) size bytes (w .0 .left) (w .5 .ensures)) (j .if5 .came) in
     rw (← z .size .ensures) (wordAt-ok size s (i .args .at + 1) (omega (arith, few z, room z)) ∙ ap ok (sym v))
 
 returns-7 : tie.Need-returns-7
@@ -85,7 +94,7 @@ returns-7 c n l =
     let at = i .args .at in
     let named : offsetKind (i .args .kind) (getD s at 0 / 64) ≡ ok (t .a .given .0 .0) = said-ok offsetSaid (t .before .before .offset-kind .ensures) (t .a .given .1) refl in
     usual-block s at (i .args .kind) (i .args .x) (getD s at 0) (byte-is s at (omega (arith, room z))) (p .before .if3 .left) (p .if4 .left) named (word-read k)
-    (sym (c .before .before .finite-word .ensures) ∙ not-false _ (c .before .if5 .left)) (rw (z .size .ensures) at (c .usual-counts .ensures l)) n
+    (sym (c .before .before .finite-word .ensures) ∙ not-false _ (c .before .if6 .left)) (rw (z .size .ensures) at (c .usual-counts .ensures l)) n
 
 pub usual-head-spec : {M : Type 1} → statement M
 usual-head-spec =
@@ -110,6 +119,18 @@ usual-head-spec =
     (λ c κs. search needs)
     (λ c. search needs)
     (λ c κs. search needs)
+    (λ c. search needs)
+    (λ c. search needs)
+    (λ c. search needs)
+    (λ c. search needs)
+    (λ c. search needs)
+    (λ c. search needs)
+    (λ c. search needs)
+    (λ c. search needs)
+    (λ c. search needs)
+    (λ c. search needs)
+    (λ c κs. search needs)
+    rem-word
     (λ c κs. search needs)
     (λ c κs. search needs)
     returns-6

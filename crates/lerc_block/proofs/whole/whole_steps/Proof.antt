@@ -1,15 +1,12 @@
 use borrow.Author.Needs.{needs}
-use Prim.Native.Nat.{ℕ, _+_, _-_, _*_, _%_, _^_, _≤_, _<_}
-use mathlib.Core.Path.{_≡_, _∙_, sym, refl}
-use mathlib.Core.List.{List}
+use Prim.Native.Nat.{ℕ, _-_, _^_, _≤_, _<_}
+use mathlib.Core.Path.{_≡_, refl}
 use native.Mathlib.Omega.{arith}
 use denote.Ref.{now}
-use Rattle.lerc_words.specs.Res.{ok, each}
+use Rattle.lerc_words.specs.Res.{ok}
 use Rattle.lerc_numeric.specs.Whole.{twiceWhole}
 use Rattle.lerc_numeric.proofs.WholeNumbers.{raised-lt, twice-le}
 use Rattle.lerc_samples.specs.Samples.{stored, storedSaid}
-use Rattle.lerc_block.specs.Plan.{offsetValue}
-use Rattle.lerc_block.specs.Steps.{stepWord, StepsPut}
 use Rattle.lerc_block.proofs.Returns.{said-ok}
 use Rattle.lerc_block.proofs.Steps.{tried-none, tried-all}
 use Rattle.lerc_block.proofs.WholeWords.{four-bytes, clamped-put, free-put}

@@ -12,12 +12,12 @@ returns c =
 
 returns-2 : tie.Need-returns-2
 returns-2 c =
-    let listed = c .before .before .before .before .before .before .before in
-    let k = listed .before .before .before in
+    let written = c .before .before .before .before in
+    let k = written .before .before .before .before in
     let told = k .checked .given .1 in
     let start = k .before .before .before .before .before .before .before in
-    tiled-ok _ (start .pre .0) _ _ _ (sym (ap walkSaid told) ∙ k .before .before .check-blocks .ensures) (listed .list-starts .ensures)
-    (c .before .before .fill-listed .ensures)
+    let w = written .write-blocks .ensures in
+    tiled-ok _ (start .pre .0) _ _ _ (sym (ap walkSaid told) ∙ k .before .before .check-blocks .ensures) (w .0) (w .1)
 
 pub decode-blocks-spec : {M : Type 1} → statement M
 decode-blocks-spec =
@@ -27,7 +27,6 @@ decode-blocks-spec =
     (λ c. search needs)
     (λ c. search needs)
     returns
-    (λ c κs. search needs)
     (λ c κs. search needs)
     (λ c. search needs)
     (λ c. search needs)

@@ -48,8 +48,8 @@ shared-slice-read-at c =
     let p = l .before .before .before .before .before .before .before .before .pre in
     omega (arith, p .1, v .before .before .if1 .taken)
 
-fill-at-requires : tie.Need-fill-at-requires Inv-loop μ-loop
-fill-at-requires c κs =
+put-at-requires : tie.Need-put-at-requires Inv-loop μ-loop
+put-at-requires c κs =
     let v = c .before .before .before in
     let l = v .before .before .before .before in
     let i = l .loop .inv in
@@ -74,7 +74,7 @@ loop-again c =
     let i = v .before .before .before .before .loop .inv in
     let l = v .before .before .if1 .taken in (
       rw (c .advance .ensures) (standing-next (i .0) l),
-      filling-more (i .1) (i .0 .asked) l (f .fill-at .ensures),
+      filling-more (i .1) (i .0 .asked) l (f .put-at .ensures),
       here-carried (tile (v .before)) _ (v .valid-here .ensures),
     )
 
@@ -97,7 +97,7 @@ fill-listed-spec =
     valid-here-requires
     mul-at
     shared-slice-read-at
-    fill-at-requires
+    put-at-requires
     advance-requires
     add-n
     (λ c. search needs)

@@ -12,10 +12,10 @@ use Rattle.lerc_header.specs.declared.Extent.{Extent}
 use Rattle.lerc_header.specs.Header.{shapeOf}
 use Rattle.lerc_header.specs.Shape.{Shaped, blockCount, cells}
 use Rattle.lerc_block.specs.Block.{Block}
-use Rattle.lerc_image.specs.declared.FillAnswer.{FillAnswer}
+use Rattle.lerc_block.specs.declared.BlockAnswer.{BlockAnswer}
 use Rattle.lerc_image.specs.Paint.{scattered}
 use Rattle.lerc_image.specs.Tiles.{listedBlock, listedWords, listedImage}
-use Rattle.lerc_image.specs.Parts.{BodyAsked, BlockFilled}
+use Rattle.lerc_image.specs.Parts.{BodyAsked, BlockPut}
 use Rattle.lerc_image.proofs.Painting.{length-painted}
 use Rattle.lerc_image.proofs.decode.fill_listed.Proof.Order.{filledBelow, below-none, below-more, below-skip, below-all}
 use Rattle.lerc_image.proofs.Standing.{shape-is, count-is, cells-are}
@@ -48,7 +48,7 @@ module _ {s : List ℕ} {h : Header} {maxima m list old image : List ℕ} {n : �
         let z : n ≡ blockCount (shapeOf h) = omega (arith, count-is a) in
         rw (z) at (f .done) ∙ below-all (shapeOf h) (body-shaped a) m (listedWords s h maxima m list) (accepted s h maxima m list) old
 
-    pub filling-more : {r : FillAnswer} {next : List ℕ} → n < e .blocks → BlockFilled (e .shape) m n (listedBlock s h maxima m list n) r image next
+    pub filling-more : {r : BlockAnswer} {next : List ℕ} → n < e .blocks → BlockPut (e .shape) m n (listedBlock s h maxima m list n) r image next
         → Filling s h maxima m list old next (n + 1)
     filling-more l b = record { done = (rw (shape-is a) at b) .image ∙ go (listedBlock s h maxima m list n) refl }
       where
