@@ -70,9 +70,11 @@ fn stepped_paths(block: &Block, mut take: impl FnMut(Path)) {
     let by_unit = is_finite(offset) && is_finite(block.maximum) && block.error < ERROR_END;
     let last = (1u64 << counts.bits) - 1;
     take(float_path(block, by_unit, unclamped(block, offset, last)));
-    if by_unit && block.kind == 6 {
-        let ends = [0, last].map(|count| clamped(block, offset, count));
-        take(normal_path(ends));
+    if block.kind == 6 {
+        let step = |count: u64| clamped(block, offset, count);
+        let steps = counts_in(block.bytes, at);
+        let each = steps.iter().all(|&count| is_normal(step(count.into())));
+        take(normal_path([0, last].map(step), each));
     }
 }
 
@@ -98,11 +100,15 @@ fn counts_at(bytes: &[u8], at: usize) -> Counts {
     }
 }
 
-/// The largest count there is; of a table, the largest entry that is named.
-fn largest_at(bytes: &[u8], at: usize) -> u32 {
+/// The counts there are; of a table, the entries that are named.
+fn counts_in(bytes: &[u8], at: usize) -> Vec<u32> {
     let mut counts = [0; MOST_COUNTS];
     let (n, _) = packed_counts(bytes, at, &mut counts).expect("it was read");
-    counts[..n].iter().copied().max().unwrap_or(0)
+    counts[..n].to_vec()
+}
+
+fn largest_at(bytes: &[u8], at: usize) -> u32 {
+    counts_in(bytes, at).into_iter().max().unwrap_or(0)
 }
 
 fn head_path(block: &Block, counts: &Counts) -> Path {
@@ -167,13 +173,18 @@ fn float_path(block: &Block, by_unit: bool, last: f64) -> Path {
     }
 }
 
-/// Steps from the first to the last one are all normal in binary32.
-fn normal_path(ends: [f64; 2]) -> Path {
-    let is_normal = |step: f64| NORMAL_32.contains(&step.abs().to_bits());
-    let one_sign = ends[0].is_sign_negative() == ends[1].is_sign_negative();
-    if one_sign && ends.into_iter().all(is_normal) {
-        Path::Normal
-    } else {
-        Path::NotNormal
+/// Normal in binary32.
+fn is_normal(step: f64) -> bool {
+    NORMAL_32.contains(&step.abs().to_bits())
+}
+
+/// Steps from the first to the last one are all normal and on one side of 0, or
+/// each step of a count is normal.
+fn normal_path(ends: [f64; 2], each: bool) -> Path {
+    match (ends.map(is_normal), ends.map(f64::is_sign_negative)) {
+        ([true, true], [false, false]) => Path::NormalAbove0,
+        ([true, true], [true, true]) => Path::NormalBelow0,
+        _ if each => Path::NormalEach,
+        _ => Path::NotNormal,
     }
 }

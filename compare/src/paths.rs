@@ -30,7 +30,9 @@ pub enum Path {
     Float7Unclamped,
     Float7Clamped,
     Float7OverWhole,
-    Normal,
+    NormalAbove0,
+    NormalBelow0,
+    NormalEach,
     NotNormal,
     Bits8,
     Bits16,
@@ -49,7 +51,7 @@ pub enum Path {
 }
 
 /// All of them in order, with their names.
-pub const PATHS: [(Path, &str); 33] = [
+pub const PATHS: [(Path, &str); 35] = [
     (Path::UsualHead, "block: usual head"),
     (Path::HeadAtEnd, "block: usual head, under 11 bytes left"),
     (Path::WideNumber, "block: number of counts in 2 or 4 bytes"),
@@ -73,8 +75,10 @@ pub const PATHS: [(Path, &str); 33] = [
     (Path::Float7Unclamped, "kind 7: by the float unit, no clamp"),
     (Path::Float7Clamped, "kind 7: by the float unit, clamped"),
     (Path::Float7OverWhole, "kind 7: over whole numbers"),
-    (Path::Normal, "kind 6, by the float unit: all normal"),
-    (Path::NotNormal, "kind 6, by the float unit: one by one"),
+    (Path::NormalAbove0, "kind 6: rounded at once, above 0"),
+    (Path::NormalBelow0, "kind 6: rounded at once, below 0"),
+    (Path::NormalEach, "kind 6: rounded at once, each looked at"),
+    (Path::NotNormal, "kind 6: rounded one by one"),
     (Path::Bits8, "packed numbers: at most 8 bits"),
     (Path::Bits16, "packed numbers: 9 to 16 bits"),
     (Path::Bits31, "packed numbers: 17 bits and more"),

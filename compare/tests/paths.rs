@@ -245,20 +245,18 @@ fn float_steps() -> Vec<Known> {
     let (below, limit) = (0x7DDF_FFFF_FFFF_FFFF, 0x7DE0_0000_0000_0000);
     let six = |name, error, maximum, path| {
         let blob = float_blob(6, error, 1.0, maximum);
-        let paths = vec![Blocks, FullTile, UsualHead, Bits8, path, Normal];
+        let paths = vec![Blocks, FullTile, UsualHead, Bits8, path, NormalAbove0];
         (name, blob, paths)
     };
     let seven = |name, error, maximum, path| {
         let blob = float_blob(7, error, 1.0, maximum);
         (name, blob, vec![Blocks, FullTile, UsualHead, Bits8, path])
     };
-    let mut over = six("kind 6, 2^991", limit, 17.0, Float6OverWhole);
-    over.2.pop();
     vec![
         six("kind 6, below", half, 17.0, Float6Unclamped),
         six("kind 6, the maximum", half, 16.0, Float6Clamped),
         six("kind 6, below 2^991", below, 17.0, Float6Clamped),
-        over,
+        six("kind 6, 2^991", limit, 17.0, Float6OverWhole),
         seven("kind 7, below", half, 17.0, Float7Unclamped),
         seven("kind 7, the maximum", half, 16.0, Float7Clamped),
         seven("kind 7, below 2^991", below, 17.0, Float7Clamped),
@@ -280,16 +278,25 @@ fn normal_steps() -> Vec<Known> {
         (name, blob, paths)
     };
     vec![
-        known("from the least", least, 99.0, Normal),
-        known("from below it", least / 2.0, 99.0, NotNormal),
-        known("from 0", 0.0, 99.0, NotNormal),
-        known("from -0", -0.0, 99.0, NotNormal),
-        known("below 0", -20.0, 99.0, Normal),
-        known("across 0", -5.0, 99.0, NotNormal),
-        known("across 0, clamped", -5.0, 3.0, NotNormal),
-        known("to the least below 0", -5.0, -least, Normal),
-        known("nearer to 0", -5.0, -least / 2.0, NotNormal),
-        known("the greatest", f32::MAX.into(), f32::MAX.into(), Normal),
+        known("from the least", least, 99.0, NormalAbove0),
+        known("from below it", least / 2.0, 99.0, NormalEach),
+        known("from 0", 0.0, 99.0, NormalEach),
+        known("from -0", -0.0, 99.0, NormalEach),
+        known("below 0", -20.0, 99.0, NormalBelow0),
+        known("across 0", -5.0, 99.0, NormalEach),
+        known("across 0, clamped", -5.0, 3.0, NormalEach),
+        known("to both sides of 0", -1.5, 99.0, NormalEach),
+        known("to 0 with the first count", -1.0, 99.0, NotNormal),
+        known("to 0 with the second", -2.0, 99.0, NotNormal),
+        known("to the least below 0", -5.0, -least, NormalBelow0),
+        known("nearer to 0", -5.0, -least / 2.0, NormalEach),
+        known("nearer to 0, clamped", -0.5, -least / 2.0, NotNormal),
+        known(
+            "the greatest",
+            f32::MAX.into(),
+            f32::MAX.into(),
+            NormalAbove0,
+        ),
     ]
 }
 
@@ -580,7 +587,7 @@ fn maxima_that_are_no_words() {
     assert_eq!(found(&[case]).fills.of(Path::WholeOneByOne), 1);
     // A last step above the greatest binary32.
     let mut case = fill(&float_blob(6, 1e38f64.to_bits(), 3e38, 3.1e38), 0);
-    assert_eq!(found(&[case.clone()]).fills.of(Path::Normal), 1);
+    assert_eq!(found(&[case.clone()]).fills.of(Path::NormalAbove0), 1);
     case.ranges[maximum] = 2f64.powi(128).to_bits();
     assert_eq!(found(&[case]).fills.of(Path::NotNormal), 1);
 }
@@ -691,7 +698,7 @@ fn every_step_comes_up_in_full_tiles_of_each_kind() {
     let float7 = [Float7Unclamped, Float7Clamped, Float7OverWhole].as_slice();
     for (kind, found) in found.iter().enumerate() {
         let steps: &[Path] = match kind {
-            6 => &[float6, &[Normal, NotNormal]].concat(),
+            6 => &[float6, &[NormalAbove0, NormalBelow0, NormalEach, NotNormal]].concat(),
             7 => float7,
             _ => &[WholeByWidth, WholeByLargest, WholeClamped, WholeOneByOne],
         };

@@ -7,7 +7,9 @@
 The proofs hold of sums, products and comparisons of binary64 numbers that are rounded one by one, and of whole numbers made
 into such. So an archive may have these instructions and must have each of them; a fused or a wider one, one of single
 precision, a division, any other arithmetic on floats or a change of the control word is a fault, and with --words these are
-faults too. Moves, and bit operations on the registers that floats share with others, round nothing and are not looked at.
+faults too. So is a difference, unless it stands behind an `or` of the same operands: x86-64 makes floats of two whole numbers
+so, each put into the digits of 2^52, of which 2^52 is taken away, and that is exact. Moves, and bit operations on the
+registers that floats share with others, round nothing and are not looked at.
 Needs objdump (binutils) for x86-64, or llvm-objdump, which reads arm64 too.
 Exit status: 0 all of it holds, 1 some of it does not, 2 it could not be told.
 """
@@ -22,7 +24,7 @@ ROOT = os.path.dirname(os.path.dirname(os.path.dirname(os.path.abspath(__file__)
 
 # by machine: what may be there, by what it is for
 ALLOWED = {
-    'x86-64': {'sum': r'add[sp]d', 'product': r'mul[sp]d', 'order': r'u?comisd|cmpn?l[te][sp]d', 'whole number': r'cvt(si|dq)2[sp]d[lq]?'},
+    'x86-64': {'sum': r'add[sp]d', 'product': r'mul[sp]d', 'order': r'u?comisd|cmpn?l[te][sp]d', 'whole number': r'cvt(si|dq)2[sp]d[lq]?|subpd, of whole numbers'},
     'arm64': {'sum': r'fadd', 'product': r'fmul', 'order': r'fccmpe?|fcmpe?|fcmg[te]', 'whole number': r'[su]cvtf'},
 }
 # what else computes with floats, or sets how: x87 has every name that begins with f, the others of x86-64 end in their format
@@ -64,16 +66,20 @@ def machine_of(text):
 def instructions(text, machine):
     """how many there are of each name; of a name that is not of binary64, with that said"""
     found = collections.Counter()
+    before = None
     for name, operands in re.findall(r'^\s*[0-9a-f]+:\s+(\S+)(.*)', text, re.M):
         if not re.fullmatch(r'[a-z][a-z0-9_.]*', name):
             raise Unknown('an instruction that the tool cannot read: %s%s' % (name, operands))
         if machine == 'x86-64' and name.startswith('v'):
             name = name[1:]
+        if name == 'subpd' and before in (('por', operands.split()), ('orpd', operands.split())):
+            name += ', of whole numbers'
         if machine == 'arm64' and name == 'msr' and 'fpcr' in operands.lower():
             name = 'fpcr'
         elif machine == 'arm64' and re.fullmatch(FLOATS[machine], name) and re.search(NARROW, operands):
             name += ', not of binary64'
         found[name] += 1
+        before = (name, operands.split())
     if not found:
         raise Unknown('no instruction was found')
     return found

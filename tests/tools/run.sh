@@ -438,6 +438,15 @@ if command -v cargo >/dev/null && command -v gcc >/dev/null && tools/archive.sh 
     if [ -z "$words" ]; then
         gives 'float instructions where none should be' 1 python3 tests/floats/run.py --words target/staticlib/liblerc_c.a
     fi
+    if [ "$(uname -m)" = x86_64 ]; then
+        # all that an archive must have, and a difference: of whole numbers, and of any
+        for turned in 'por %xmm1,%xmm2' 'por %xmm1,%xmm3'; do
+            printf '%s\n' 'addsd %xmm1,%xmm2' 'mulsd %xmm1,%xmm2' 'ucomisd %xmm1,%xmm2' 'cvtsi2sd %rax,%xmm2' "$turned" 'subpd %xmm1,%xmm2' >"$ROOM/floats.s"
+            gcc -c "$ROOM/floats.s" -o "$ROOM/floats-${turned##*xmm}.o"
+        done
+        gives 'a difference that makes floats of whole numbers' 0 python3 tests/floats/run.py "$ROOM/floats-2.o"
+        gives 'any other difference' 1 python3 tests/floats/run.py "$ROOM/floats-3.o"
+    fi
     if [ "$(uname -m)" = x86_64 ] && [ -z "$words" ]; then
         # gcc adds code that begins with small numbers flushed to zero
         for program in read blocks; do

@@ -1,16 +1,15 @@
 -- The counts that a plan leads to: how many, where they end, how large.
 -- Assumes nothing.
-use mathlib.Core.Path.{_≡_, refl, sym, subst, _∙_}
+use mathlib.Core.Path.{_≡_, refl, sym, subst}
 use mathlib.Core.Bool.{Bool, true, false, cond}
 use mathlib.Core.List.{List, _∷_}
 use Prim.Native.Nat.{ℕ, zero, suc, _-_, _^_, _≤_, _<_}
 use native.Mathlib.Omega.{arith}
 use native.Mathlib.Decide.{decLt}
-use native.Mathlib.Nat.{lt-of-lt-of-le}
 use borrow.Author.Tests.{eqb-true, eqb-false, eq-eqb, ne-eqb}
 use lib.Dec.{eqb}
 use lib.ListN.{length, getD, List·getD-eq-default}
-use lib.Pow.{pow-pos, pow-mono}
+use lib.Pow.{pow-pos}
 use Rattle.lerc_words.specs.declared.Refusal.{Refusal}
 use Rattle.lerc_words.specs.Res.{ok, fail, refuse, require}
 use Rattle.lerc_words.proofs.Binding.{bind-is, require-is, ok-is}
@@ -20,8 +19,8 @@ use Rattle.lerc_bits.specs.Bits.{plan, digits, run, chosen, allBelow, lo
 use Rattle.lerc_bits.specs.Unpacking.{valueBits}
 use Rattle.lerc_bits.proofs.Run.{length-digits, digits-small}
 use Rattle.lerc_bits.proofs.Choose.{length-chosen}
-use Rattle.lerc_bits.proofs.Returns.{counts-by, unpacked-plain, unpacked-table, unpacked-bad}
-use Rattle.lerc_bits.proofs.Plans.{laid-spread, plan-is, plan-ends, plan-few}
+use Rattle.lerc_bits.proofs.Returns.{unpacked-plain, unpacked-table, unpacked-bad}
+use Rattle.lerc_bits.proofs.Plans.{plan-ends, plan-few}
 
 -- ---- how accepted counts were read
 
@@ -108,9 +107,6 @@ unpacked-eight s p {r} f = go (eqb (p .entries) 0) refl (allBelow (p .n) (p .ent
         let x : p .entries ≡ 0 → ⊥ = eqb-false _ _ t in
         cc (f, unpacked-bad s p (omega arith) b)
 
-pub counts-eight : (s : List ℕ) (at : ℕ) {p : Plan} {r : Refusal} → plan s at ≡ ok p → counts s at ≡ fail r → r ≡ refuse 8
-counts-eight s at {p} d e = unpacked-eight s p (sym (counts-by s at d) ∙ e)
-
 -- ---- how large they are
 
 entry-small : (whole n bits k : ℕ) → getD (0 ∷ digits whole n bits) k 0 < 2 ^ bits
@@ -127,10 +123,6 @@ chosen-small m is whole n bits k = go (decLt k m)
         let h : length (chosen m (0 ∷ digits whole n bits) is) ≤ k = omega (arith, length-chosen m (0 ∷ digits whole n bits) is) in
         rw (List·getD-eq-default (chosen m (0 ∷ digits whole n bits) is) 0 h) (pow-pos bits)
 
-valued-small : {s : List ℕ} {p : Plan} {vs : List ℕ} → (p .entries ≡ 0 → p .width ≡ p .bits) → Valued s p vs → (k : ℕ) → getD vs k 0 < 2 ^ p .bits
-valued-small {s} {p} w (valued-plain z e) k = rw (e, ← w z) (digits-small _ (p .n) (p .width) k)
-valued-small {s} {p} w (valued-table h b e) k = rw (e) (chosen-small (p .n) _ _ (p .entries - 1) (p .bits) k)
-
 -- each is as wide as its plan says
 pub unpacked-bits : (s : List ℕ) (p : Plan) {c : Counts} → unpacked s p ≡ ok c → (k : ℕ) → getD (c .values) k 0 < 2 ^ valueBits p
 unfolding unpacked
@@ -143,16 +135,3 @@ unpacked-bits s p {c} e k =
     small (valued-table h b e) =
         let f : p .entries ≡ 0 → ⊥ = λ z. omega arith in
         rw (e, ne-eqb _ _ f) (chosen-small (p .n) _ _ (p .entries - 1) (p .bits) k)
-
--- each is below 2^bits
-pub counts-bits : (s : List ℕ) (at : ℕ) {p : Plan} {c : Counts} → plan s at ≡ ok p → counts s at ≡ ok c → (k : ℕ) → getD (c .values) k 0 < 2 ^ p .bits
-counts-bits s at {p} d e k =
-    let g = counts-is s at e in
-    let z : g .p ≡ p = cc (d, g .planned) in
-    rw (← z) (valued-small (laid-spread (plan-is s at (g .planned) .laid) .plainly) (g .valued) k)
-
--- so below 2^31
-pub counts-small : (s : List ℕ) (at : ℕ) {c : Counts} → counts s at ≡ ok c → (k : ℕ) → getD (c .values) k 0 < 2 ^ 31
-counts-small s at e k =
-    let g = counts-is s at e in
-    lt-of-lt-of-le (counts-bits s at (g .planned) e k) (pow-mono {j = 31} (plan-few s at (g .planned) .1))

@@ -12,13 +12,14 @@ use Rattle.lerc_words.specs.Res.{Res, ok, fail, each, accepts, little}
 use Rattle.lerc_words.proofs.Binding.{and-is, accepts-is}
 use Rattle.lerc_numeric.specs.Numeric.{negative}
 use Rattle.lerc_numeric.specs.Kinds.{typeSize}
+use Rattle.lerc_numeric.specs.Steps.{stepOf}
 use Rattle.lerc_samples.specs.Samples.{stored}
 use Rattle.lerc_samples.proofs.Storable.{Storable, storable-float, storable-clamped, offset-storable}
 use Rattle.lerc_samples.proofs.Reading.{sample-is}
 use Rattle.lerc_bits.specs.Bits.{Counts, unpacked}
 use Rattle.lerc_block.specs.declared.plan.Steps.{Steps}
 use Rattle.lerc_block.specs.declared.plan.StoredOffset.{StoredOffset}
-use Rattle.lerc_block.specs.Block.{Block, Offset, levelBlock, stepValue, finiteOffset, nextBlock}
+use Rattle.lerc_block.specs.Block.{Block, Offset, levelBlock, finiteOffset, nextBlock}
 use Rattle.lerc_block.specs.Plan.{offsetValue, steppedWords, ended}
 use Rattle.lerc_block.specs.Steps.{stepWord}
 use Rattle.lerc_block.specs.Check.{stepsFit, OffsetHeld}
@@ -50,15 +51,15 @@ module _ (kind error top : ℕ) where
       go false = rw (e, v .1)
 
   module _ (fit : stepsFit kind error top ≡ true) (offset : ℕ) (held : Storable kind offset) where
-    pub step-fits : (q : ℕ) → Storable kind (stepValue error top offset q)
-    unfolding stepValue stepsFit
+    pub step-fits : (q : ℕ) → Storable kind (stepOf offset error top q)
+    unfolding stepOf stepsFit
     step-fits q = go (leb 6 kind) refl fit
       where
         minus : (t : Bool) → not t ≡ true → t ≡ false
         minus true e = absurd (let z : _≡_ {A = ℕ} 0 1 = cc in omega arith)
         minus false e = refl
 
-        go : (t : Bool) → leb 6 kind ≡ t → (t || (not (negative error) && accepts (stored kind top))) ≡ true → Storable kind (stepValue error top offset q)
+        go : (t : Bool) → leb 6 kind ≡ t → (t || (not (negative error) && accepts (stored kind top))) ≡ true → Storable kind (stepOf offset error top q)
         go true e d = storable-float kind _ (leb-true 6 kind e)
         go false e d =
             let b = and-is (not (negative error)) (accepts (stored kind top)) d in

@@ -1,6 +1,6 @@
 -- The words of a block of binary32 or binary64 numbers, all counts at once: storing one cannot fail.
 -- Assumes nothing.
-use mathlib.Core.Path.{_≡_, _∙_, ap, refl}
+use mathlib.Core.Path.{_≡_, _∙_, ap}
 use mathlib.Core.List.{List}
 use Prim.Native.Nat.{ℕ, _%_, _^_, _≤_, min}
 use native.Mathlib.Nat.{mod-eq-of-lt}
@@ -12,7 +12,6 @@ use Rattle.lerc_words.specs.Lists.{tabulate, over}
 use Rattle.lerc_numeric.specs.Kinds.{narrowed}
 use Rattle.lerc_numeric.specs.Steps.{stepOf, mapped}
 use Rattle.lerc_samples.specs.Samples.{stored}
-use Rattle.lerc_block.specs.Block.{stepValue}
 use Rattle.lerc_block.specs.Steps.{stepWord, StepsPut, CountsOf}
 use Rattle.lerc_block.proofs.Steps.{each-table}
 
@@ -39,8 +38,5 @@ mapped-put kind error top offset bits f stores counts few {value} {old} room ev 
     word : ℕ → ℕ
     word k = f (stepOf value error top (getD counts k 0 % 2 ^ bits))
 
-    same : (q : ℕ) → stepValue error top offset q ≡ stepOf offset error top q
-    same q = unfold stepValue in unfold stepOf in refl
-
     step : (k : ℕ) → stepWord kind error top offset (getD counts k 0) ≡ ok (word k)
-    step k = rw (mod-eq-of-lt (few .below k), ev) (stores _ ∙ ap (λ (v : ℕ). ok (f v)) (same _))
+    step k = rw (mod-eq-of-lt (few .below k), ev) (stores _)

@@ -9,7 +9,7 @@ use lib.Dec.{leb, eqb}
 use lib.ListN.{length}
 use Rattle.lerc_words.specs.declared.Refusal.{Refusal}
 use Rattle.lerc_words.specs.Res.{Res, ok, fail, _>>=_, refuse, require, little, wordAt, each, accepts}
-use Rattle.lerc_words.proofs.Binding.{bind-is, require-is, ok-is, cond-elim}
+use Rattle.lerc_words.proofs.Binding.{bind-ok, bind-no, bind-is, require-is, ok-is, cond-elim}
 use Rattle.lerc_words.proofs.Little.{Bytes, wordAt-is}
 use Rattle.lerc_numeric.specs.Numeric.{finite}
 use Rattle.lerc_numeric.specs.Kinds.{typeSize, valueOf}
@@ -23,11 +23,13 @@ use Rattle.lerc_bits.proofs.Values.{unpacked-is, unpacked-eight}
 use Rattle.lerc_block.specs.declared.plan.StoredOffset.{StoredOffset}
 use Rattle.lerc_block.specs.declared.plan.Form.the-variants as coded
 use Rattle.lerc_block.specs.declared.plan.BlockPlan.{BlockPlan}
+use Rattle.lerc_block.specs.declared.plan.BlockPlanAnswer.{BlockPlanAnswer}
+use Rattle.lerc_block.specs.declared.plan.BlockPlanAnswer.the-variants as answer
 use Rattle.lerc_block.specs.Block.{Block, rawWords, levelBlock, steppedBlock, offsetAt, finiteOffset, offsetBlock, formed, flagAt, blockSays, tileLimit, readBlockSays}
-use Rattle.lerc_block.specs.Plan.{rawPlan, finiteWord, steppedPlan, offsetPlan, formPlan, planAt, planSays, offsetValue, steppedWords, formWords, ended, plannedBlock, planEnd}
+use Rattle.lerc_block.specs.Plan.{rawPlan, finiteWord, steppedPlan, offsetPlan, formPlan, planAt, planSays, planSaid, refusalOfPlan, offsetValue, steppedWords, formWords, ended, plannedBlock, planEnd}
 use Rattle.lerc_block.specs.Steps.{stepWord}
 use Rattle.lerc_block.specs.Check.{readFlag, OffsetHeld, Sound}
-use Rattle.lerc_block.proofs.Returns.{read-flag-is, flag-is}
+use Rattle.lerc_block.proofs.Returns.{said-ok, said-no, read-flag-is, flag-is}
 use Rattle.lerc_block.proofs.Planning.{plan-flagged}
 
 -- ---- raw words
@@ -216,3 +218,16 @@ module _ (s : List ℕ) (y : Bytes s) (kind n : ℕ) {p : BlockPlan} where
   plan-sound at x e =
       let (flag, q, e) = bind-is (readFlag s at x n) _ (sym (plan-flagged s at kind x n) ∙ e) in
       (read-flag-is s at x n q .few, form-sound (at + 1) flag e)
+
+-- ---- what an answer of `inspect_block` says of the block
+
+module _ (s : List ℕ) (at kind x n : ℕ) {r : BlockPlanAnswer} (e : planSaid r ≡ planSays s at kind x n) where
+  module _ {p : BlockPlan} (d : r ≡ answer.Plan p) where
+    pub answered-words : (error top : ℕ) → readBlockSays s at kind error top x n ≡ plannedBlock s kind error top n p
+    answered-words error top = read-planned s at kind error top x n ∙ bind-ok _ (said-ok planSaid e d refl)
+
+    pub answered-sound : Bytes s → (n ≤ 256) × Sound s kind n (p .form)
+    answered-sound y = plan-sound s y kind n at x (said-ok planSaid e d refl)
+
+  pub answered-no : (error top : ℕ) {given why : Refusal} → r ≡ answer.Refused given → why ≡ refusalOfPlan r → readBlockSays s at kind error top x n ≡ fail why
+  answered-no error top d f = read-planned s at kind error top x n ∙ bind-no _ (said-no planSaid e d refusalOfPlan f refl)

@@ -4,7 +4,6 @@ pub mod Planning
 pub mod Leads
 pub mod Steps
 pub mod Accepted
-pub mod Numbers
 pub mod Fitting
 pub mod Spared
 pub mod Usual

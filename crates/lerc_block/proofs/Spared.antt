@@ -13,11 +13,12 @@ use Rattle.lerc_words.specs.Res.{Res, ok, fail, _>>=_, refuse, require, each, w
 use Rattle.lerc_words.proofs.Each.{each-replicate}
 use Rattle.lerc_numeric.specs.Numeric.{negative, finite}
 use Rattle.lerc_numeric.specs.Kinds.{typeSize}
+use Rattle.lerc_numeric.specs.Steps.{stepOf}
 use Rattle.lerc_samples.specs.Samples.{sampleAt, stored, offsetKinds, noKind, offsetKind}
 use Rattle.lerc_samples.proofs.Storable.{Storable}
 use Rattle.lerc_bits.specs.declared.Plan.{Plan}
 use Rattle.lerc_bits.specs.Bits.{countBytes, fits, plainPlan, tablePlan, tabled, plan, run, allBelow, lookedUp, valuesOf, unpacked, counts}
-use Rattle.lerc_block.specs.Block.{Block, rawWords, levelBlock, stepValue, steppedBlock, offsetAt, finiteOffset, offsetBlock, formed, flagAt, blockSays}
+use Rattle.lerc_block.specs.Block.{Block, rawWords, levelBlock, steppedBlock, offsetAt, finiteOffset, offsetBlock, formed, flagAt, blockSays}
 use Rattle.lerc_block.specs.Steps.{stepWord}
 use Rattle.lerc_block.proofs.Fitting.{fit-storable, step-fits, offset-held}
 
@@ -130,7 +131,7 @@ module _ (s : List ℕ) (kind error top : ℕ) (high : Storable kind top) (plus 
         spared-bind (counts s at) _ (counts-spared s at)
         (λ c _. spared-if (eqb (length (c .values)) n) 8 _ refl
         (λ _. spared-bind (each (stepWord kind error top offset) (c .values)) _
-        (spared-each _ (λ q. storable-spared kind (stepValue error top offset q) (step-fits kind error top (fit-storable kind error top high plus) offset held q)) (c .values)) (λ ws _. spared-ok _)))
+        (spared-each _ (λ q. storable-spared kind (stepOf offset error top q) (step-fits kind error top (fit-storable kind error top high plus) offset held q)) (c .values)) (λ ws _. spared-ok _)))
 
   finite-spared : (at flag : ℕ) → NotNine (finiteOffset s at kind flag)
   unfolding finiteOffset offsetAt

@@ -4,14 +4,14 @@ use mathlib.Core.Path.{_≡_, _∙_, sym, ap}
 use mathlib.Core.Bool.{Bool, true, false, cond}
 use mathlib.Core.List.{List}
 use Prim.Native.Nat.{ℕ, _+_, _-_, _*_, _%_, _^_, _≤_, _<_, min, max}
-use native.Mathlib.Nat.{mul-le-mul, lt-of-lt-of-le}
+use native.Mathlib.Nat.{mul-le-mul, lt-of-lt-of-le, add-mod-mod}
 use native.Mathlib.Decide.{decLt}
 use native.Mathlib.Omega.{arith}
 use borrow.Author.Tests.{lt-ltb}
-use lib.Bits.{bitAnd}
+use lib.Bits.{bitAnd, and-mask}
 use lib.Dec.{ltb, lit≤}
 use lib.ListN.{length, getD, List·getD-eq-default}
-use lib.Pow.{pow-mono}
+use lib.Pow.{pow-mono, mod-mod-pow}
 use Rattle.lerc_words.specs.Res.{ok, each}
 use Rattle.lerc_words.specs.Lists.{tabulate, over}
 use Rattle.lerc_words.proofs.Binding.{accepts-is}
@@ -19,13 +19,13 @@ use Rattle.lerc_words.proofs.Little.{unit}
 use Rattle.lerc_words.proofs.Tables.{tabulate-same}
 use Rattle.lerc_numeric.specs.Kinds.{typeSize, modulus}
 use Rattle.lerc_numeric.specs.Whole.{twiceWhole, raised}
+use Rattle.lerc_numeric.specs.Steps.{stepOf}
 use Rattle.lerc_numeric.proofs.Integers.{sizes}
 use Rattle.lerc_numeric.proofs.Shift.{mask}
 use Rattle.lerc_numeric.proofs.WholeSteps.{whole-step}
 use Rattle.lerc_samples.specs.Samples.{stored}
 use Rattle.lerc_samples.proofs.Storable.{stored-int, storable-held}
 use Rattle.lerc_block.specs.declared.plan.StoredOffset.{StoredOffset}
-use Rattle.lerc_block.specs.Block.{stepValue}
 use Rattle.lerc_block.specs.Plan.{offsetValue}
 use Rattle.lerc_block.specs.Steps.{stepWord, StepsPut, CountsOf}
 use Rattle.lerc_block.specs.Check.{OffsetHeld}
@@ -55,6 +55,12 @@ four-bytes kind h =
 -- the lowest bytes
 pub lowest : (size v : ℕ) → size ≤ 4 → bitAnd v ((1 * 2 ^ (8 * size)) % 2 ^ 64 - 1) ≡ v % 2 ^ (8 * size)
 lowest size v h = mask v (8 * size) (omega arith)
+
+-- of a summand 32 bits are enough
+pub lowest-sum : (size base y : ℕ) → size ≤ 4 → bitAnd (base + bitAnd y (2 ^ 32 - 1)) ((1 * 2 ^ (8 * size)) % 2 ^ 64 - 1) ≡ (base + y) % 2 ^ (8 * size)
+lowest-sum size base y h =
+    let bits : 32 - 8 * size + 8 * size ≡ 32 = omega arith in
+    rw (and-mask y 32) (lowest size _ h ∙ sym (add-mod-mod base _ _) ∙ rw (rw (bits) at (mod-mod-pow y (32 - 8 * size) (8 * size))) (add-mod-mod base y _))
 
 -- ---- the largest count
 
@@ -98,7 +104,7 @@ module _ (kind error top t : ℕ) (o : StoredOffset) (h : kind < 6) (k : o .kind
   reached q = min (raised (o .kind) (o .word) + twiceWhole error * q) (raised kind t)
 
   word-is : (q : ℕ) → q < 2 ^ 32 → stepWord kind error top (offsetValue o) q ≡ ok (reached q % modulus kind)
-  unfolding stepValue
+  unfolding stepOf
   word-is q l =
       stored-int kind _ h
       ∙ whole-step kind (o .kind) error (o .word) top t q k half (storable-held kind (offsetValue o) h (accepts-is (stored kind (offsetValue o)) held)) (sym (stored-int kind top h) ∙ stores) l

@@ -9,8 +9,9 @@ use lib.Dec.{leb, eqb}
 use Rattle.lerc_words.specs.declared.Refusal.{Refusal}
 use Rattle.lerc_words.specs.Res.{Res, ok, fail, _>>=_, refuse, require, wordAt, little, each, after}
 use Rattle.lerc_words.specs.Lists.{tabulate, over}
-use Rattle.lerc_numeric.specs.Numeric.{finite, sum, scaled, lesser}
+use Rattle.lerc_numeric.specs.Numeric.{finite}
 use Rattle.lerc_numeric.specs.Kinds.{typeSize}
+use Rattle.lerc_numeric.specs.Steps.{stepOf}
 use Rattle.lerc_samples.specs.Samples.{sampleAt, stored, offsetKind}
 use Rattle.lerc_bits.specs.Bits.{counts}
 use Rattle.lerc_block.specs.declared.BlockAnswer.{BlockAnswer}
@@ -33,16 +34,12 @@ levelBlock at kind offset n = do
   words ← each (stored kind) (replicate n offset)
   ok (record { words = words; next = at })
 
--- "Value for count q: the lesser of sum(offset, scaled(error, q)) and the depth's maximum, the maximum on a tie."
-unfoldable pub stepValue : ℕ → ℕ → ℕ → ℕ → ℕ
-stepValue error top offset q = lesser (sum offset (scaled error q)) top
-
 -- "1 offset and packed counts"; "Counts must number the tile's valid pixels, else 8, before any value is converted."
 unfoldable pub steppedBlock : List ℕ → ℕ → ℕ → ℕ → ℕ → ℕ → ℕ → Res Block
 steppedBlock s at kind error top offset n = do
   c ← counts s at
   _ ← require (eqb (length (c .values)) n) 8
-  words ← each (λ q. stored kind (stepValue error top offset q)) (c .values)
+  words ← each (λ q. stored kind (stepOf offset error top q)) (c .values)
   ok (record { words = words; next = c .next })
 
 -- an offset's value, and where it ends

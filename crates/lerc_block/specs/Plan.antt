@@ -11,6 +11,7 @@ use Rattle.lerc_words.specs.Res.{Res, ok, fail, _>>=_, refuse, require, wordAt,
 use Rattle.lerc_words.specs.Lists.{tabulate}
 use Rattle.lerc_numeric.specs.Numeric.{finite}
 use Rattle.lerc_numeric.specs.Kinds.{typeSize, valueOf}
+use Rattle.lerc_numeric.specs.Steps.{stepOf}
 use Rattle.lerc_samples.specs.Samples.{stored, offsetKind}
 use Rattle.lerc_bits.specs.Bits.{plan, unpacked}
 use Rattle.lerc_block.specs.declared.plan.StoredOffset.{StoredOffset}
@@ -20,7 +21,7 @@ use Rattle.lerc_block.specs.declared.plan.Form.the-variants as coded
 use Rattle.lerc_block.specs.declared.plan.BlockPlan.{BlockPlan}
 use Rattle.lerc_block.specs.declared.plan.BlockPlanAnswer.{BlockPlanAnswer}
 use Rattle.lerc_block.specs.declared.plan.BlockPlanAnswer.the-variants as answer
-use Rattle.lerc_block.specs.Block.{Block, stepValue, flagAt, tileLimit}
+use Rattle.lerc_block.specs.Block.{Block, flagAt, tileLimit}
 
 -- ---- what stands in front
 
@@ -82,7 +83,7 @@ unfoldable pub steppedWords : List ℕ → ℕ → ℕ → ℕ → ℕ → Steps
 steppedWords s kind error top n steps = do
   _ ← require (eqb (steps .counts .n) n) 8
   c ← unpacked s (steps .counts)
-  each (λ q. stored kind (stepValue error top (offsetValue (steps .offset)) q)) (c .values)
+  each (λ q. stored kind (stepOf (offsetValue (steps .offset)) error top q)) (c .values)
 
 -- the n words of each form
 unfoldable pub formWords : List ℕ → ℕ → ℕ → ℕ → ℕ → Form → Res (List ℕ)

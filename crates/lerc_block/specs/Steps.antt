@@ -7,13 +7,14 @@ use mathlib.Core.List.{List}
 use lib.ListN.{getD}
 use Rattle.lerc_words.specs.Res.{Res, ok, _>>=_}
 use Rattle.lerc_words.specs.Lists.{over}
+use Rattle.lerc_numeric.specs.Steps.{stepOf}
 use Rattle.lerc_samples.specs.Samples.{stored}
-use Rattle.lerc_block.specs.Block.{stepValue, blockSaid}
+use Rattle.lerc_block.specs.Block.{blockSaid}
 use Rattle.lerc_block.specs.declared.BlockAnswer.{BlockAnswer}
 
 -- the word of count q
 abbrev pub stepWord : ℕ → ℕ → ℕ → ℕ → ℕ → Res ℕ
-stepWord kind error top offset q = stored kind (stepValue error top offset q)
+stepWord kind error top offset q = stored kind (stepOf offset error top q)
 
 -- all words stand in front and `next` is answered, or the first refusal is; nothing is said of a refusal's array
 pub record BlockConverted (m : Res (List ℕ)) (next : ℕ) (r : BlockAnswer) (old new : List ℕ) : Type 0 where

@@ -57,6 +57,7 @@ impl Head {
     }
 }
 
+// as the private one of lerc_words
 fn quad(a: u8, b: u8, c: u8, d: u8) -> u64
     ensures { λ r. ⌜ r ≡ a + 256 * (b + 256 * (c + 256 * d)) ⌝ }
 {

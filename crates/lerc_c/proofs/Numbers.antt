@@ -13,6 +13,7 @@ use Rattle.lerc_words.specs.Res.{Res, ok, fail, _>>=_, refuse, require, each, w
 use Rattle.lerc_words.proofs.Binding.{and-is}
 use Rattle.lerc_numeric.specs.Numeric.{negative, finite, same}
 use Rattle.lerc_numeric.specs.Kinds.{typeSize, whole, bound, cut}
+use Rattle.lerc_numeric.specs.Steps.{stepOf}
 use Rattle.lerc_samples.specs.Samples.{stored, noKind, offsetKinds, offsetKind, sampleAt}
 use Rattle.lerc_bits.specs.declared.Plan.{Plan}
 use Rattle.lerc_bits.specs.Bits.{countBytes, plainPlan, tablePlan, fits, tabled, plan, run, allBelow, lookedUp, valuesOf, unpacked, counts}
@@ -24,7 +25,7 @@ use Rattle.lerc_mask.proofs.Runs.{coded-six}
 use Rattle.lerc_ranges.specs.declared.Ranges.{Ranges}
 use Rattle.lerc_validity.specs.Validity.{bytesOf, uniform, kept, unrolled, maskSays, prepareSays}
 use Rattle.lerc_ranges.specs.Ranges.{rangesEnd, pairsRight, codedRanges, rangesSays, readRangesSays, constantWords}
-use Rattle.lerc_block.specs.Block.{rawWords, levelBlock, stepValue, steppedBlock, offsetAt, finiteOffset, offsetBlock, formed, flagAt, blockSays}
+use Rattle.lerc_block.specs.Block.{rawWords, levelBlock, steppedBlock, offsetAt, finiteOffset, offsetBlock, formed, flagAt, blockSays}
 use Rattle.lerc_image.specs.Geometry.{tileOf, validInTile}
 use Rattle.lerc_sweep.specs.Sweep.{Way, rawFrom, blocksFrom, hasModeByte, modeAt, moded, swept}
 use Rattle.lerc_image.specs.Blocks.{blockAt, chain, allBlocks}
@@ -133,8 +134,8 @@ unfolding steppedBlock
 stepped-n s at kind error top offset n =
     andThen (counts s at) (counts-n s at) (λ c.
     check (eqb (length (c .values)) n) 8 refl
-    (λ _. andThen (each (λ q. stored kind (stepValue error top offset q)) (c .values))
-    (each-n (λ q. stored kind (stepValue error top offset q)) (c .values) (λ q. stored-n kind (stepValue error top offset q))) (λ words. accepted _)))
+    (λ _. andThen (each (λ q. stored kind (stepOf offset error top q)) (c .values))
+    (each-n (λ q. stored kind (stepOf offset error top q)) (c .values) (λ q. stored-n kind (stepOf offset error top q))) (λ words. accepted _)))
 
 finite-n : (s : List ℕ) (at kind flag : ℕ) → Numbered (finiteOffset s at kind flag)
 unfolding finiteOffset offsetAt

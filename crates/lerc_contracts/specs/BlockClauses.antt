@@ -12,12 +12,13 @@ use Rattle.lerc_words.specs.Res.{ok, fail, little, refuse, accepts, _>>=_}
 use Rattle.lerc_words.proofs.Little.{Bytes}
 use Rattle.lerc_numeric.specs.Numeric.{finite, infinite, countedSum, scaled}
 use Rattle.lerc_numeric.specs.Kinds.{typeSize}
+use Rattle.lerc_numeric.specs.Steps.{stepOf}
 use Rattle.lerc_samples.specs.Samples.{sampleAt, stored, offsetKind}
 use Rattle.lerc_header.specs.declared.Header.{Header}
 use Rattle.lerc_header.specs.Header.{shapeOf, held}
 use Rattle.lerc_header.specs.Shape.{Shaped, cells, blockCount}
 use Rattle.lerc_bits.specs.Bits.{Counts, counts}
-use Rattle.lerc_block.specs.Block.{stepValue, blockSays, readBlockSays, blockSaid, BlockRead, tileLimit}
+use Rattle.lerc_block.specs.Block.{blockSays, readBlockSays, blockSaid, BlockRead, tileLimit}
 use Rattle.lerc_image.specs.declared.Tile.{Tile}
 use Rattle.lerc_image.specs.Geometry.{tileOf, validInTile, pixelOf, cellOf}
 use Rattle.lerc_image.specs.Paint.{scattered}
@@ -114,9 +115,9 @@ pub record ValueCases (s : List ℕ) (h : Header) (m : Mode) (q : List ℕ) (at 
   -- 4.35, over upstream's sum
   pub counted-none : m .flag ≡ 1 → index < length q → (r : Refusal) → stored (h .kind) (stepBy countedSum (h .error) maximum (m .offset) (getD q index 0)) ≡ fail r → value s h m q at index maximum ≡ none
   -- 4.33, 4.36: no operand is infinite
-  pub step-word : m .flag ≡ 1 → index < length q → infinite (m .offset) ≡ false → infinite (scaled (h .error) (getD q index 0)) ≡ false → (w : ℕ) → stored (h .kind) (stepValue (h .error) maximum (m .offset) (getD q index 0)) ≡ ok w → value s h m q at index maximum ≡ some (record { value = w; at = at; q = index + 1 })
+  pub step-word : m .flag ≡ 1 → index < length q → infinite (m .offset) ≡ false → infinite (scaled (h .error) (getD q index 0)) ≡ false → (w : ℕ) → stored (h .kind) (stepOf (m .offset) (h .error) maximum (getD q index 0)) ≡ ok w → value s h m q at index maximum ≡ some (record { value = w; at = at; q = index + 1 })
   -- 4.35: no operand is infinite
-  pub step-none : m .flag ≡ 1 → index < length q → infinite (m .offset) ≡ false → infinite (scaled (h .error) (getD q index 0)) ≡ false → (r : Refusal) → stored (h .kind) (stepValue (h .error) maximum (m .offset) (getD q index 0)) ≡ fail r → value s h m q at index maximum ≡ none
+  pub step-none : m .flag ≡ 1 → index < length q → infinite (m .offset) ≡ false → infinite (scaled (h .error) (getD q index 0)) ≡ false → (r : Refusal) → stored (h .kind) (stepOf (m .offset) (h .error) maximum (getD q index 0)) ≡ fail r → value s h m q at index maximum ≡ none
 
 -- `finish`: its cases, step by step
 pub record FinishCases (s : List ℕ) (h : Header) (t : Tile) (m : Mode) (q mask : List ℕ) (maximum : ℕ) : Type 0 where

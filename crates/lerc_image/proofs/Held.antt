@@ -17,7 +17,7 @@ use Rattle.lerc_header.specs.Header.{held}
 use Rattle.lerc_header.proofs.Kept.{held-is, held-shaped, held-size}
 use Rattle.lerc_ranges.specs.declared.Ranges.{Ranges}
 use Rattle.lerc_ranges.specs.Ranges.{pairsRight, pairsSays}
-use Rattle.lerc_image.specs.Parts.{BodyAsked}
+use Rattle.lerc_image.specs.Parts.{BodyAsked, hasRoom}
 
 module _ (b : List ℕ) (h : Header) {e : Extent} (p : held h (length b) ≡ ok e) where
   pub held-asked : BodyAsked h e
@@ -53,7 +53,7 @@ module _ {b : List ℕ} {h : Header} {m list : List ℕ} {e : Extent} (p : Lista
 -- and the image
 pub record Fillable (b : List ℕ) (h : Header) (m list image : List ℕ) (e : Extent) : Type 0 where
   pub kept : held h (length b) ≡ ok e
-  pub room : (leb (e .mask) (length m) && leb (e .blocks) (length list) && leb (e .cells) (length image)) ≡ true
+  pub room : hasRoom e (length m) (length list) (length image) ≡ true
 
 module _ {b : List ℕ} {h : Header} {m list image : List ℕ} {e : Extent} (p : Fillable b h m list image e) where
   both : (leb (e .mask) (length m) && leb (e .blocks) (length list) ≡ true) × (leb (e .cells) (length image) ≡ true)

@@ -6,6 +6,7 @@ use mathlib.Core.List.{List}
 use Prim.Native.Nat.{ℕ, _+_, _≤_, _<_}
 use native.Mathlib.Omega.{arith}
 use lib.ListN.{length, getD}
+use Rattle.lerc_words.specs.Res.{ok}
 use Rattle.lerc_header.specs.declared.Header.{Header}
 use Rattle.lerc_header.specs.declared.Extent.{Extent}
 use Rattle.lerc_header.specs.declared.Shape.{Shape}
@@ -13,8 +14,10 @@ use Rattle.lerc_header.specs.Limits.{cellLimit, depthLimit}
 use Rattle.lerc_header.specs.Shape.{Shaped, pixels, blockCount, cells}
 use Rattle.lerc_header.specs.Header.{shapeOf}
 use Rattle.lerc_header.proofs.Sizes.{blocks-le}
-use Rattle.lerc_block.specs.Block.{blockSays, readBlockSays}
+use Rattle.lerc_block.specs.Block.{Block, blockSays, readBlockSays, BlockRead}
+use Rattle.lerc_block.specs.declared.BlockAnswer.{BlockAnswer}
 use Rattle.lerc_block.specs.Plan.{planAt, planEnd}
+use Rattle.lerc_block.proofs.Accepted.{block-words}
 use Rattle.lerc_image.specs.declared.Tile.{Tile}
 use Rattle.lerc_image.specs.declared.Position.{Position}
 use Rattle.lerc_image.specs.Geometry.{HasTile, tileOf, tileHere, validInTile, positionOf, nextOf}
@@ -53,6 +56,14 @@ module _ {h : Header} {shape : Shape} {n : ℕ} {t : Tile} (b : BlockTile h shap
   pub here-read : (s : List ℕ) (at : ℕ) (maxima m : List ℕ) {valid : ℕ} → valid ≡ validInTile shape m t
       → readBlockSays s at (h .kind) (h .error) (getD maxima (t .d) 0) (t .x) valid ≡ blockAt s h maxima m n at
   here-read s at maxima m q = rw (q) (read-block _ _ _ _ _ _ _ (valid-small shape t here-in m) ∙ here-block s at maxima m)
+
+  pub here-told : (s : List ℕ) (at : ℕ) (maxima m : List ℕ) {valid : ℕ} → valid ≡ validInTile shape m t → {got : BlockAnswer} {old new : List ℕ}
+      → BlockRead (readBlockSays s at (h .kind) (h .error) (getD maxima (t .d) 0) (t .x) valid) got old new → BlockRead (blockAt s h maxima m n at) got old new
+  here-told s at maxima m q e = rw (here-read s at maxima m q) at e
+
+  -- a word for each valid pixel
+  pub here-words : (s : List ℕ) (at : ℕ) (maxima m : List ℕ) (k : Block) → blockAt s h maxima m n at ≡ ok k → length (k .words) ≡ validInTile shape m (tileOf shape n)
+  here-words s at maxima m k e = block-words _ _ _ _ _ _ _ (here-block s at maxima m ∙ e) ∙ ap (validInTile shape m) (b .tile)
 
   -- counted once, the next block may have the same tile
   pub here-carried : (m : List ℕ) {valid : ℕ} → valid ≡ validInTile shape m t → Carried shape m (n + 1) valid

@@ -6,7 +6,7 @@ use mathlib.Core.Bool.{Bool, true, cond, _&&_}
 use mathlib.Core.List.{List}
 use lib.ListN.{length, getD, set}
 use lib.Count.{ones}
-use lib.Dec.{ltb, eqb}
+use lib.Dec.{ltb, leb, eqb}
 use Rattle.lerc_words.specs.Res.{Res, ok, _>>=_, after}
 use Rattle.lerc_words.specs.Lists.{over, count}
 use Rattle.lerc_header.specs.declared.Header.{Header}
@@ -76,6 +76,10 @@ pub record FillAsked (h : Header) (e : Extent) (n : ℕ) (b list image : List �
   pub room : e .cells ≤ length image
 
 -- ---- what they give
+
+-- a mask, a list and an image of such lengths are long enough
+abbrev pub hasRoom : Extent → ℕ → ℕ → ℕ → Bool
+hasRoom e mask list image = leb (e .mask) mask && leb (e .blocks) list && leb (e .cells) image
 
 -- the set bits of byte i of some, each `step` behind the one before
 abbrev pub onesApart : List ℕ → ℕ → ℕ → ℕ → ℕ

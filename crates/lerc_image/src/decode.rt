@@ -11,6 +11,7 @@ use super::Position;
 use super::WalkAnswer;
 use super::all_valid;
 use super::check_blocks;
+use super::has_room;
 use super::list_starts;
 use super::put_at;
 use super::valid_here;
@@ -39,24 +40,12 @@ fn fill_listed(
     let mut n: usize = 0;
     let full = all_valid(h.valid, e.pixels, mask);
     let mut valid: usize = 0;
-    let mut words = [0u64; 256];
+    let words = &mut [0u64; 256];
     while n < e.blocks {
         let t = p.current(shape);
         valid = valid_here(shape, t, mask, full, valid);
         let at = list[n];
-        let _put = put_at(
-            s,
-            at,
-            h,
-            shape,
-            n,
-            t,
-            valid,
-            maxima,
-            mask,
-            &mut words,
-            &mut image[..],
-        );
+        let _put = put_at(s, at, h, shape, n, t, valid, maxima, mask, words, image);
         p = p.advance(shape);
         n += 1;
     }
@@ -83,24 +72,12 @@ fn write_blocks(
     let mut next = at;
     let full = all_valid(h.valid, e.pixels, mask);
     let mut valid: usize = 0;
-    let mut words = [0u64; 256];
+    let words = &mut [0u64; 256];
     while n < e.blocks {
         list[n] = next;
         let t = p.current(shape);
         valid = valid_here(shape, t, mask, full, valid);
-        let got = put_at(
-            s,
-            next,
-            h,
-            shape,
-            n,
-            t,
-            valid,
-            maxima,
-            mask,
-            &mut words,
-            &mut image[..],
-        );
+        let got = put_at(s, next, h, shape, n, t, valid, maxima, mask, words, image);
         let BlockAnswer::Block(end) = got else {
             return;
         };
@@ -188,8 +165,7 @@ pub fn fill_tiles(
     let HeldAnswer::Held(e) = held else {
         return;
     };
-    let room = (e.mask <= mask.len()) & (e.blocks <= list.len()) & (e.cells <= image.len());
-    if !room {
+    if !has_room(e, mask.len(), list.len(), image.len()) {
         return;
     }
     let size = e.size;
@@ -214,8 +190,7 @@ pub fn write_tiles(
     let HeldAnswer::Held(e) = held else {
         return;
     };
-    let room = (e.mask <= mask.len()) & (e.blocks <= list.len()) & (e.cells <= image.len());
-    if !room {
+    if !has_room(e, mask.len(), list.len(), image.len()) {
         return;
     }
     let size = e.size;
@@ -239,8 +214,7 @@ pub fn decode_tiles(
     let HeldAnswer::Held(e) = held else {
         return WalkAnswer::Refused(held.refusal());
     };
-    let room = (e.mask <= mask.len()) & (e.blocks <= list.len()) & (e.cells <= image.len());
-    if !room {
+    if !has_room(e, mask.len(), list.len(), image.len()) {
         return WalkAnswer::Refused(Refusal { number: 5 });
     }
     let size = e.size;

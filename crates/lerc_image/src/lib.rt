@@ -11,8 +11,8 @@ ghost use Rattle.lerc_image.specs.Blocks.{blockAt, allBlocks};
 ghost use Rattle.lerc_header.specs.Limits.{depthLimit};
 ghost use Rattle.lerc_image.specs.Walk.{BlocksWalked, bodyWalked, walkSaid, walkOf, refusalOfWalk};
 ghost use Rattle.lerc_image.specs.Tiles.{headStarts};
-ghost use Rattle.lerc_image.specs.Parts.{TileIn, BodyAsked, Asked, onesApart, isSquare, allValid, CountAsked, BlockTile, FillAsked, cursorOf, cursorNext, BlockScattered, BlockPut, BlockFilled, BodyListed};
-ghost use Rattle.lerc_block.specs.Block.{blockSaid, blockSays, readBlockSays, nextBlock};
+ghost use Rattle.lerc_image.specs.Parts.{TileIn, BodyAsked, Asked, hasRoom, onesApart, isSquare, allValid, CountAsked, BlockTile, FillAsked, cursorOf, cursorNext, BlockScattered, BlockPut, BlockFilled, BodyListed};
+ghost use Rattle.lerc_block.specs.Block.{blockSaid, readBlockSays, nextBlock};
 ghost use Rattle.lerc_block.specs.Plan.{planAt, planEnd};
 use lerc_block::BlockAnswer;
 use lerc_header::DEPTHS;
@@ -52,13 +52,6 @@ pub struct Position {
 struct Cursor {
     pixel: usize,
     column: usize,
-}
-
-// How the values of a block are coded.
-struct Coding {
-    kind: u32,
-    error: u64,
-    maximum: u64,
 }
 
 pub enum WalkAnswer {
@@ -311,30 +304,6 @@ fn scatter(
     used
 }
 
-// Block `number`, whose tile is `t` with `valid` valid pixels, at a place: its words to the image once it is accepted; where the next begins.
-fn put_block(
-    s: &[u8],
-    at: usize,
-    c: Coding,
-    h: Shape,
-    t: Tile,
-    valid: usize,
-    number: usize,
-    mask: &[u8],
-    words: &mut [u64; 256],
-    image: &mut [u64],
-) -> BlockAnswer
-    requires { ⌜ Asked h t number (now image) × (valid ≡ validInTile h (now mask) t) ⌝ }
-    ensures { λ r. ⌜ BlockPut h (now (mask .entry)) number (blockSays (now (s .entry)) at (c .kind) (c .error) (c .maximum) (t .x) (validInTile h (now (mask .entry)) t)) r (now (image .entry)) (now (image .exit)) ⌝ }
-{
-    let got = lerc_block::read_block(s, at, c.kind, c.error, c.maximum, t.x, valid, words);
-    let BlockAnswer::Block(_next) = got else {
-        return got;
-    };
-    put::put_tile(h, t, number, valid, mask, words, &mut image[..]);
-    got
-}
-
 // Block n at a place, whose tile is `t` with `valid` valid pixels: its words to the image once it is accepted; where the next begins.
 fn put_at(
     s: &[u8],
@@ -353,15 +322,16 @@ fn put_at(
     ensures { λ r. ⌜ BlockPut shape (now (mask .entry)) n (blockAt (now (s .entry)) h (now (maxima .entry)) (now (mask .entry)) n at) r (now (image .entry)) (now (image .exit)) ⌝ }
 {
     let depth = t.d;
-    let c = Coding {
-        kind: h.kind,
-        error: h.error,
-        maximum: maxima[depth],
+    let top = maxima[depth];
+    let got = lerc_block::read_block(s, at, h.kind, h.error, top, t.x, valid, words);
+    let BlockAnswer::Block(_next) = got else {
+        return got;
     };
-    put_block(s, at, c, shape, t, valid, n, mask, words, &mut image[..])
+    put::put_tile(shape, t, n, valid, mask, words, &mut image[..]);
+    got
 }
 
-// Block `number` at its listed start, of a blob whose header is held.
+// Block n at its listed start, of a blob whose header is held.
 fn fill_number(
     blob: &[u8],
     h: Header,
@@ -369,37 +339,32 @@ fn fill_number(
     maxima: &[u64; DEPTHS],
     mask: &[u8],
     list: &[usize],
-    number: usize,
+    n: usize,
     image: &mut [u64],
 ) -> FillAnswer
-    requires { ⌜ FillAsked h e number (now blob) (now list) (now image) ⌝ }
-    ensures { λ r. ⌜ BlockFilled (e .shape) (now (mask .entry)) number (blockAt (take (e .size) (now (blob .entry))) h (now (maxima .entry)) (now (mask .entry)) number (getD (now (list .entry)) number 0)) r (now (image .entry)) (now (image .exit)) ⌝ }
+    requires { ⌜ FillAsked h e n (now blob) (now list) (now image) ⌝ }
+    ensures { λ r. ⌜ BlockFilled (e .shape) (now (mask .entry)) n (blockAt (take (e .size) (now (blob .entry))) h (now (maxima .entry)) (now (mask .entry)) n (getD (now (list .entry)) n 0)) r (now (image .entry)) (now (image .exit)) ⌝ }
 {
     let size = e.size;
     let s = &blob[..size];
-    let at = list[number];
+    let at = list[n];
     let shape = e.shape;
-    let p = Position::of(shape, number);
+    let p = Position::of(shape, n);
     let t = p.current(shape);
     let valid = count_valid(shape, t, mask);
-    let mut words = [0u64; 256];
-    let got = put_at(
-        s,
-        at,
-        h,
-        shape,
-        number,
-        t,
-        valid,
-        maxima,
-        mask,
-        &mut words,
-        &mut image[..],
-    );
+    let words = &mut [0u64; 256];
+    let got = put_at(s, at, h, shape, n, t, valid, maxima, mask, words, image);
     let BlockAnswer::Block(_next) = got else {
         return FillAnswer::Refused(got.refusal());
     };
     FillAnswer::Filled(valid)
+}
+
+// A mask, a list and an image of such lengths are long enough.
+fn has_room(e: Extent, mask: usize, list: usize, image: usize) -> bool
+    ensures { λ r. ⌜ r ≡ hasRoom e mask list image ⌝ }
+{
+    (e.mask <= mask) & (e.blocks <= list) & (e.cells <= image)
 }
 
 // Block `number` of a blob, at its listed start; the image is written once the block is accepted.
@@ -421,8 +386,7 @@ pub fn fill(
     if e.blocks <= number {
         return FillAnswer::Refused(Refusal { number: 11 });
     }
-    let room = (e.mask <= mask.len()) & (e.blocks <= list.len()) & (e.cells <= image.len());
-    if !room {
+    if !has_room(e, mask.len(), list.len(), image.len()) {
         return FillAnswer::Refused(Refusal { number: 5 });
     }
     let right = lerc_ranges::pairs(h.depth, ranges);

@@ -64,19 +64,19 @@ fn copy_rows(h: Shape, t: Tile, number: usize, words: &[u64; 256], image: &mut [
     }
 }
 
-// The same where a row is eight words beside each other.
+// The same where a row is eight words beside each other. Its rows are counted by another name, so that an edit can name the line.
 fn copy_eights(h: Shape, t: Tile, number: usize, words: &[u64; 256], image: &mut [u64])
     requires { ⌜ Asked h t number (now image) × (t .w ≡ 8) × (h .depth ≡ 1) ⌝ }
     ensures { λ r. ⌜ FullScattered h t number (now (words .entry)) (now (image .entry)) (now (image .exit)) ⌝ }
 {
     let mut start = t.y * h.columns + t.x;
-    let mut row: usize = 0;
+    let mut done: usize = 0;
     let mut used: usize = 0;
-    while row < t.h {
+    while done < t.h {
         copy_eight(words, used, start, &mut image[..]);
         start += h.columns;
         used += 8;
-        row += 1;
+        done += 1;
     }
 }
 

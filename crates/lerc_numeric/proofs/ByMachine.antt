@@ -70,7 +70,7 @@ module _ (m n : ℕ) (e d : ℤ) (a b c : ℕ) (p : m * up e * c ≡ a * down e)
 common-pos : (e d : ℤ) → 0 < down e * down d
 common-pos e d = mul-pos (down-pos e) (down-pos d)
 
-add-value : (x y : Float) (s t : Bool) (a b c : ℕ) → 0 < c → HasValue x s a c → HasValue y t b c → Ieee.add binary64 x y ≡ Ieee.sum binary64 s a t b c
+pub add-value : (x y : Float) (s t : Bool) (a b c : ℕ) → 0 < c → HasValue x s a c → HasValue y t b c → Ieee.add binary64 x y ≡ Ieee.sum binary64 s a t b c
 unfolding Ieee.add
 add-value nan y s t a b c h p q = absurd p
 add-value (inf u) y s t a b c h p q = absurd p
@@ -90,7 +90,7 @@ lt-value (fin u m e) (fin v n d) s t a b c h p q =
     rw (p .0, q .0)
     (below-same s t (m * up e * down d) (n * up d * down e) (down e * down d) a b c (common-pos e d) h (first m n e d a b c (p .1) (q .1)) (second m n e d a b c (p .1) (q .1)))
 
-mul-value : (x y : Float) (s t : Bool) (a b c d : ℕ) → 0 < c → 0 < d → HasValue x s a c → HasValue y t b d → Ieee.mul binary64 x y ≡ round binary64 (Ieee.unlike s t) (a * b) (c * d)
+pub mul-value : (x y : Float) (s t : Bool) (a b c d : ℕ) → 0 < c → 0 < d → HasValue x s a c → HasValue y t b d → Ieee.mul binary64 x y ≡ round binary64 (Ieee.unlike s t) (a * b) (c * d)
 unfolding Ieee.mul
 mul-value nan y s t a b c d hc hd p q = absurd p
 mul-value (inf u) y s t a b c d hc hd p q = absurd p
@@ -127,7 +127,7 @@ machine-sum a b ha hb =
 abbrev pub product : ℕ → ℕ → Float
 product a q = Ieee.mul binary64 (ofBits binary64 a) (Ieee.ofInt binary64 (pos (2 * q)))
 
-count-value : (n : ℕ) → n < 2 ^ 53 → HasValue (Ieee.ofInt binary64 (pos n)) false n 1
+pub count-value : (n : ℕ) → n < 2 ^ 53 → HasValue (Ieee.ofInt binary64 (pos n)) false n 1
 unfolding Ieee.ofInt
 count-value n h = round-exact binary64 false n 1 n 1074 (lit< tt) h (lt-of-lt-of-le (shl-lt 53 1074 h) (pow-mono {i = 1127} {j = 2098} (lit≤ tt))) (sym (mul-one (n * 2 ^ 1074)))
 

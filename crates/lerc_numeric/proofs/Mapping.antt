@@ -1,44 +1,38 @@
--- A list that a loop fills from the front, with f of an entry of xs in each turn.
+-- A list that a loop fills from the front, with f of an entry of xs in each turn, as many as both lists have.
 -- Assumes nothing.
-use mathlib.Core.Path.{_≡_, refl, ap, _∙_}
-use mathlib.Core.Bool.{Bool, true}
+use mathlib.Core.Path.{_≡_, ap, _∙_}
 use mathlib.Core.List.{List, _++_, append-nil}
 use Prim.Native.Nat.{ℕ, suc, _+_, _≤_, _<_, min}
 use native.Mathlib.Omega.{arith}
 use lib.ListN.{length, getD, set, take, drop}
 use lib.Seq.{drop-cons, getD-at, take-at, drop-at, drop-length}
-use Rattle.lerc_words.specs.Lists.{from, tabulate, over}
-use Rattle.lerc_words.proofs.Tables.{table-more, length-table, length-tabulate, getD-tabulate, tabulate-same, table-over}
+use Rattle.lerc_words.specs.Lists.{tabulate, over}
+use Rattle.lerc_words.proofs.Filling.{Filling, filling-none, filling-length, filling-more, filling-done}
+use Rattle.lerc_words.proofs.Tables.{length-table, length-tabulate, getD-tabulate, tabulate-same, table-over}
 use Rattle.lerc_numeric.specs.Steps.{mapped}
 
 pub record Mapping (f : ℕ → ℕ) (xs old : List ℕ) (n k : ℕ) (now : List ℕ) : Type 0 where
-  pub few : k ≤ n
+  pub filling : Filling (λ j. f (getD xs j 0)) n k old now
   pub all : n ≡ min (length xs) (length old)
-  pub is : now ≡ tabulate k (λ j. f (getD xs j 0)) ++ drop k old
 
 pub mapping-none : (f : ℕ → ℕ) (xs old : List ℕ) (n : ℕ) → n ≡ min (length xs) (length old) → Mapping f xs old n 0 old
-unfolding from
-mapping-none f xs old n e = record { few = omega arith; all = e; is = refl }
+mapping-none f xs old n e = record { filling = filling-none (λ j. f (getD xs j 0)) n old (omega arith); all = e }
 
 module _ {f : ℕ → ℕ} {xs old : List ℕ} {n k : ℕ} {now : List ℕ} (t : Mapping f xs old n k now) where
   pub mapping-length : length now ≡ length old
-  mapping-length = rw (t .is) (length-table k (λ j. f (getD xs j 0)) old (omega (arith, t .few, t .all)))
+  mapping-length = filling-length (t .filling)
 
   pub mapping-more : (v : ℕ) → k < n → v ≡ f (getD xs k 0) → Mapping f xs old n (k + 1) (set now k v)
-  mapping-more v h e =
-      let l : k < length old = omega (arith, t .all) in
-      record { few = omega arith; all = t .all; is = rw (e, t .is) (table-more k (λ j. f (getD xs j 0)) old l) }
+  mapping-more v h e = record { filling = filling-more (t .filling) v h e; all = t .all }
 
   -- what stands at k and after it has not changed
   pub mapping-next : k < n → getD now k 0 ≡ getD old k 0
   mapping-next h =
       let l : k < length old = omega (arith, t .all) in
-      rw (t .is, drop-cons old k 0 l) (getD-at (tabulate k (λ j. f (getD xs j 0))) (getD old k 0) (drop (suc k) old) 0 k (length-tabulate k (λ j. f (getD xs j 0))))
+      rw (t .filling .is, drop-cons old k 0 l) (getD-at (tabulate k (λ j. f (getD xs j 0))) (getD old k 0) (drop (suc k) old) 0 k (length-tabulate k (λ j. f (getD xs j 0))))
 
   pub mapping-done : n ≤ k → now ≡ mapped f xs old
-  mapping-done h =
-      let e : k ≡ min (length xs) (length old) = omega (arith, t .few, t .all) in
-      rw (← e) (t .is ∙ table-over k (λ j. f (getD xs j 0)) old)
+  mapping-done h = rw (← t .all) (filling-done (t .filling) h ∙ table-over n (λ j. f (getD xs j 0)) old)
 
 -- the same entries, the same list
 pub mapped-same : (f g : ℕ → ℕ) (xs old : List ℕ) → ((k : ℕ) → k < length xs → f (getD xs k 0) ≡ g (getD xs k 0)) → mapped f xs old ≡ mapped g xs old
@@ -68,8 +62,8 @@ module _ {ys : List ℕ} (f : ℕ → ℕ) (xs old : List ℕ) (n : ℕ) (made :
   front-is : take n ys ≡ front
   front-is = rw (parts) (take-at front (drop n old) n wide)
 
-  pub front-each : (p : ℕ → Bool) → ((k : ℕ) → p (f (getD xs k 0)) ≡ true) → (k : ℕ) → k < length (take n ys) → p (getD (take n ys) k 0) ≡ true
-  front-each p h k l =
+  pub front-each : (P : ℕ → Type 0) → ((k : ℕ) → P (f (getD xs k 0))) → (k : ℕ) → k < length (take n ys) → P (getD (take n ys) k 0)
+  front-each P h k l =
       let i : k < n = rw (front-is, wide) at l in
       rw (front-is, getD-tabulate n (λ j. f (getD xs j 0)) k 0 i) (h k)
 

@@ -108,9 +108,6 @@ twice-is w = go (not (negative w) && eqb (q * 2 ^ 1074) (mag w * 2) && leb q (2 
         record { sign = not-true (negative w) (b .0); double = eqb-true (q * 2 ^ 1074) (mag w * 2) (b .1); few = leb-true q (2 ^ 20) (a .1) }
     go false e h = absurd (omega (arith, h))
 
-pub twice-sign : (w : ℕ) → 0 < twiceWhole w → negative w ≡ false
-twice-sign w h = twice-is w h .sign
-
 pub twice-le : (w : ℕ) → twiceWhole w ≤ 2 ^ 20
 twice-le w = go (decLt 0 (twiceWhole w))
   where

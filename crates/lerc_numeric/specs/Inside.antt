@@ -17,6 +17,10 @@ unsigned32 w = cond (eqb (field w) 2047) (255 * 2 ^ 23 + w % 2 ^ 52 / 2 ^ 29) (b
 abbrev pub normal32 : ℕ → Bool
 normal32 w = leb (897 * 2 ^ 52) (w % 2 ^ 63) && ltb (w % 2 ^ 63) (1151 * 2 ^ 52)
 
+-- 1 where a word is negative, else 0
+abbrev pub signOf : ℕ → ℕ
+signOf w = min 1 (w / 2 ^ 63)
+
 -- 2 ^ 991 as a word: times twice a count of 32 bits an error below it is finite
 abbrev pub errorEnd : ℕ
 errorEnd = 2014 * 2 ^ 52

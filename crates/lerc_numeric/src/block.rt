@@ -1,9 +1,9 @@
 // The steps of a block at once.
 ghost use mathlib.Core.Path.{_≡_};
 ghost use mathlib.Core.Bool.{true};
-ghost use Prim.Native.Nat.{ℕ, _-_, _%_, _^_, _≤_, min};
+ghost use Prim.Native.Nat.{ℕ, _-_, _%_, _^_, _≤_, _<_, min};
 ghost use lib.Bits.{bitAnd};
-ghost use Rattle.lerc_numeric.specs.Inside.{normal32};
+ghost use Rattle.lerc_numeric.specs.Inside.{normal32, signOf};
 ghost use Rattle.lerc_numeric.specs.Kinds.{narrowed};
 ghost use Rattle.lerc_numeric.specs.Steps.{stepOf, mapped};
 use super::clamp::step;
@@ -11,8 +11,8 @@ use super::clamp::step_words;
 use super::lengths::shorter;
 use super::machine;
 use super::single::is_normal;
-use super::single::narrow_each;
-use super::single::narrow_normal;
+use super::single::narrow_alike;
+use super::single::narrow_words;
 
 // the largest count of so many bits
 fn largest(bits: usize) -> u32
@@ -48,17 +48,20 @@ pub fn steps(offset: u64, error: u64, top: u64, bits: usize, counts: &[u32], out
     }
 }
 
-// Whether the first and the last step are normal binary32 and of one sign: the steps of an error that is not negative lie
-// between them, so then all are.
-fn all_normal(offset: u64, error: u64, top: u64, low: u32) -> bool
-    ensures { λ r. ⌜ (r ≡ true → (q : ℕ) → q ≤ low → normal32 (stepOf offset error top q) ≡ true) ⌝ }
+// The sign of all steps, 1 where they are negative, if the error is not and the first and the last step are normal binary32 of
+// one sign: then the others lie between them. Else 2.
+fn normal_sign(offset: u64, error: u64, top: u64, low: u32) -> u64
+    ensures { λ r. ⌜ (r < 2 → (q : ℕ) → q ≤ low → (normal32 (stepOf offset error top q) ≡ true) × (r ≡ signOf (stepOf offset error top q))) ⌝ }
 {
     let a = step(offset, error, top, 0);
     let b = step(offset, error, top, low);
-    (error < 0x8000_0000_0000_0000)
-        & (a / 0x8000_0000_0000_0000 == b / 0x8000_0000_0000_0000)
-        & is_normal(a)
-        & is_normal(b)
+    let sign = a / 0x8000_0000_0000_0000;
+    let alike = sign == b / 0x8000_0000_0000_0000;
+    if (error < 0x8000_0000_0000_0000) & alike & is_normal(a) & is_normal(b) {
+        sign
+    } else {
+        2
+    }
 }
 
 // the same steps, each rounded to a binary32
@@ -67,9 +70,10 @@ pub fn single_steps(offset: u64, error: u64, top: u64, bits: usize, counts: &[u3
 {
     steps(offset, error, top, bits, counts, &mut out[..]);
     let n = shorter(counts.len(), out.len());
-    if all_normal(offset, error, top, largest(bits)) {
-        narrow_normal(&mut out[..n]);
+    let sign = normal_sign(offset, error, top, largest(bits));
+    if sign < 2 {
+        narrow_alike(sign, &mut out[..n]);
     } else {
-        narrow_each(&mut out[..n]);
+        narrow_words(&mut out[..n]);
     }
 }

@@ -41,27 +41,22 @@ pub(crate) fn plus(a: u64, b: u64) -> u64
 }
 
 // 2 * q * a, rounded once: twice a count of 32 bits is exact
-fn product(a: u64, q: u32) -> f64
-    requires { ⌜ field a < 2047 ⌝ }
-    ensures { λ r. ⌜ r ≡ mul binary64 (ofBits binary64 a) (ofInt binary64 (pos (2 * q))) ⌝ }
-{
-    let twice = 2 * q as u64;
-    f64::from_bits(a) * (twice as f64)
-}
-
 pub(crate) fn scale(a: u64, q: u32) -> u64
     requires { ⌜ field a < 2047 ⌝ }
     ensures { λ r. ⌜ r ≡ scaled a q ⌝ }
 {
-    f64::to_bits(product(a, q))
+    let twice = 2 * q as u64;
+    f64::to_bits(f64::from_bits(a) * (twice as f64))
 }
 
-// offset + 2 * q * error, rounded twice
+// offset + 2 * q * error, rounded twice. Twice such an error is exact: a loop takes it once, and a count of 32 bits becomes a
+// float as it is, which the machine does for two at a time.
 fn moved(offset: u64, error: u64, q: u32) -> f64
     requires { ⌜ (field offset < 2047) × (error < errorEnd) ⌝ }
     ensures { λ r. ⌜ r ≡ add binary64 (ofBits binary64 offset) (mul binary64 (ofBits binary64 error) (ofInt binary64 (pos (2 * q)))) ⌝ }
 {
-    f64::from_bits(offset) + product(error, q)
+    let e = f64::from_bits(error);
+    f64::from_bits(offset) + (e + e) * (q as f64)
 }
 
 // the lesser of offset + 2 * q * error and top, the second on a tie

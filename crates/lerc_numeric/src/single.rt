@@ -43,13 +43,22 @@ pub(crate) fn is_normal(v: u64) -> bool
 }
 
 // There one sum rounds field and digits at once: half a unit less one is added, and one more where the last digit kept is odd.
-fn round_normal(v: u64) -> u64
+// A binary32's field is 896 less, and its sign stands 3 bits nearer to the field.
+fn round_normal(v: u64, sign: u64) -> u64
+    requires { ⌜ (Inside.normal32 v ≡ true) × (sign ≡ Inside.signOf v) ⌝ }
+    ensures { λ r. ⌜ r ≡ narrowed v ⌝ }
+{
+    let y = (v + 0xfff_ffff + v / 0x2000_0000 % 2) / 0x2000_0000;
+    y - (0x1_c000_0000 + sign * 0x3_8000_0000)
+}
+
+// the same where the sign is not known: it is put back, so that there is no branch to guess
+fn round_signed(v: u64) -> u64
     requires { ⌜ Inside.normal32 v ≡ true ⌝ }
     ensures { λ r. ⌜ r ≡ narrowed v ⌝ }
 {
     let x = v % 0x8000_0000_0000_0000;
-    let y = (x + 0xfff_ffff + x / 0x2000_0000 % 2) / 0x2000_0000;
-    v / 0x8000_0000_0000_0000 * 0x8000_0000 + (y - 0x1_c000_0000)
+    v / 0x8000_0000_0000_0000 * 0x8000_0000 + round_normal(x, 0)
 }
 
 // apart from `narrow`, so that its quick branch is small
@@ -64,25 +73,52 @@ pub fn narrow(v: u64) -> u32
     ensures { λ r. ⌜ r ≡ narrowed v ⌝ }
 {
     if is_normal(v) {
-        round_normal(v) as u32
+        round_signed(v) as u32
     } else {
         narrow_any(v)
     }
 }
 
-pub(crate) fn narrow_normal(words: &mut [u64])
+// normal words of one sign, which is known: no word's own is read
+pub(crate) fn narrow_alike(sign: u64, words: &mut [u64])
+    requires { ⌜ ((k : ℕ) → k < length (now words) → (Inside.normal32 (getD (now words) k 0) ≡ true) × (sign ≡ Inside.signOf (getD (now words) k 0))) ⌝ }
+    ensures { λ r. ⌜ now (words .exit) ≡ mapped narrowed (now (words .entry)) (now (words .entry)) ⌝ }
+{
+    let n = words.len();
+    let mut k = 0;
+    while k < n {
+        words[k] = round_normal(words[k], sign);
+        k += 1;
+    }
+}
+
+fn each_normal(words: &[u64]) -> bool
+    ensures { λ r. ⌜ (r ≡ true → (k : ℕ) → k < length (now (words .entry)) → Inside.normal32 (getD (now (words .entry)) k 0) ≡ true) ⌝ }
+{
+    let n = words.len();
+    let mut all = true;
+    let mut k = 0;
+    while k < n {
+        all = all & is_normal(words[k]);
+        k += 1;
+    }
+    all
+}
+
+// normal words of either sign
+fn narrow_normal(words: &mut [u64])
     requires { ⌜ ((k : ℕ) → k < length (now words) → Inside.normal32 (getD (now words) k 0) ≡ true) ⌝ }
     ensures { λ r. ⌜ now (words .exit) ≡ mapped narrowed (now (words .entry)) (now (words .entry)) ⌝ }
 {
     let n = words.len();
     let mut k = 0;
     while k < n {
-        words[k] = round_normal(words[k]);
+        words[k] = round_signed(words[k]);
         k += 1;
     }
 }
 
-pub(crate) fn narrow_each(words: &mut [u64])
+fn narrow_each(words: &mut [u64])
     ensures { λ r. ⌜ now (words .exit) ≡ mapped narrowed (now (words .entry)) (now (words .entry)) ⌝ }
 {
     let n = words.len();
@@ -90,11 +126,22 @@ pub(crate) fn narrow_each(words: &mut [u64])
     while k < n {
         let word = words[k];
         words[k] = if is_normal(word) {
-            round_normal(word)
+            round_signed(word)
         } else {
             narrow_any(word) as u64
         };
         k += 1;
+    }
+}
+
+// Most words are normal, so a look at all of them first pays: then none is asked again, and the loop can be made wide.
+pub(crate) fn narrow_words(words: &mut [u64])
+    ensures { λ r. ⌜ now (words .exit) ≡ mapped narrowed (now (words .entry)) (now (words .entry)) ⌝ }
+{
+    if each_normal(words) {
+        narrow_normal(&mut words[..]);
+    } else {
+        narrow_each(&mut words[..]);
     }
 }
 

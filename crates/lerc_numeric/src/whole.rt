@@ -13,11 +13,11 @@ pub fn twice_whole(w: u64) -> u64
         return 0;
     }
     let e = exponent(w);
-    // less than 1
+    // twice it is less than 1
     if e < 1021 {
         return 0;
     }
-    // 2^53 or more
+    // twice it is 2^53 or more
     if 1073 < e {
         return 0;
     }

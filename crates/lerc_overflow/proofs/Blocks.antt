@@ -18,12 +18,12 @@ use Rattle.lerc_numeric.proofs.Infinity.{finite-not}
 use Rattle.lerc_samples.specs.Samples.{stored}
 use Rattle.lerc_samples.proofs.Words.{stored-last}
 use Rattle.lerc_bits.specs.Bits.{Counts, counts}
-use Rattle.lerc_block.specs.Block.{Block, Offset, rawWords, levelBlock, stepValue, finiteOffset, flagAt, blockSays, nextBlock}
+use Rattle.lerc_block.specs.Block.{Block, Offset, rawWords, levelBlock, finiteOffset, flagAt, blockSays, nextBlock}
 use Rattle.lerc_overflow.specs.By.{Adding, stepBy, steppedBy, offsetBy, formedBy, blockBy}
 use Rattle.lerc_overflow.specs.Changes.{Operands, operandsAt, Calm, Overflows, BlockChanges}
 use Rattle.lerc_overflow.proofs.OverSum.{step-sum, block-sum}
 use Rattle.lerc_overflow.proofs.Steps.{is-finite, step-same, step-near, step-changed}
-use Rattle.lerc_overflow.proofs.Offsets.{Read, offset-read}
+use Rattle.lerc_overflow.proofs.Offsets.{offset-read}
 
 -- ---- only a block with counts has a sum: what relates two of these relates the blocks
 

@@ -4,43 +4,43 @@ use mathlib.Core.Path.{_≡_, refl, sym, ap, _∙_}
 use mathlib.Core.Logic.{_≢_}
 use mathlib.Core.Bool.{Bool, true, false, not, cond, _&&_}
 use mathlib.Core.List.{List, []}
-use Prim.Native.Nat.{ℕ, _+_, _*_, _/_, _%_, _^_, _≤_, _<_}
+use Prim.Native.Nat.{ℕ, _+_, _*_, _/_, _^_, _≤_, _<_}
 use native.Mathlib.Nat.{zero-add, lt-of-lt-of-le, le-of-eq}
 use native.Mathlib.Decide.{decLt}
 use native.Mathlib.Omega.{arith}
-use lib.Dec.{eqb, ltb, lit<}
+use lib.Dec.{eqb, lit<}
 use lib.ListN.{length, getD, take, length-take}
 use Rattle.lerc_words.specs.declared.Refusal.{Refusal}
-use Rattle.lerc_words.specs.Res.{Res, ok, fail, _>>=_, require, wordAt}
-use Rattle.lerc_words.proofs.Binding.{bind-is, require-is, ok-is, and-is}
+use Rattle.lerc_words.specs.Res.{Res, ok, fail, _>>=_, wordAt}
+use Rattle.lerc_words.proofs.Binding.{bind-is, ok-is, and-is}
 use Rattle.lerc_words.proofs.Tables.{all-each}
-use Rattle.lerc_numeric.specs.Numeric.{negative, finite, infinite, mag, sum, countedSum, scaled, less, lesser}
+use Rattle.lerc_numeric.specs.Numeric.{negative, finite, mag, sum, countedSum, less, lesser}
+use Rattle.lerc_numeric.specs.Steps.{stepOf}
 use Rattle.lerc_samples.specs.Samples.{offsetKind}
-use Rattle.lerc_bits.specs.Bits.{counts}
 use Rattle.lerc_header.specs.declared.Header.{Header}
 use Rattle.lerc_header.specs.Header.{shapeOf, headerSays, errorRight, pairRight, rangesAt}
-use Rattle.lerc_header.specs.Shape.{Shaped, blockCount}
+use Rattle.lerc_header.specs.Shape.{blockCount}
 use Rattle.lerc_header.proofs.Kept.{held-kept, held-shaped, held-size, held-kind, held-pair, header-held}
 use Rattle.lerc_validity.specs.Validity.{MaskInForce, bytesOf, maskSays}
 use Rattle.lerc_ranges.specs.declared.Ranges.{Ranges}
 use Rattle.lerc_ranges.specs.Ranges.{rangesSays, pairsRight, constantWords}
-use Rattle.lerc_ranges.proofs.Judged.{RangesKept, ranges-kept}
+use Rattle.lerc_ranges.proofs.Judged.{ranges-kept}
 use Rattle.lerc_sweep.specs.Sweep.{Way, rawFrom, blocksFrom, swept}
-use Rattle.lerc_block.specs.Block.{Block, rawWords, stepValue, finiteOffset, blockSays}
+use Rattle.lerc_block.specs.Block.{Block, rawWords, blockSays}
 use Rattle.lerc_image.specs.declared.Tile.{Tile}
 use Rattle.lerc_image.specs.Geometry.{tileOf, validInTile, blockOf}
 use Rattle.lerc_image.specs.Paint.{indexOf}
 use Rattle.lerc_image.specs.Blocks.{blockAt, Chain, allBlocks}
 use Rattle.lerc_image.proofs.Partition.{tile-depth}
 use Rattle.lerc_image.proofs.Chain.{chain-lengths}
-use Rattle.lerc.specs.Meaning.{Body, empty, blocks, Meaning, rawBody, blockBody, bodyFrom, constantBody, sweptBody, bodySays, endOf, startsOf, cellWord, meaningFrom, meaning}
+use Rattle.lerc.specs.Meaning.{Body, empty, blocks, Meaning, rawBody, blockBody, bodyFrom, constantBody, sweptBody, bodySays, startsOf, cellWord, meaningFrom, meaning}
 use Rattle.lerc_overflow.specs.By.{Adding, stepBy, blockBy, blockAtBy, allBlocksBy, blockBodyBy, bodyFromBy, sweptBodyBy, bodyBy, meaningFromBy, meaningBy}
-use Rattle.lerc_overflow.specs.Changes.{Stepping, farOffset, Operands, operandsAt, AllCalm, Overflows, bodyOutline, outline, maximumOf, CellChanged, ChangesThere, MeaningChanges}
+use Rattle.lerc_overflow.specs.Changes.{Stepping, farOffset, Operands, AllCalm, Overflows, bodyOutline, outline, maximumOf, CellChanged, ChangesThere, MeaningChanges}
 use Rattle.lerc_overflow.proofs.OverSum.{step-sum, block-sum, block-at-sum, chain-sum}
 use Rattle.lerc_overflow.proofs.Steps.{step-most, step-offset, step-below}
 use Rattle.lerc_overflow.proofs.Offsets.{offset-read}
 use Rattle.lerc_overflow.proofs.Blocks.{operands-stand, FromCount, operands-from, block-word, block-changed, word-is}
-use Rattle.lerc_overflow.proofs.Chains.{Ends, ends, chain-ends, chain-kind, chain-still, at-kind, Differs, chain-word, ByBlock, by-block}
+use Rattle.lerc_overflow.proofs.Chains.{Ends, ends, chain-ends, chain-kind, chain-still, at-kind, Differs, chain-word, by-block}
 
 -- ---- only a body in blocks has a sum: what relates two of these relates the bodies
 
@@ -288,12 +288,12 @@ module _ (b : List ℕ) (h : Header) (e : headerSays b ≡ ok h) (m : List ℕ) 
       word-is s at (h .kind) (h .error) top (t .x) (validInTile (shapeOf h) m t) add w (omega (arith, is-seven)) k i (overflows .operands) (overflows .are)
       ∙ ap (λ (p : ℕ). lesser (add o p) top) (from .product-is)
 
-  new-word : getD (d .differs .new .words) i 0 ≡ stepValue (h .error) top o (from .count)
+  new-word : getD (d .differs .new .words) i 0 ≡ stepOf o (h .error) top (from .count)
   new-word =
       word-by sum (d .differs .new) (block-sum s at (h .kind) (h .error) top (t .x) (validInTile (shapeOf h) m t) ∙ new-is)
       ∙ step-sum (h .error) top o (from .count)
 
-  steps-differ : stepValue (h .error) top o (from .count) ≢ stepBy countedSum (h .error) top o (from .count)
+  steps-differ : stepOf o (h .error) top (from .count) ≢ stepBy countedSum (h .error) top o (from .count)
   steps-differ z = d .differs .differ (word-by countedSum (d .differs .old) old-is ∙ sym z ∙ sym new-word)
 
   far-offset : (negative o ≡ true) × (farOffset ≤ mag o)

@@ -1,32 +1,23 @@
 -- Over `sum` the definitions of `By` are the reader's own.
 -- Assumes nothing.
 use mathlib.Core.Path.{_≡_, refl}
-use mathlib.Core.Bool.{Bool, true, false, cond}
 use mathlib.Core.List.{List}
 use Prim.Native.Nat.{ℕ, zero, suc}
-use lib.ListN.{take}
 use Rattle.lerc_words.specs.Res.{Res, ok, fail, _>>=_}
 use Rattle.lerc_numeric.specs.Numeric.{sum}
+use Rattle.lerc_numeric.specs.Steps.{stepOf}
 use Rattle.lerc_header.specs.declared.Header.{Header}
-use Rattle.lerc_header.specs.Header.{shapeOf, headerSays}
-use Rattle.lerc_header.specs.Shape.{blockCount}
-use Rattle.lerc_validity.specs.Validity.{MaskInForce, bytesOf, maskSays}
-use Rattle.lerc_ranges.specs.declared.Ranges.{Ranges}
-use Rattle.lerc_ranges.specs.Ranges.{rangesSays}
-use Rattle.lerc_sweep.specs.Sweep.{Way, rawFrom, blocksFrom, swept}
-use Rattle.lerc_block.specs.Block.{Block, stepValue, steppedBlock, offsetBlock, formed, blockSays}
-use Rattle.lerc_image.specs.Blocks.{blockAt, Chain, chain, allBlocks}
+use Rattle.lerc_block.specs.Block.{Block, steppedBlock, offsetBlock, formed, blockSays}
+use Rattle.lerc_image.specs.Blocks.{blockAt, chain}
 use Rattle.lerc_image.proofs.Chain.{fronted}
-use Rattle.lerc.specs.Meaning.{Body, constantBody, bodyFrom, blockBody, sweptBody, bodySays, meaningFrom, meaning}
-use Rattle.lerc_overflow.specs.By.{stepBy, steppedBy, offsetBy, formedBy, blockBy, blockAtBy, chainBy, blockBodyBy, bodyFromBy, sweptBodyBy, bodyBy, meaningFromBy, meaningBy}
-use Rattle.lerc_overflow.specs.Changes.{OverSum}
+use Rattle.lerc_overflow.specs.By.{stepBy, steppedBy, offsetBy, formedBy, blockBy, blockAtBy, chainBy}
 
-pub step-sum : (error top offset q : ℕ) → stepBy sum error top offset q ≡ stepValue error top offset q
-unfolding stepBy stepValue
+pub step-sum : (error top offset q : ℕ) → stepBy sum error top offset q ≡ stepOf offset error top q
+unfolding stepBy stepOf
 step-sum error top offset q = refl
 
 pub block-sum : (s : List ℕ) (at kind error top x n : ℕ) → blockBy sum s at kind error top x n ≡ blockSays s at kind error top x n
-unfolding blockBy formedBy offsetBy steppedBy stepBy blockSays formed offsetBlock steppedBlock stepValue
+unfolding blockBy formedBy offsetBy steppedBy stepBy blockSays formed offsetBlock steppedBlock stepOf
 block-sum s at kind error top x n = refl
 
 pub block-at-sum : (s : List ℕ) (h : Header) (maxima m : List ℕ) (n at : ℕ) → blockAtBy sum s h maxima m n at ≡ blockAt s h maxima m n at

@@ -2,23 +2,22 @@
 -- Assumes nothing.
 use mathlib.Core.Path.{_≡_, refl, sym, ap, _∙_}
 use mathlib.Core.Logic.{_≢_}
-use mathlib.Core.Bool.{Bool, true, false, cond, Bool·beq}
-use Prim.Native.Nat.{ℕ, _+_, _-_, _*_, _/_, _%_, _^_, _≤_, _<_}
-use native.Mathlib.Nat.{le-trans}
+use mathlib.Core.Bool.{Bool, true, false, Bool·beq}
+use Prim.Native.Nat.{ℕ, _+_, _-_, _*_, _%_, _^_, _≤_, _<_}
 use native.Mathlib.Decide.{decLt}
 use native.Mathlib.Omega.{arith}
 use borrow.Author.Tests.{ltb-true}
 use lib.Dec.{lit≤}
 use lib.Ieee.{size}
 use Rattle.lerc_numeric.specs.Numeric.{bits64, code, field, finite, infinite, mag, negative, signed, sum, countedSum, scaled, less, lesser}
-use Rattle.lerc_numeric.proofs.Magnitude.{mag-le, bits-le}
-use Rattle.lerc_numeric.proofs.Right.{bits-lt, bits64-mono, negative-signed, rest-signed, mag-signed}
+use Rattle.lerc_numeric.specs.Steps.{stepOf}
+use Rattle.lerc_numeric.proofs.Magnitude.{mag-le}
+use Rattle.lerc_numeric.proofs.Right.{bits-lt, bits64-mono, negative-signed, rest-signed}
 use Rattle.lerc_numeric.proofs.Infinity.{outer, outer-is, finite-not, infinite-mag, finite-mag, outer-bits, outer-less, infinite-own, sum-counted, sum-right, absorbs-not, absorbs-both}
 use Rattle.lerc_numeric.proofs.Sums.{counted-comm, counted-alike, counted-apart}
 use Rattle.lerc_numeric.proofs.Monotone.{up, down, up-most, not-less, less-asym, scaled-sign}
-use Rattle.lerc_block.specs.Block.{stepValue}
 use Rattle.lerc_overflow.specs.By.{stepBy}
-use Rattle.lerc_overflow.specs.Changes.{Stepping, StepChanges, farOffset}
+use Rattle.lerc_overflow.specs.Changes.{Stepping, farOffset}
 
 pub is-finite : (w : ℕ) → finite w ≡ true → field w < 2047
 is-finite w e = ltb-true (field w) 2047 e
@@ -36,8 +35,8 @@ scaled-fits a q = go (negative a)
     go false = omega (arith, bits-lt n)
 
 -- ---- where nothing changes
-pub step-same : (error top offset q : ℕ) → infinite offset ≡ false → infinite (scaled error q) ≡ false → stepValue error top offset q ≡ stepBy countedSum error top offset q
-unfolding stepValue stepBy
+pub step-same : (error top offset q : ℕ) → infinite offset ≡ false → infinite (scaled error q) ≡ false → stepOf offset error top q ≡ stepBy countedSum error top offset q
+unfolding stepOf stepBy
 step-same error top offset q f i = rw (sum-counted offset (scaled error q) (absorbs-not offset (scaled error q) f) (absorbs-not (scaled error q) offset i))
 
 -- signs: one of both, or two
@@ -67,8 +66,8 @@ near-counted a b l i h n = go (negative a) (negative b) refl refl
     go false true e f = two (rw (e, f))
 
 -- so with an offset that near no step changes
-pub step-near : (error top offset q : ℕ) → finite offset ≡ true → mag offset ≤ 2 ^ 2044 → stepValue error top offset q ≡ stepBy countedSum error top offset q
-unfolding stepValue stepBy
+pub step-near : (error top offset q : ℕ) → finite offset ≡ true → mag offset ≤ 2 ^ 2044 → stepOf offset error top q ≡ stepBy countedSum error top offset q
+unfolding stepOf stepBy
 step-near error top offset q f h = go (infinite p) refl
   where
     p : ℕ
@@ -92,8 +91,8 @@ module _ (error top offset q : ℕ) (g : Stepping error top offset) (i : infinit
       let d : down (scaled error q) ≡ 0 = rw (positive) in
       not-less (scaled error q) top (omega (arith, u, d, up-most top, infinite-mag (scaled error q) i, finite-mag top (is-finite top (g .top-finite))))
 
-  pub step-most : stepValue error top offset q ≡ top
-  unfolding stepValue lesser
+  pub step-most : stepOf offset error top q ≡ top
+  unfolding stepOf lesser
   step-most = rw (sum-right offset (scaled error q) (absorbs-both (scaled error q) offset i (is-finite offset (g .offset-finite))), not-below)
 
   counted-top : less (countedSum offset (scaled error q)) top ≡ false → stepBy countedSum error top offset q ≡ top
@@ -104,10 +103,10 @@ module _ (error top offset q : ℕ) (g : Stepping error top offset) (i : infinit
   unfolding stepBy lesser
   counted-below e = rw (e)
 
-  pub step-kept : less (countedSum offset (scaled error q)) top ≡ false → stepValue error top offset q ≡ stepBy countedSum error top offset q
+  pub step-kept : less (countedSum offset (scaled error q)) top ≡ false → stepOf offset error top q ≡ stepBy countedSum error top offset q
   step-kept e = step-most ∙ sym (counted-top e)
 
-  pub step-changed : less (countedSum offset (scaled error q)) top ≡ true → stepValue error top offset q ≢ stepBy countedSum error top offset q
+  pub step-changed : less (countedSum offset (scaled error q)) top ≡ true → stepOf offset error top q ≢ stepBy countedSum error top offset q
   step-changed e x =
       let y : top ≡ countedSum offset (scaled error q) = sym step-most ∙ x ∙ counted-below e in
       let l : less top top ≡ true = rw (← y) at e in
@@ -155,7 +154,7 @@ module _ (error top offset q : ℕ) (g : Stepping error top offset) (i : infinit
       under x k o b c = omega arith
 
 -- ---- so a step changes only with an offset of -3·2^970 or less
-pub step-offset : (error top offset q : ℕ) → Stepping error top offset → stepValue error top offset q ≢ stepBy countedSum error top offset q → (negative offset ≡ true) × (farOffset ≤ mag offset)
+pub step-offset : (error top offset q : ℕ) → Stepping error top offset → stepOf offset error top q ≢ stepBy countedSum error top offset q → (negative offset ≡ true) × (farOffset ≤ mag offset)
 step-offset error top offset q g d = go (infinite (scaled error q)) refl (negative offset) refl (decLt (mag offset) farOffset)
   where
     go : (t : Bool) → infinite (scaled error q) ≡ t → (s : Bool) → negative offset ≡ s → Dec (mag offset < farOffset) → (negative offset ≡ true) × (farOffset ≤ mag offset)
@@ -168,7 +167,7 @@ step-offset error top offset q g d = go (infinite (scaled error q)) refl (negati
         not-lt-le x k n = omega arith
 
 -- with that offset and 2^1024 below the maximum
-pub step-below : (error top offset q : ℕ) → Stepping error top offset → infinite (scaled error q) ≡ true → stepValue error top offset q ≢ stepBy countedSum error top offset q → less (countedSum offset (scaled error q)) top ≡ true
+pub step-below : (error top offset q : ℕ) → Stepping error top offset → infinite (scaled error q) ≡ true → stepOf offset error top q ≢ stepBy countedSum error top offset q → less (countedSum offset (scaled error q)) top ≡ true
 step-below error top offset q g i d = go (less (countedSum offset (scaled error q)) top) refl
   where
     go : (t : Bool) → less (countedSum offset (scaled error q)) top ≡ t → t ≡ true

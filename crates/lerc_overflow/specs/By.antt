@@ -28,7 +28,7 @@ Adding = ℕ → ℕ → ℕ
 
 -- ---- a block
 
--- `stepValue`
+-- `stepOf`
 unfoldable pub stepBy : Adding → ℕ → ℕ → ℕ → ℕ → ℕ
 stepBy add error top offset q = lesser (add offset (scaled error q)) top
 

@@ -11,6 +11,7 @@ use lib.Dec.{ltb, eqb}
 use Rattle.lerc_words.specs.Res.{Res, ok, _>>=_, require, wordAt}
 use Rattle.lerc_numeric.specs.Numeric.{negative, finite, infinite, mag, sum, countedSum, scaled, less, lesser}
 use Rattle.lerc_numeric.specs.Kinds.{valueOf}
+use Rattle.lerc_numeric.specs.Steps.{stepOf}
 use Rattle.lerc_samples.specs.Samples.{offsetKind}
 use Rattle.lerc_bits.specs.Bits.{counts}
 use Rattle.lerc_header.specs.declared.Header.{Header}
@@ -18,7 +19,7 @@ use Rattle.lerc_header.specs.Header.{shapeOf, headerSays}
 use Rattle.lerc_validity.specs.Validity.{bytesOf}
 use Rattle.lerc_ranges.specs.declared.Ranges.{Ranges}
 use Rattle.lerc_ranges.specs.Ranges.{rangesSays}
-use Rattle.lerc_block.specs.Block.{Block, stepValue, finiteOffset, blockSays, nextBlock}
+use Rattle.lerc_block.specs.Block.{Block, finiteOffset, blockSays, nextBlock}
 use Rattle.lerc_image.specs.Geometry.{tileOf, blockOf}
 use Rattle.lerc_image.specs.Paint.{indexOf}
 use Rattle.lerc_image.specs.Blocks.{chain}
@@ -28,7 +29,7 @@ use Rattle.lerc_overflow.specs.By.{stepBy, blockBy, chainBy, meaningBy}
 -- ---- over `sum` they are the reader's own definitions
 
 pub record OverSum : Type 0 where
-  pub step-sum : (error top offset q : ℕ) → stepBy sum error top offset q ≡ stepValue error top offset q
+  pub step-sum : (error top offset q : ℕ) → stepBy sum error top offset q ≡ stepOf offset error top q
   pub block-sum : (s : List ℕ) (at kind error top x n : ℕ) → blockBy sum s at kind error top x n ≡ blockSays s at kind error top x n
   pub chain-sum : (s : List ℕ) (h : Header) (maxima m : List ℕ) (f n at : ℕ) → chainBy sum s h maxima m f n at ≡ chain s h maxima m f n at
   pub meaning-sum : (b : List ℕ) (reuse : Bool) (old : List ℕ) → meaningBy sum b reuse old ≡ meaning b reuse old
@@ -46,16 +47,16 @@ farOffset = 3 * 2 ^ (970 + 1074)
 
 pub record StepChanges : Type 0 where
   -- it changes only where the product is infinite, the offset being none
-  pub step-same : (error top offset q : ℕ) → infinite offset ≡ false → infinite (scaled error q) ≡ false → stepValue error top offset q ≡ stepBy countedSum error top offset q
+  pub step-same : (error top offset q : ℕ) → infinite offset ≡ false → infinite (scaled error q) ≡ false → stepOf offset error top q ≡ stepBy countedSum error top offset q
   -- "Lerc2 gives infinity, and the clamp gives the maximum"
-  pub step-most : (error top offset q : ℕ) → Stepping error top offset → infinite (scaled error q) ≡ true → stepValue error top offset q ≡ top
+  pub step-most : (error top offset q : ℕ) → Stepping error top offset → infinite (scaled error q) ≡ true → stepOf offset error top q ≡ top
   -- then it changes exactly where the offset and 2^1024 add to less than the maximum
   pub step-changed : (error top offset q : ℕ) → Stepping error top offset → infinite (scaled error q) ≡ true → less (countedSum offset (scaled error q)) top ≡ true
-      → stepValue error top offset q ≢ stepBy countedSum error top offset q
+      → stepOf offset error top q ≢ stepBy countedSum error top offset q
   pub step-kept : (error top offset q : ℕ) → Stepping error top offset → infinite (scaled error q) ≡ true → less (countedSum offset (scaled error q)) top ≡ false
-      → stepValue error top offset q ≡ stepBy countedSum error top offset q
+      → stepOf offset error top q ≡ stepBy countedSum error top offset q
   -- for which the offset is -3·2^970 or less
-  pub step-offset : (error top offset q : ℕ) → Stepping error top offset → stepValue error top offset q ≢ stepBy countedSum error top offset q → (negative offset ≡ true) × (farOffset ≤ mag offset)
+  pub step-offset : (error top offset q : ℕ) → Stepping error top offset → stepOf offset error top q ≢ stepBy countedSum error top offset q → (negative offset ≡ true) × (farOffset ≤ mag offset)
   -- and so was read as a binary64: a finite number of another kind is nearer
   pub offset-near : (k w : ℕ) → k < 7 → finite (valueOf k w) ≡ true → mag (valueOf k w) < farOffset
 

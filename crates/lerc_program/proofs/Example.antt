@@ -8,6 +8,7 @@ use Rattle.lerc_words.specs.Res.{wordAt, little, each}
 use Rattle.lerc_words.specs.Lists.{from, count, allTo}
 use Rattle.lerc_numeric.specs.Numeric.{mag, code, sum, countedSum, scaled, less, same, lesser}
 use Rattle.lerc_numeric.specs.Kinds.{integer, valueOf, whole, cut}
+use Rattle.lerc_numeric.specs.Steps.{stepOf}
 use Rattle.lerc_samples.specs.Samples.{sampleAt, stored, offsetKinds, offsetKind}
 use Rattle.lerc_bits.specs.Bits.{tabled, plan, chosen, lookedUp, valuesOf, unpacked, counts}
 use Rattle.lerc_bits.specs.Bits as bits
@@ -16,7 +17,7 @@ use Rattle.lerc_header.specs.Shape.{strips}
 use Rattle.lerc_header.specs.Header.{errorRight, pairRight, fieldsRight, withinCeilings, held, keyRight, headerOf, headerSays}
 use Rattle.lerc_validity.specs.Validity.{uniform, kept, unrolled, maskSays}
 use Rattle.lerc_ranges.specs.Ranges.{uniformRanges, numberAt, byDepth, codedRanges, pairsRight, rangesSays, constantWords}
-use Rattle.lerc_block.specs.Block.{rawWords, levelBlock, stepValue, steppedBlock, offsetAt, finiteOffset, offsetBlock, formed, flagAt, blockSays}
+use Rattle.lerc_block.specs.Block.{rawWords, levelBlock, steppedBlock, offsetAt, finiteOffset, offsetBlock, formed, flagAt, blockSays}
 use Rattle.lerc_image.specs.Geometry.{tileOf, pixelOf, blockOf, placeIn, rank}
 use Rattle.lerc_image.specs.Paint.{indexOf}
 use Rattle.lerc_sweep.specs.Sweep.{modeAt, moded, swept}
@@ -50,6 +51,6 @@ pub computed : Computed
 unfolding wordAt little each from count allTo mag code sum countedSum scaled less same lesser integer valueOf whole cut sampleAt stored offsetKinds offsetKind
     counts plan tabled unpacked valuesOf lookedUp bits.digits chosen pixelValid copyAt repeatAt endAt signedAt stepAt runs coded strips errorRight pairRight fieldsRight withinCeilings
     held keyRight headerOf headerSays uniform kept unrolled maskSays uniformRanges numberAt byDepth codedRanges pairsRight rangesSays constantWords rawWords
-    levelBlock stepValue steppedBlock offsetAt finiteOffset offsetBlock formed flagAt blockSays tileOf pixelOf blockOf placeIn rank indexOf blockAt chain modeAt moded
+    levelBlock stepOf steppedBlock offsetAt finiteOffset offsetBlock formed flagAt blockSays tileOf pixelOf blockOf placeIn rank indexOf blockAt chain modeAt moded
     swept rawBody blockBody sweptBody constantBody bodySays cellWord meaningFrom meaning size span climb digits line shapeLine cellLine cellLines programSays imageText
 computed = record { rules = refl; invalid = refl; refused = refl }

@@ -17,11 +17,12 @@ use Rattle.lerc_words.proofs.Little.{wordAt-fails, wordAt-no}
 use Rattle.lerc_words.proofs.Each.{each-replicate-fails}
 use Rattle.lerc_numeric.specs.Numeric.{finite, negative}
 use Rattle.lerc_numeric.specs.Kinds.{typeSize, valueOf, whole, bound, cut}
+use Rattle.lerc_numeric.specs.Steps.{stepOf}
 use Rattle.lerc_samples.specs.Samples.{sampleAt, stored, noKind, offsetKinds, offsetKind}
 use Rattle.lerc_bits.specs.declared.Plan.{Plan}
 use Rattle.lerc_bits.specs.Bits.{countBytes, plainPlan, tablePlan, fits, tabled, plan, run, allBelow, lookedUp, valuesOf, unpacked, keeps, countsBy, counts}
 use Rattle.lerc_ranges.specs.Ranges.{constantWords}
-use Rattle.lerc_block.specs.Block.{Block, tileLimit, stepValue, rawWords, levelBlock, steppedBlock, offsetAt, finiteOffset, offsetBlock, formed, flagAt, blockSays, readBlockSays}
+use Rattle.lerc_block.specs.Block.{Block, tileLimit, rawWords, levelBlock, steppedBlock, offsetAt, finiteOffset, offsetBlock, formed, flagAt, blockSays, readBlockSays}
 use Rattle.lerc_block.specs.Plan.{rawPlan, finiteWord, steppedPlan, offsetPlan, formPlan, planAt, planSays}
 use Rattle.lerc_block.proofs.Returns.{offset-is, finite-is, flag-is}
 use Rattle.lerc_theorems.specs.BlockTable.{WordRefused, word-wide, word-cut, SampleRefused, sample-cut, StoredRefused, not-finite, out-of-range, IntegerRefused, no-integer, not-stored, KindRefused, no-kind, ConstantsRefused, not-constant, TabledRefused, no-bits, entries-cut, entries-few, table-cut, PackedRefused, plain-cut, not-tabled, PlanRefused, counts-cut, width-wrong, count-cut, count-large, packed-refused, CountsRefused, not-planned, index-large, LevelsRefused, level-refused, counts-refused, miscounted-block, value-refused, OffsetRefused, kind-refused, offset-cut, offset-not-finite, levels-refused, BlockRefused, flag-cut, check-wrong, raw-cut, offset-refused, ReadBlockRefused, tile-large, not-read, PlannedRefused, plan-loose, planned-index, OffsetPlanRefused, plan-kind, plan-offset-cut, plan-not-finite, plan-counts, BlockPlanRefused, plan-tile-large, plan-flag-cut, plan-check-wrong, plan-raw-cut, plan-offset}
@@ -282,8 +283,8 @@ module _ (s : List ℕ) (kind error top : ℕ) where
       reading P (counts s at) _ e (λ d. counts-refused z (counts-at s at d)) (λ c d e.
       demand P (eqb (length (c .values)) n) 8 _ e (λ u. miscounted-block c z d (eqb-false _ _ u)) (λ u e.
       let k = eqb-true (length (c .values)) n u in
-      let (i, l, p) = each-refused (λ q. stored kind (stepValue error top offset q)) (c .values) (bind-fail (each (λ q. stored kind (stepValue error top offset q)) (c .values)) _ e) in
-      value-refused c i z d k (rw (k) at l) (stored-refused kind (stepValue error top offset (getD (c .values) i 0)) p))))
+      let (i, l, p) = each-refused (λ q. stored kind (stepOf offset error top q)) (c .values) (bind-fail (each (λ q. stored kind (stepOf offset error top q)) (c .values)) _ e) in
+      value-refused c i z d k (rw (k) at l) (stored-refused kind (stepOf offset error top (getD (c .values) i 0)) p))))
 
   at-levels : {j : Refusal} {at offset flag n : ℕ} → LevelsRefused s at kind error top offset flag n j → levelsAt at offset flag n ≡ fail j
   unfolding levelBlock steppedBlock
@@ -291,11 +292,11 @@ module _ (s : List ℕ) (kind error top : ℕ) where
   at-levels (counts-refused z r) = rw (ne-eqb _ _ z, at-counts s r)
   at-levels (miscounted-block c z d k) = rw (ne-eqb _ _ z, d, ne-eqb _ _ k)
   at-levels {offset = offset} (value-refused c i z d k l r) =
-      let f : ℕ → Res ℕ = λ q. stored kind (stepValue error top offset q) in
-      let v = stepValue error top offset (getD (c .values) i 0) in
+      let f : ℕ → Res ℕ = λ q. stored kind (stepOf offset error top q) in
+      let v = stepOf offset error top (getD (c .values) i 0) in
       let n = nine-is kind v r in
       let x : stored kind v ≡ fail (refuse 9) = rw (n) at (refused-stored kind v r) in
-      let y : each f (c .values) ≡ fail (refuse 9) = refused-each f (c .values) 9 i (λ q. stored-nine kind (stepValue error top offset q)) (rw (k) l) x in
+      let y : each f (c .values) ≡ fail (refuse 9) = refused-each f (c .values) 9 i (λ q. stored-nine kind (stepOf offset error top q)) (rw (k) l) x in
       rw (n, ne-eqb _ _ z, d, eq-eqb _ _ k, y)
 
   offset-at : {j : Refusal} (at flag n : ℕ) → offsetBlock s at kind error top flag n ≡ fail j → OffsetRefused s at kind error top flag n j

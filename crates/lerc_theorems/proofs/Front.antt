@@ -17,11 +17,12 @@ use Rattle.lerc_words.proofs.Little.{Stays, little-same, wordAt-is, wordAt-ok}
 use Rattle.lerc_words.proofs.Tables.{tabulate-same}
 use Rattle.lerc_numeric.specs.Numeric.{same}
 use Rattle.lerc_numeric.specs.Kinds.{typeSize, valueOf}
+use Rattle.lerc_numeric.specs.Steps.{stepOf}
 use Rattle.lerc_samples.specs.Samples.{sampleAt, stored}
 use Rattle.lerc_bits.specs.Bits.{Counts, counts}
 use Rattle.lerc_bits.proofs.Values.{counts-ends}
 use Rattle.lerc_bits.proofs.Local.{counts-stays}
-use Rattle.lerc_block.specs.Block.{Block, Offset, rawWords, levelBlock, stepValue, steppedBlock, offsetAt, finiteOffset, offsetBlock, formed, flagAt, blockSays}
+use Rattle.lerc_block.specs.Block.{Block, Offset, rawWords, levelBlock, steppedBlock, offsetAt, finiteOffset, offsetBlock, formed, flagAt, blockSays}
 use Rattle.lerc_block.proofs.Returns.{offset-is, finite-is, flag-is}
 use Rattle.lerc_block.proofs.Accepted.{block-ends}
 use Rattle.lerc_header.specs.declared.Header.{Header}
@@ -108,7 +109,7 @@ module _ {s t : List ℕ} {j k : ℕ} (a : Agree s t j k) where
     stepped-agrees at offset o e =
         let (c, p, e) = bind-is (counts s at) _ e in
         let (_, q, e) = bind-is (require (eqb (length (c .values)) n) 8) _ e in
-        let (ws, r, e) = bind-is (each (λ q. stored kind (stepValue error top offset q)) (c .values)) _ e in
+        let (ws, r, e) = bind-is (each (λ q. stored kind (stepOf offset error top q)) (c .values)) _ e in
         let z : c .next ≡ b .next = ap (λ (x : Block). x .next) (ok-is e) in
         let d = counts-ends s at p in
         (omega (arith, d .0, z), rw (counts-agrees at c p o (omega (arith, z)), require-is (eqb (length (c .values)) n) 8 q, r) e)

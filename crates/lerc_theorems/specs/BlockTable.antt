@@ -11,10 +11,11 @@ use Rattle.lerc_words.specs.declared.Refusal.{Refusal}
 use Rattle.lerc_words.specs.Res.{ok, refuse, wordAt}
 use Rattle.lerc_numeric.specs.Numeric.{negative, finite}
 use Rattle.lerc_numeric.specs.Kinds.{typeSize, valueOf, whole, bound}
+use Rattle.lerc_numeric.specs.Steps.{stepOf}
 use Rattle.lerc_samples.specs.Samples.{noKind, offsetKinds, offsetKind, sampleAt}
 use Rattle.lerc_bits.specs.declared.Plan.{Plan}
 use Rattle.lerc_bits.specs.Bits.{countBytes, plainPlan, tablePlan, plan, run, allBelow, keeps, Counts, counts}
-use Rattle.lerc_block.specs.Block.{tileLimit, stepValue}
+use Rattle.lerc_block.specs.Block.{tileLimit}
 
 -- ---- words and values
 
@@ -89,7 +90,7 @@ pub data LevelsRefused (s : List ℕ) (at kind error top offset flag n : ℕ) : 
   -- "Counts must number the tile's valid pixels, else 8, before any value is converted."
   miscounted-block : (c : Counts) → flag % 4 ≢ 3 → counts s at ≡ ok c → length (c .values) ≢ n → LevelsRefused s at kind error top offset flag n (refuse 8)
   value-refused : {j : Refusal} (c : Counts) (i : ℕ) → flag % 4 ≢ 3 → counts s at ≡ ok c → length (c .values) ≡ n → i < n
-      → StoredRefused kind (stepValue error top offset (getD (c .values) i 0)) j → LevelsRefused s at kind error top offset flag n j
+      → StoredRefused kind (stepOf offset error top (getD (c .values) i 0)) j → LevelsRefused s at kind error top offset flag n j
 
 -- the offset, of the kind that the table names; "A non-finite offset is 8."
 pub data OffsetRefused (s : List ℕ) (at kind error top flag n : ℕ) : Refusal → Type 0 where

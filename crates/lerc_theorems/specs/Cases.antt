@@ -10,9 +10,9 @@ use Rattle.lerc_words.specs.Res.{Res, ok, fail, _>>=_, refuse, wordAt, little}
 use Rattle.lerc_words.specs.Lists.{from, allTo}
 use Rattle.lerc_numeric.specs.Numeric.{mag, code, sum, countedSum, scaled, less, lesser}
 use Rattle.lerc_numeric.specs.Kinds.{narrowed, whole, cut}
+use Rattle.lerc_numeric.specs.Steps.{stepOf}
 use Rattle.lerc_samples.specs.Samples.{stored}
 use Rattle.lerc_bits.specs.Bits.{tabled, plan, digits, chosen, lookedUp, valuesOf, unpacked, counts}
-use Rattle.lerc_block.specs.Block.{stepValue}
 use Rattle.lerc_mask.specs.Mask.{pixelValid, copyAt, repeatAt, endAt, signedAt, stepAt, runs, maskRuns}
 
 -- what a case shows: numbers, or a refusal
@@ -78,12 +78,12 @@ abbrev pub infinityTable : List Case
 infinityTable =
     record { got = word (scaled 0x7E70000000000000 (2 ^ 30)); want = word 0x7FF0000000000000 }
     ∷ record { got = word (sum 0xFFE0000000000000 (scaled 0x7E70000000000000 (2 ^ 30))); want = word 0x7FF0000000000000 }
-    ∷ record { got = word (stepValue 0x7E70000000000000 0x7FE8000000000000 0xFFE0000000000000 (2 ^ 30)); want = word 0x7FE8000000000000 }
+    ∷ record { got = word (stepOf 0xFFE0000000000000 0x7E70000000000000 0x7FE8000000000000 (2 ^ 30)); want = word 0x7FE8000000000000 }
     ∷ record { got = word (countedSum 0xFFE0000000000000 (scaled 0x7E70000000000000 (2 ^ 30))); want = word 0x7FE0000000000000 }
     ∷ record { got = word (sum 0x7FF0000000000000 0x7FF0000000000000); want = word 0x7FF0000000000000 }
     ∷ record { got = word (sum 0x7FF0000000000000 0xFFF0000000000000); want = word 0 }
     ∷ (withInfinity 0x7FF0000000000000 ++ withInfinity 0xFFF0000000000000)
 
 pub infinities : map (λ (c : Case). c .got) infinityTable ≡ map (λ (c : Case). c .want) infinityTable
-unfolding size span climb sum countedSum scaled less lesser stepValue mag code
+unfolding size span climb sum countedSum scaled less lesser stepOf mag code
 infinities = refl

@@ -10,6 +10,7 @@ use Rattle.lerc_words.specs.Res.{Res, ok, fail, _>>=_, refuse, wordAt, little, 
 use Rattle.lerc_words.specs.Lists.{from, count, allTo}
 use Rattle.lerc_numeric.specs.Numeric.{mag, code, sum, countedSum, scaled, less, same, lesser}
 use Rattle.lerc_numeric.specs.Kinds.{integer, valueOf, whole, cut}
+use Rattle.lerc_numeric.specs.Steps.{stepOf}
 use Rattle.lerc_samples.specs.Samples.{sampleAt, stored, offsetKinds, offsetKind}
 use Rattle.lerc_bits.specs.Bits.{tabled, plan, digits, chosen, lookedUp, valuesOf, unpacked, counts}
 use Rattle.lerc_bits.specs.Packing.{bytesOf as bytes}
@@ -18,7 +19,7 @@ use Rattle.lerc_header.specs.Shape.{strips}
 use Rattle.lerc_header.specs.Header.{errorRight, pairRight, fieldsRight, withinCeilings, held, keyRight, headerOf, headerSays}
 use Rattle.lerc_validity.specs.Validity.{uniform, kept, unrolled, maskSays}
 use Rattle.lerc_ranges.specs.Ranges.{uniformRanges, numberAt, byDepth, codedRanges, pairsRight, rangesSays, readRangesSays, constantWords}
-use Rattle.lerc_block.specs.Block.{rawWords, levelBlock, stepValue, steppedBlock, offsetAt, finiteOffset, offsetBlock, formed, flagAt, blockSays}
+use Rattle.lerc_block.specs.Block.{rawWords, levelBlock, steppedBlock, offsetAt, finiteOffset, offsetBlock, formed, flagAt, blockSays}
 use Rattle.lerc_image.specs.Geometry.{tileOf, pixelOf, blockOf, placeIn, rank, isValidCell}
 use Rattle.lerc_image.specs.Paint.{painted, indexOf}
 use Rattle.lerc_sweep.specs.Sweep.{modeAt, moded, swept}
@@ -181,7 +182,7 @@ pub witnesses :
 unfolding wordAt little each from count allTo mag code sum countedSum scaled less same lesser integer valueOf whole cut sampleAt stored offsetKinds offsetKind
     bytes counts plan tabled unpacked valuesOf lookedUp digits chosen pixelValid copyAt repeatAt endAt signedAt stepAt runs coded strips errorRight pairRight fieldsRight withinCeilings
     held keyRight headerOf headerSays uniform kept unrolled maskSays uniformRanges numberAt byDepth codedRanges pairsRight rangesSays constantWords rawWords
-    levelBlock stepValue steppedBlock offsetAt finiteOffset offsetBlock formed flagAt blockSays tileOf pixelOf blockOf placeIn rank isValidCell painted indexOf blockAt chain modeAt moded
+    levelBlock stepOf steppedBlock offsetAt finiteOffset offsetBlock formed flagAt blockSays tileOf pixelOf blockOf placeIn rank isValidCell painted indexOf blockAt chain modeAt moded
     swept rawBody blockBody sweptBody constantBody bodySays cellWord meaningFrom room masked readSays published refusedAfter size span climb readRangesSays fillSays
 witnesses = (refl, refl)
 

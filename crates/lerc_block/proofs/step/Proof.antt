@@ -1,10 +1,10 @@
 use borrow.Author.Needs.{needs}
-use Rattle.lerc_block.specs.Block.{stepValue}
+use Rattle.lerc_numeric.specs.Steps.{stepOf}
 use Rattle.lerc_block.proofs.step.Statement.{statement}
 use Rattle.lerc_block.proofs.step.Tie as tie
 
 returns : tie.Need-returns
-unfolding stepValue
+unfolding stepOf
 returns c = rw (c .stored .ensures, c .before .step .ensures)
 
 pub step-spec : {M : Type 1} → statement M

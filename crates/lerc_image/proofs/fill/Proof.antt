@@ -20,13 +20,13 @@ kept : (c : tie.After-held2) →
 kept c = sym (c .before .before .held .ensures) ∙ ap heldSaid (c .held2 .given .1)
 
 passed : (c : tie.Else2) →
-    let k = c .before .before .before .before .before .before .before in
+    let k = c .before .before .before .before .before in
     let a = k .before .before .before .before .before .before .before .args in
     Passed (now (a .blob)) (a .h) (now (a .mask)) (now (a .list)) (a .number) (now (a .image)) (k .held2 .given .0 .0)
 passed c =
     record {
-      ready = record { kept = kept (c .before .before .before .before .before .before .before); room = not-false _ (c .if2 .left) };
-      below = c .before .before .before .before .if1 .left;
+      ready = record { kept = kept (c .before .before .before .before .before); room = sym (c .before .has-room .ensures) ∙ not-false _ (c .if2 .left) };
+      below = c .before .before .if1 .left;
     }
 
 returns : tie.Need-returns
@@ -39,7 +39,7 @@ returns-2 : tie.Need-returns-2
 returns-2 c = no-block (kept (c .before .before .before)) (omega (arith, c .if1 .taken))
 
 returns-3 : tie.Need-returns-3
-returns-3 c = no-room (kept (c .before .before .before .before .before .before .before)) (c .before .before .before .before .if1 .left) (not-true _ (c .if2 .taken))
+returns-3 c = no-room (kept (c .before .before .before .before .before)) (c .before .before .if1 .left) (sym (c .before .has-room .ensures) ∙ not-true _ (c .if2 .taken))
 
 returns-4 : tie.Need-returns-4
 returns-4 c =
@@ -65,6 +65,7 @@ fill-spec =
     (λ c κs. search needs)
     returns
     returns-2
+    (λ c κs. search needs)
     returns-3
     (λ c κs. search needs)
     (λ c. search needs)

@@ -24,7 +24,7 @@ current-requires c κs =
     (a .body .shaped, number-within a (c .of .ensures))
 
 -- the block and its tile
-tile : (c : tie.After-current) → let a = c .before .before .before .before .before .before .before .before .before .args in BlockTile (a .h) (a .e .shape) (a .number) (c .current .result)
+tile : (c : tie.After-current) → let a = c .before .before .before .before .before .before .before .before .before .args in BlockTile (a .h) (a .e .shape) (a .n) (c .current .result)
 tile c =
     let o = c .before in
     number-tile (o .before .before .before .before .before .before .before .before .pre) (o .of .ensures) (c .current .ensures)

@@ -3,11 +3,12 @@ use Prim.Native.Nat.{_+_, _-_, _*_, _%_, _^_, _≤_}
 use mathlib.Core.Path.{_∙_}
 use native.Mathlib.Omega.{arith}
 use denote.Ref.{now}
+use lib.Bits.{and-le-r}
 use lib.ListN.{length, getD}
 use lib.Pow.{pow-pos}
 use Rattle.lerc_words.proofs.Tables.{table-over}
 use Rattle.lerc_words.proofs.Filling.{Filling, filling-none, filling-length, filling-more, filling-done}
-use Rattle.lerc_block.proofs.WholeWords.{low-is, product-fits, lowest}
+use Rattle.lerc_block.proofs.WholeWords.{low-is, product-fits, lowest-sum}
 use Rattle.lerc_block.proofs.whole.whole_free.Statement.{statement}
 use Rattle.lerc_block.proofs.whole.whole_free.Tie as tie
 
@@ -34,7 +35,10 @@ mul-out : tie.Need-mul-out Inv-loop μ-loop
 mul-out c = omega (arith, small c)
 
 add-out : tie.Need-add-out Inv-loop μ-loop
-add-out c = omega (arith, small c, c .before .before .before .pre .1)
+add-out c =
+    let l = c .before .before in
+    let a = l .before .args in
+    omega (arith, and-le-r (a .step * getD (now (a .counts)) (l .loop .k) 0) (2 ^ 32 - 1), l .before .pre .1)
 
 slice-write-out : tie.Need-slice-write-out Inv-loop μ-loop
 slice-write-out c = let l = c .before .before in omega (arith, filling-length (l .loop .inv), l .before .pre .0, c .before .loop-test .taken)
@@ -42,7 +46,7 @@ slice-write-out c = let l = c .before .before in omega (arith, filling-length (l
 loop-again : tie.Need-loop-again Inv-loop μ-loop
 loop-again c =
     let l = c .before .before in
-    filling-more (l .loop .inv) _ (c .before .loop-test .taken) (lowest (l .before .args .size) _ (l .before .pre .3))
+    filling-more (l .loop .inv) _ (c .before .loop-test .taken) (lowest-sum (l .before .args .size) _ _ (l .before .pre .3))
 
 same-length : tie.Need-same-length Inv-loop μ-loop
 same-length c = filling-length (c .before .loop .inv)

@@ -1,14 +1,13 @@
 -- `decode_tiles`: each test's refusal, then the blocks.
 -- Assumes nothing.
 use mathlib.Core.Path.{_≡_, _∙_, sym, ap}
-use mathlib.Core.Bool.{false, _&&_}
+use mathlib.Core.Bool.{false}
 use mathlib.Core.List.{List}
 use Prim.Native.Nat.{ℕ}
 use native.Mathlib.Omega.{arith}
 use borrow.Author.Tests.{not-true, not-false}
 use denote.Ref.{now}
 use lib.ListN.{length, take, length-take}
-use lib.Dec.{leb}
 use Rattle.lerc_words.specs.Res.{ok, refuse}
 use Rattle.lerc_header.specs.declared.Header.{Header}
 use Rattle.lerc_header.specs.declared.Extent.{Extent}
@@ -18,6 +17,7 @@ use Rattle.lerc_image.specs.declared.WalkAnswer.{WalkAnswer}
 use Rattle.lerc_image.specs.declared.WalkAnswer.the-variants as answer
 use Rattle.lerc_image.specs.Blocks.{allBlocks}
 use Rattle.lerc_image.specs.Tiles.{Tiled, tilesSays}
+use Rattle.lerc_image.specs.Parts.{hasRoom}
 use Rattle.lerc_image.proofs.Held.{Fillable, fillable-listable, fillable-room, listable-asked, listable-size, listable-room}
 use Rattle.lerc_image.proofs.Stages.{tiled-refused}
 use borrow.Author.Needs.{needs}
@@ -25,7 +25,7 @@ use Rattle.lerc_image.proofs.decode.decode_tiles.Statement.{statement}
 use Rattle.lerc_image.proofs.decode.decode_tiles.Tie as tie
 
 no-room : (b : List ℕ) (h : Header) (m maxima : List ℕ) (at : ℕ) (list image : List ℕ) {e : Extent} → held h (length b) ≡ ok e
-    → (leb (e .mask) (length m) && leb (e .blocks) (length list) && leb (e .cells) (length image)) ≡ false
+    → hasRoom e (length m) (length list) (length image) ≡ false
     → Tiled (tilesSays b h m maxima at (length list) (length image)) h m (answer.Refused (refuse 5)) list list image image
 unfolding tilesSays
 no-room b h m maxima at list image p r = tiled-refused (rw (p, r))
@@ -43,10 +43,10 @@ kept : (c : tie.After-held2) →
 kept c = sym (c .before .before .held .ensures) ∙ ap heldSaid (c .held2 .given .1)
 
 ready : (c : tie.Else1) →
-    let k = c .before .before .before .before .before in
+    let k = c .before .before .before in
     let a = k .before .before .before .before .before .before .before .args in
     Fillable (now (a .blob)) (a .h) (now (a .mask)) (now (a .list)) (now (a .image)) (k .held2 .given .0 .0)
-ready c = record { kept = kept (c .before .before .before .before .before); room = not-false _ (c .if1 .left) }
+ready c = record { kept = kept (c .before .before .before); room = sym (c .before .has-room .ensures) ∙ not-false _ (c .if1 .left) }
 
 returns : tie.Need-returns
 unfolding tilesSays
@@ -55,7 +55,7 @@ returns c =
     rw (c .refusal .ensures ∙ ap refusalOfHeld told) (tiled-refused (rw (sym (c .before .before .before .held .ensures) ∙ ap heldSaid told)))
 
 returns-2 : tie.Need-returns-2
-returns-2 c = no-room _ _ _ _ _ _ _ (kept (c .before .before .before .before .before)) (not-true _ (c .if1 .taken))
+returns-2 c = no-room _ _ _ _ _ _ _ (kept (c .before .before .before)) (sym (c .before .has-room .ensures) ∙ not-true _ (c .if1 .taken))
 
 slice-aggregate-decode-blocks : tie.Need-slice-aggregate-decode-blocks
 slice-aggregate-decode-blocks c = let l = listable-size (fillable-listable (ready (c .before))) in simp length-take (omega (arith, l))
@@ -78,6 +78,7 @@ decode-tiles-spec =
     (λ c. search needs)
     (λ c κs. search needs)
     returns
+    (λ c κs. search needs)
     returns-2
     slice-aggregate-decode-blocks
     decode-blocks-requires

@@ -20,13 +20,13 @@ abbrev μ-loop : tie.MeasureT-loop
 -- block n and its tile
 tile : (c : tie.After-current Inv-loop μ-loop) →
     let l = c .before .before .before in
-    let a = l .before .before .before .before .before .before .before .before .args in
+    let a = l .before .before .before .before .before .before .before .before .before .args in
     BlockTile (a .h) (a .e .shape) (l .loop .n) (c .current .result)
 tile c = standing-tile (c .before .before .before .loop .inv .0) (c .before .if1 .taken) (c .current .ensures)
 
 loop-holds : tie.Need-loop-holds Inv-loop μ-loop
 loop-holds c =
-    let s = c .before in
+    let s = c .before .before in
     let p = s .before .before .before .before .before .before .pre in
     (rw (s .start .ensures) (standing-none (p .0)), filling-none _ (p .0) _ _ _ _, carried-none _ _ _)
 
@@ -36,7 +36,7 @@ current-requires c κs = let w = c .before .before .loop .inv .0 in (w .asked .s
 valid-here-requires : tie.Need-valid-here-requires Inv-loop μ-loop
 valid-here-requires c κs =
     let l = c .before .before .before in
-    standing-count (l .loop .inv .0) (c .before .if1 .taken) (c .current .ensures) (l .before .all-valid .ensures) (l .loop .inv .2)
+    standing-count (l .loop .inv .0) (c .before .if1 .taken) (c .current .ensures) (l .before .before .all-valid .ensures) (l .loop .inv .2)
 
 mul-at : tie.Need-mul-at Inv-loop μ-loop
 mul-at c = omega (arith, standing-few (c .before .before .before .before .loop .inv .0) (c .before .before .if1 .taken))
@@ -45,7 +45,7 @@ shared-slice-read-at : tie.Need-shared-slice-read-at Inv-loop μ-loop
 shared-slice-read-at c =
     let v = c .before in
     let l = v .before .before .before .before in
-    let p = l .before .before .before .before .before .before .before .before .pre in
+    let p = l .before .before .before .before .before .before .before .before .before .pre in
     omega (arith, p .1, v .before .before .if1 .taken)
 
 put-at-requires : tie.Need-put-at-requires Inv-loop μ-loop
@@ -53,7 +53,7 @@ put-at-requires c κs =
     let v = c .before .before .before in
     let l = v .before .before .before .before in
     let i = l .loop .inv in
-    let p = l .before .before .before .before .before .before .before .before .pre in
+    let p = l .before .before .before .before .before .before .before .before .before .pre in
     (tile (v .before), v .valid-here .ensures, filling-room (i .1) (i .0 .asked) (p .2))
 
 advance-requires : tie.Need-advance-requires Inv-loop μ-loop

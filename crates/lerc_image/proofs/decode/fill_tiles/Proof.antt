@@ -1,27 +1,27 @@
 -- `fill_tiles`: without room the image as it was, else every listed block that is accepted.
 -- Assumes nothing.
 use mathlib.Core.Path.{_≡_, _∙_, sym, ap}
-use mathlib.Core.Bool.{false, _&&_}
+use mathlib.Core.Bool.{false}
 use mathlib.Core.List.{List}
 use Prim.Native.Nat.{ℕ}
 use native.Mathlib.Omega.{arith}
 use borrow.Author.Tests.{not-true, not-false}
 use denote.Ref.{now}
 use lib.ListN.{length, take, length-take}
-use lib.Dec.{leb}
 use Rattle.lerc_words.specs.Res.{ok}
 use Rattle.lerc_header.specs.declared.Header.{Header}
 use Rattle.lerc_header.specs.declared.Extent.{Extent}
 use Rattle.lerc_header.specs.Header.{held, heldSaid}
 use Rattle.lerc_header.proofs.Kept.{held-is}
 use Rattle.lerc_image.specs.Tiles.{listedImage, roomToFill, filledTiles}
+use Rattle.lerc_image.specs.Parts.{hasRoom}
 use Rattle.lerc_image.proofs.Held.{Fillable, fillable-listable, fillable-room, listable-asked, listable-size, listable-room}
 use borrow.Author.Needs.{needs}
 use Rattle.lerc_image.proofs.decode.fill_tiles.Statement.{statement}
 use Rattle.lerc_image.proofs.decode.fill_tiles.Tie as tie
 
 no-room : (b : List ℕ) (h : Header) (m maxima list image : List ℕ) {e : Extent} → held h (length b) ≡ ok e
-    → (leb (e .mask) (length m) && leb (e .blocks) (length list) && leb (e .cells) (length image)) ≡ false → image ≡ filledTiles b h m maxima list image
+    → hasRoom e (length m) (length list) (length image) ≡ false → image ≡ filledTiles b h m maxima list image
 unfolding filledTiles roomToFill
 no-room b h m maxima list image p r = rw (p, r)
 
@@ -37,17 +37,17 @@ kept : (c : tie.After-held2) →
 kept c = sym (c .before .before .held .ensures) ∙ ap heldSaid (c .held2 .given .1)
 
 ready : (c : tie.Else1) →
-    let k = c .before .before .before .before .before in
+    let k = c .before .before .before in
     let a = k .before .before .before .before .before .before .before .args in
     Fillable (now (a .blob)) (a .h) (now (a .mask)) (now (a .list)) (now (a .image)) (k .held2 .given .0 .0)
-ready c = record { kept = kept (c .before .before .before .before .before); room = not-false _ (c .if1 .left) }
+ready c = record { kept = kept (c .before .before .before); room = sym (c .before .has-room .ensures) ∙ not-false _ (c .if1 .left) }
 
 returns : tie.Need-returns
 unfolding filledTiles roomToFill
 returns c = rw (sym (c .before .before .held .ensures) ∙ ap heldSaid (c .enum-told .given .1))
 
 returns-2 : tie.Need-returns-2
-returns-2 c = no-room _ _ _ _ _ _ (kept (c .before .before .before .before .before)) (not-true _ (c .if1 .taken))
+returns-2 c = no-room _ _ _ _ _ _ (kept (c .before .before .before)) (sym (c .before .has-room .ensures) ∙ not-true _ (c .if1 .taken))
 
 slice-aggregate-fill-listed : tie.Need-slice-aggregate-fill-listed
 slice-aggregate-fill-listed c = let l = listable-size (fillable-listable (ready (c .before))) in simp length-take (omega (arith, l))
@@ -69,6 +69,7 @@ fill-tiles-spec =
     (λ c. search needs)
     (λ c. search needs)
     returns
+    (λ c κs. search needs)
     returns-2
     slice-aggregate-fill-listed
     fill-listed-requires

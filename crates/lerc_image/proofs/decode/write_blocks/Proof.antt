@@ -21,14 +21,14 @@ abbrev μ-loop : tie.MeasureT-loop
 -- block n and its tile
 tile : (c : tie.After-current Inv-loop μ-loop) →
     let l = c .before .before .before in
-    let a = l .before .before .before .before .before .before .before .before .args in
+    let a = l .before .before .before .before .before .before .before .before .before .args in
     BlockTile (a .h) (a .e .shape) (l .loop .n) (c .current .result)
 tile c = standing-tile (c .before .before .before .loop .inv .0 .stands) (c .before .if1 .taken) (c .current .ensures)
 
 loop-holds : tie.Need-loop-holds Inv-loop μ-loop
 loop-holds c =
-    let p = c .before .before .before .before .before .before .before .pre in
-    (rw (c .before .start .ensures) (writing-none _ _ _ _ (p .0) (p .1)), carried-none _ _ _)
+    let p = c .before .before .before .before .before .before .before .before .pre in
+    (rw (c .before .before .start .ensures) (writing-none _ _ _ _ (p .0) (p .1)), carried-none _ _ _)
 
 mul-list : tie.Need-mul-list Inv-loop μ-loop
 mul-list c = omega (arith, standing-few (c .before .before .loop .inv .0 .stands) (c .if1 .taken))
@@ -42,13 +42,13 @@ current-requires c κs = let w = c .before .before .loop .inv .0 .stands in (w .
 valid-here-requires : tie.Need-valid-here-requires Inv-loop μ-loop
 valid-here-requires c κs =
     let l = c .before .before .before in
-    standing-count (l .loop .inv .0 .stands) (c .before .if1 .taken) (c .current .ensures) (l .before .all-valid .ensures) (l .loop .inv .1)
+    standing-count (l .loop .inv .0 .stands) (c .before .if1 .taken) (c .current .ensures) (l .before .before .all-valid .ensures) (l .loop .inv .1)
 
 put-at-requires : tie.Need-put-at-requires Inv-loop μ-loop
 put-at-requires c κs =
     let v = c .before .before in
     let l = v .before .before .before .before in
-    let p = l .before .before .before .before .before .before .before .before .pre in
+    let p = l .before .before .before .before .before .before .before .before .before .pre in
     (tile (v .before), v .valid-here .ensures, writing-room (l .loop .inv .0) (p .2))
 
 same-length : tie.Need-same-length Inv-loop μ-loop

@@ -1,11 +1,10 @@
 -- The tests of `fill`: what each refuses, and what they leave.
 -- Assumes nothing.
 use mathlib.Core.Path.{_≡_, _∙_, sym}
-use mathlib.Core.Bool.{Bool, false, _&&_}
+use mathlib.Core.Bool.{Bool, false}
 use mathlib.Core.List.{List}
 use Prim.Native.Nat.{ℕ, _≤_, _<_}
 use lib.ListN.{length, getD, take}
-use lib.Dec.{leb}
 use borrow.Author.Tests.{lt-ltb, le-ltb}
 use Rattle.lerc_words.specs.declared.Refusal.{Refusal}
 use Rattle.lerc_words.specs.Res.{ok, fail, refuse}
@@ -19,7 +18,7 @@ use Rattle.lerc_image.specs.declared.FillAnswer.{FillAnswer}
 use Rattle.lerc_image.specs.declared.FillAnswer.the-variants as answer
 use Rattle.lerc_image.specs.Blocks.{blockAt}
 use Rattle.lerc_image.specs.Fill.{Filled, fillSays, fillImage}
-use Rattle.lerc_image.specs.Parts.{FillAsked, BlockFilled}
+use Rattle.lerc_image.specs.Parts.{FillAsked, BlockFilled, hasRoom}
 use Rattle.lerc_image.proofs.Held.{pairs-are, Fillable, fillable-listable, fillable-room, listable-asked, listable-size, listable-room}
 
 module _ {b : List ℕ} {h : Header} {ranges : Ranges} {m list : List ℕ} {n : ℕ} {image : List ℕ} where
@@ -37,7 +36,7 @@ module _ {b : List ℕ} {h : Header} {ranges : Ranges} {m list : List ℕ} {n : 
     unfolding fillSays
     no-block l = refused (rw (p, le-ltb _ _ l))
 
-    pub no-room : n < e .blocks → (leb (e .mask) (length m) && leb (e .blocks) (length list) && leb (e .cells) (length image)) ≡ false
+    pub no-room : n < e .blocks → hasRoom e (length m) (length list) (length image) ≡ false
         → Filled b h ranges m list n (answer.Refused (refuse 5)) image image
     unfolding fillSays
     no-room l r = refused (rw (p, lt-ltb _ _ l, r))

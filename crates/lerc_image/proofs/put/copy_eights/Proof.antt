@@ -8,10 +8,10 @@ use Rattle.lerc_image.proofs.put.copy_eights.Statement.{statement}
 use Rattle.lerc_image.proofs.put.copy_eights.Tie as tie
 
 abbrev Inv-loop : tie.InvT-loop
-Inv-loop h t number words image₀ start₀ row₀ used₀ image start row used = FullRows h t number words image₀ image start row used
+Inv-loop h t number words image₀ start₀ done₀ used₀ image start done used = FullRows h t number words image₀ image start done used
 
 abbrev μ-loop : tie.MeasureT-loop
-μ-loop h t number words image₀ start₀ row₀ used₀ image start row used = t .h - row
+μ-loop h t number words image₀ start₀ done₀ used₀ image start done used = t .h - done
 
 mul-start : tie.Need-mul-start Inv-loop μ-loop
 mul-start c = let b = c .before .before .before in omega (arith, corner-fits (b .args .h) (b .args .t) (asked-in (b .pre .0)))
@@ -37,8 +37,8 @@ add-start-2 c =
 add-used : tie.Need-add-used Inv-loop μ-loop
 add-used c = let i = c .before .before .before .before .before in omega (arith, row-in (i .before .before .loop .inv .at) (i .if1 .taken) .words)
 
-add-row : tie.Need-add-row Inv-loop μ-loop
-add-row c = let i = c .before .before .before .before .before in omega (arith, i .if1 .taken)
+add-done : tie.Need-add-done Inv-loop μ-loop
+add-done c = let i = c .before .before .before .before .before in omega (arith, i .if1 .taken)
 
 loop-again : tie.Need-loop-again Inv-loop μ-loop
 loop-again c =
@@ -65,7 +65,7 @@ copy-eights-spec =
     copy-eight-requires
     add-start-2
     add-used
-    add-row
+    add-done
     (λ c. search needs)
     loop-again
     same-length

@@ -21,8 +21,8 @@ loop-holds c = let a = c .before .args in mapping-none narrowed (now (a .words))
 slice-read-word : tie.Need-slice-read-word Inv-loop μ-loop
 slice-read-word c = omega (arith, mapping-length (c .before .before .loop .inv))
 
-round-normal-requires : tie.Need-round-normal-requires Inv-loop μ-loop
-round-normal-requires c κs = sym (c .before .is-normal .ensures) ∙ c .if1 .taken
+round-signed-requires : tie.Need-round-signed-requires Inv-loop μ-loop
+round-signed-requires c κs = sym (c .before .is-normal .ensures) ∙ c .if1 .taken
 
 slice-write-words : tie.Need-slice-write-words Inv-loop μ-loop
 slice-write-words c = omega (arith, mapping-length (c .before .before .before .before .loop .inv))
@@ -50,7 +50,7 @@ narrow-each-spec =
     (λ c. search needs)
     slice-read-word
     (λ c κs. search needs)
-    round-normal-requires
+    round-signed-requires
     (λ c κs. search needs)
     (λ c. search needs)
     (λ c. search needs)

@@ -17,11 +17,11 @@ abbrev μ-loop : tie.MeasureT-loop
 loop-holds : tie.Need-loop-holds Inv-loop μ-loop
 loop-holds c = let a = c .before .args in mapping-none narrowed (now (a .words)) (now (a .words)) _ (omega arith)
 
-slice-read-round-normal : tie.Need-slice-read-round-normal Inv-loop μ-loop
-slice-read-round-normal c = omega (arith, mapping-length (c .before .before .loop .inv))
+slice-read-round-signed : tie.Need-slice-read-round-signed Inv-loop μ-loop
+slice-read-round-signed c = omega (arith, mapping-length (c .before .before .loop .inv))
 
-round-normal-requires : tie.Need-round-normal-requires Inv-loop μ-loop
-round-normal-requires c κs =
+round-signed-requires : tie.Need-round-signed-requires Inv-loop μ-loop
+round-signed-requires c κs =
     let l = c .before .before in
     let t = c .before .loop-test .taken in
     rw (mapping-next (l .loop .inv) t) (l .before .before .pre _ t)
@@ -33,7 +33,7 @@ loop-again : tie.Need-loop-again Inv-loop μ-loop
 loop-again c =
     let l = c .before .before .before in
     let t = c .before .before .loop-test .taken in
-    mapping-more (l .loop .inv) _ t (c .round-normal .ensures ∙ ap narrowed (mapping-next (l .loop .inv) t))
+    mapping-more (l .loop .inv) _ t (c .round-signed .ensures ∙ ap narrowed (mapping-next (l .loop .inv) t))
 
 same-length : tie.Need-same-length Inv-loop μ-loop
 same-length c = mapping-length (c .before .loop .inv)
@@ -49,8 +49,8 @@ narrow-normal-spec =
     μ-loop
     loop-holds
     (λ c. search needs)
-    slice-read-round-normal
-    round-normal-requires
+    slice-read-round-signed
+    round-signed-requires
     (λ c. search needs)
     slice-write-words
     (λ c. search needs)
