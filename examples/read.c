@@ -1,4 +1,4 @@
-/* One blob from standard input, its cells as text to standard output; a refusal is one line with its number.
+/* One blob from standard input, its cells as text to standard output; a refusal is one line with its number and its place.
  * Exit status: 0 decoded, 1 refused, 2 not read (no memory, or the float unit is not as it must be), 3 the output was lost.
  *
  * The blob is read into staged buffers. The tile is changed only when the blob was accepted, so that a caller that
@@ -38,10 +38,10 @@ static size_t blocks(const uint64_t *h) {
     return strips(h[LERC2_SIDE], h[LERC2_ROWS]) * strips(h[LERC2_SIDE], h[LERC2_COLUMNS]) * h[LERC2_DEPTH];
 }
 
-/* 0 and a new tile, or the number of the refusal and the tile as it was */
-static uint32_t read_tile(const uint8_t *blob, size_t size, struct tile *tile) {
+/* 0 and a new tile, or the number of the refusal, its place and the tile as it was */
+static uint32_t read_tile(const uint8_t *blob, size_t size, struct tile *tile, uint64_t *place) {
     uint64_t header[LERC2_HEADER] = {0};
-    uint32_t refused = lerc2_read_header(blob, size, header, LERC2_HEADER);
+    uint32_t refused = lerc2_read_header(blob, size, header, LERC2_HEADER, place, 1);
     if (refused != 0) {
         return refused;
     }
@@ -49,7 +49,7 @@ static uint32_t read_tile(const uint8_t *blob, size_t size, struct tile *tile) {
     uint8_t *spare = room(mask_length(header), 1);
     size_t *list = room(blocks(header), sizeof(size_t));
     refused = lerc2_read(blob, size, false, staged.mask, mask_length(header), spare, mask_length(header), list,
-                         blocks(header), staged.image, cells(header), staged.said, LERC2_READ);
+                         blocks(header), staged.image, cells(header), staged.said, LERC2_READ, place, 1);
     free(list);
     free(spare);
     struct tile old = refused == 0 ? *tile : staged;
@@ -89,10 +89,11 @@ int main(void) {
     uint8_t *blob = room(MOST, 1);
     size_t size = fread(blob, 1, MOST, stdin);
     struct tile tile = {{0}, NULL, NULL};
-    uint32_t refused = read_tile(blob, size, &tile);
+    uint64_t place = 0;
+    uint32_t refused = read_tile(blob, size, &tile, &place);
     free(blob);
     if (refused != 0) {
-        printf("refused %" PRIu32 "\n", refused);
+        printf("refused %" PRIu32 " at %" PRIu64 "\n", refused, place);
         return status_of(1);
     }
     print_tile(&tile);

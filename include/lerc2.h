@@ -8,14 +8,34 @@
  *    2  key or version differs
  *    3  a header field breaks its rule, or a number of a record does not fit its field
  *    4  a ceiling is passed
- *    5  a slice is too short: kept mask, spare mask, mask, image, list, or a record
+ *    5  a slice is too short: place, kept mask, spare mask, mask, image, list, or a record
  *    6  mask section wrong, or a mask would be reused that must not be or has another count of valid pixels
  *    7  a range number not finite, or a maximum less than its minimum
  *    8  block, sweep or mode byte wrong
  *    9  a value does not fit its integer kind
  *   10  walk on a body not in blocks; mode byte 1 or 2
  *   11  block number at or above the count
- * Reading goes front to back, and the first failing read decides the number.
+ * Reading goes front to back, and the first failing read decides the number, and with it the place.
+ *
+ * Places. The last slice of every function that can refuse is `place`, which needs room for one number. Without it the
+ * call is refused before anything else (5), and then nothing at all is written. Else place[0] is written in every
+ * outcome: 0 where the call accepts, the place of the refusal where it refuses; the rest of the slice stays. A place is
+ * an offset from the blob's first byte, by the number of the refusal:
+ *    1  inside a block: its flag byte, or where that should be (in a fill the listed start as given, however far out)
+ *       sweep or mode byte missing: where it should be
+ *       raw body: the first byte of the first word that is not whole within the size
+ *       the ranges do not fit: their first byte
+ *       blob shorter than its size or than 70 bytes: 0
+ *    6  66, the header's count of mask bytes
+ *    7  the first byte of the first wrong number, depth by depth: of the minimum where it is not finite, else of the
+ *       maximum, which is not finite or less than the minimum; 0 in a walk and a fill, whose ranges are given by value
+ *    8  inside a block: its flag byte; else the wrong sweep or mode byte
+ *    9  inside a block: its flag byte; else (a constant body, lerc2_stored) 0
+ *   10  the sweep byte of a raw body in a walk; the mode byte; 0 for a walk on an empty or constant body
+ *    2, 3, 4, 5, 11: 0
+ * Inside a block are its check bits, offset, counts, raw words and values. The ranges begin at 70 + mask bytes: all
+ * minima, then all maxima, each of the kind's size. Behind them comes the sweep byte, and where it is 0, of kinds 0 and 1
+ * with error 0.5, the mode byte; a walk looks for them where its ranges say that the body begins.
  *
  * Slices. Each is a pointer and a count of elements (not bytes). The pointer must not be null, also where the count is
  * 0; it must be aligned for its type and point to that many initialised elements. What is written (no `const`) must not
@@ -32,10 +52,10 @@
  * of the unit. An archive that is built to compute over whole numbers alone (TRUSTED in
  * crates/lerc_numeric/src/machine.rt) has no float arithmetic, and asks nothing of it.
  *
- * Records. A header, ranges and what a function says are arrays of uint64_t. A record slice that is too short is
- * refused first (5), then a number that its field cannot hold (3: a header field of 2^32 or more, a constant mark that
- * is neither 0 nor 1), then what the function's own comment lists, in that order. After any refusal every record is as
- * it was. On acceptance a record's first entries are written and the rest stay.
+ * Records. A header, ranges and what a function says are arrays of uint64_t. After `place`, a record slice that is too
+ * short is refused (5), then a number that its field cannot hold (3: a header field of 2^32 or more, a constant mark that
+ * is neither 0 nor 1), then what the function's own comment lists, in that order. After any refusal every record is as it
+ * was. On acceptance a record's first entries are written and the rest stay.
  *
  * Sizes that follow from a header: pixels = rows * columns; a mask has (pixels + 7) / 8 bytes; there are
  * ceil(rows / side) * ceil(columns / side) * depth blocks; cells = pixels * depth. Room is judged from the header
@@ -55,7 +75,8 @@
 extern "C" {
 #endif
 
-/* places in a header's record; all but error, min and max are below 2^32. Error, min and max are the bits of a double */
+/* the numbers of a header's record; all but error, min and max are below 2^32. Error, min and max are the bits of a
+ * double */
 enum {
     LERC2_ROWS,
     LERC2_COLUMNS,
@@ -71,7 +92,7 @@ enum {
     LERC2_HEADER /* how many numbers */
 };
 
-/* places in a record of ranges: where the body begins, the constant mark (0 or 1), then the bits of 64 minima and of
+/* the numbers of a record of ranges: where the body begins, the constant mark (0 or 1), then the bits of 64 minima and of
  * 64 maxima, one for each depth */
 enum {
     LERC2_RANGES_AT,
@@ -101,65 +122,70 @@ enum { LERC2_KEPT = 1, LERC2_SPARE = 2 };
 bool lerc2_float_ready(uint64_t mix);
 
 /* The header of a blob.
- * Refuses 5 (header under 11), 1 (blob under 70 bytes), 2, 3, 4, 1 (blob shorter than its declared size).
- * Accepted: header[0 .. 10] is the header.
- * Refused: header is as it was. */
-uint32_t lerc2_read_header(const uint8_t *blob, size_t blob_count, uint64_t *header, size_t header_count);
+ * Refuses 5 (place under 1), 5 (header under 11), 1 (blob under 70 bytes), 2, 3, 4, 1 (blob shorter than its declared
+ * size).
+ * Accepted: header[0 .. 10] is the header, place[0] is 0.
+ * Refused: header is as it was, place[0] is 0. */
+uint32_t lerc2_read_header(const uint8_t *blob, size_t blob_count, uint64_t *header, size_t header_count,
+                           uint64_t *place, size_t place_count);
 
 /* A whole blob. `kept` is the mask of the blob before, and is used for a blob without one where reuse is true.
- * Refuses 5 (said under 13), then the header's 1, 2, 3, 4, 1; 5 (kept, spare, list or image too short); 6 (mask);
- * 1, 7 (ranges); 9 (constant body); 1, 8, 10 (sweep and mode byte); 1 (raw body); 1, 8, 9 (block by block).
+ * Refuses 5 (place under 1), 5 (said under 13), then the header's 1, 2, 3, 4, 1; 5 (kept, spare, list or image too
+ * short); 6 (mask); 1, 7 (ranges); 9 (constant body); 1, 8, 10 (sweep and mode byte); 1 (raw body); 1, 8, 9 (block by
+ * block).
  * Accepted: said[0 .. 10] is the header, said[11] the count of blocks (0 for a body without blocks), said[12] where the
  *   body ends. The valid cells of the image hold their words. The first mask bytes of kept are the mask in force, and
  *   so are those of spare unless the kept mask was reused. list[0 .. blocks - 1] is where each block begins.
+ *   place[0] is 0.
  * Refused: said, kept, list and image are as they were. So is spare, but for one case: where the mask section was
- *   accepted and no mask was reused, its first mask bytes are the new mask. */
+ *   accepted and no mask was reused, its first mask bytes are the new mask. place[0] is the place, see "Places". */
 uint32_t lerc2_read(const uint8_t *blob, size_t blob_count, bool reuse, uint8_t *kept, size_t kept_count, uint8_t *spare,
                     size_t spare_count, size_t *list, size_t list_count, uint64_t *image, size_t image_count,
-                    uint64_t *said, size_t said_count);
+                    uint64_t *said, size_t said_count, uint64_t *place, size_t place_count);
 
 /* ---- A blob block by block. Header and ranges are given by value: they are held to the rules again, and not compared
  * with the blob. */
 
 /* The mask of a blob.
- * Refuses 5 (header under 11, said under 2), 3 (a field of 2^32 or more), 3, 4, 1 (the header), 5 (kept or spare under
- * the mask's length, reuse or not), 6.
+ * Refuses 5 (place under 1), 5 (header under 11, said under 2), 3 (a field of 2^32 or more), 3, 4, 1 (the header),
+ * 5 (kept or spare under the mask's length, reuse or not), 6.
  * Accepted: said[0] is LERC2_KEPT or LERC2_SPARE, whichever slice holds the mask, said[1] its length. The first
- *   said[1] bytes of spare are the new mask where said[0] is LERC2_SPARE, else spare is as it was.
- * Refused: spare and said are as they were. */
+ *   said[1] bytes of spare are the new mask where said[0] is LERC2_SPARE, else spare is as it was. place[0] is 0.
+ * Refused: spare and said are as they were, place[0] is 66 for 6 and 0 for all else. */
 uint32_t lerc2_prepare_mask(const uint8_t *blob, size_t blob_count, const uint64_t *header, size_t header_count,
                             bool reuse, const uint8_t *kept, size_t kept_count, uint8_t *spare, size_t spare_count,
-                            uint64_t *said, size_t said_count);
+                            uint64_t *said, size_t said_count, uint64_t *place, size_t place_count);
 
 /* The ranges of a blob; `valid` is not looked at.
- * Refuses 5 (header under 11, ranges under 130), 3 (a field of 2^32 or more), 3, 4, 1 (the header), 1 (the ranges do
- * not fit), 7.
- * Accepted: ranges[0 .. 129] is the record.
- * Refused: ranges is as it was. */
+ * Refuses 5 (place under 1), 5 (header under 11, ranges under 130), 3 (a field of 2^32 or more), 3, 4, 1 (the header),
+ * 1 (the ranges do not fit), 7.
+ * Accepted: ranges[0 .. 129] is the record, place[0] is 0.
+ * Refused: ranges is as it was, place[0] is the place, see "Places". */
 uint32_t lerc2_read_ranges(const uint8_t *blob, size_t blob_count, const uint64_t *header, size_t header_count,
-                           uint64_t *ranges, size_t ranges_count);
+                           uint64_t *ranges, size_t ranges_count, uint64_t *place, size_t place_count);
 
 /* Checks every block, values included, then writes where each begins.
- * Refuses 5 (header under 11, ranges under 130, said under 2), 3 (a field of 2^32 or more, a constant mark above 1),
- * 3, 4, 1 (the header), 5 (mask or list too short), 7 (the pairs below the depth), 10 (no valid pixel, or the constant
- * mark), 1, 8, 10 (sweep and mode byte), then block by block 1, 8, 9.
+ * Refuses 5 (place under 1), 5 (header under 11, ranges under 130, said under 2), 3 (a field of 2^32 or more, a
+ * constant mark above 1), 3, 4, 1 (the header), 5 (mask or list too short), 7 (the pairs below the depth), 10 (no valid
+ * pixel, or the constant mark), 1, 8, 10 (sweep and mode byte), then block by block 1, 8, 9.
  * Accepted: said[0] is the count of blocks, said[1] where the last one ends, list[0 .. said[0] - 1] the starts.
- * Refused: list and said are as they were. */
+ *   place[0] is 0.
+ * Refused: list and said are as they were, place[0] is the place, see "Places"; that of the sweep byte is ranges[0]. */
 uint32_t lerc2_walk(const uint8_t *blob, size_t blob_count, const uint64_t *header, size_t header_count,
                     const uint64_t *ranges, size_t ranges_count, const uint8_t *mask, size_t mask_count, size_t *list,
-                    size_t list_count, uint64_t *said, size_t said_count);
+                    size_t list_count, uint64_t *said, size_t said_count, uint64_t *place, size_t place_count);
 
 /* One block, at its listed start. Any order and any repeats give the same image.
- * Refuses 5 (header under 11, ranges under 130, said under 1), 3 (a field of 2^32 or more, a constant mark above 1),
- * 3, 4, 1 (the header), 11 (number), 5 (mask, list or image too short), 7 (the pairs below the depth), then the block's
- * 1, 8, 9. The constant mark, `valid`, sweep and mode byte are not looked at.
+ * Refuses 5 (place under 1), 5 (header under 11, ranges under 130, said under 1), 3 (a field of 2^32 or more, a
+ * constant mark above 1), 3, 4, 1 (the header), 11 (number), 5 (mask, list or image too short), 7 (the pairs below the
+ * depth), then the block's 1, 8, 9. The constant mark, `valid`, sweep and mode byte are not looked at.
  * Accepted: said[0] is the count of words written, which is the count of valid pixels of the block's tile; the valid
- *   cells of the block hold their words, and every other cell is as it was.
- * Refused: image and said are as they were. */
+ *   cells of the block hold their words, and every other cell is as it was. place[0] is 0.
+ * Refused: image and said are as they were, place[0] is list[number] for the block's 1, 8, 9 and 0 for all else. */
 uint32_t lerc2_fill(const uint8_t *blob, size_t blob_count, const uint64_t *header, size_t header_count,
                     const uint64_t *ranges, size_t ranges_count, const uint8_t *mask, size_t mask_count,
                     const size_t *list, size_t list_count, size_t number, uint64_t *image, size_t image_count,
-                    uint64_t *said, size_t said_count);
+                    uint64_t *said, size_t said_count, uint64_t *place, size_t place_count);
 
 /* ---- The arithmetic. A double is its bits. Rounding is to nearest, ties to even; what is 2^1024 - 2^970 and above
  * becomes infinity; an operand that is not finite is counted as if its exponent were one above the largest, but for an
@@ -179,9 +205,10 @@ uint32_t lerc2_narrow(uint64_t v);
 uint64_t lerc2_number(uint64_t word, uint32_t kind);
 
 /* A double as a stored word of a kind: integers are cut toward zero. A kind above 7 counts as 7.
- * Refuses 5 (said under 1), 9 (the integers of the kind do not hold it).
- * Accepted: said[0] is the word. Refused: said is as it was. */
-uint32_t lerc2_stored(uint64_t v, uint32_t kind, uint64_t *said, size_t said_count);
+ * Refuses 5 (place under 1), 5 (said under 1), 9 (the integers of the kind do not hold it).
+ * Accepted: said[0] is the word, place[0] is 0. Refused: said is as it was, place[0] is 0: there is no blob. */
+uint32_t lerc2_stored(uint64_t v, uint32_t kind, uint64_t *said, size_t said_count, uint64_t *place,
+                      size_t place_count);
 
 #ifdef __cplusplus
 }

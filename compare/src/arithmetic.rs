@@ -10,6 +10,7 @@ use crate::sorts::{
 use crate::step::{self, Steps, ENDINGS};
 use crate::table::grouped;
 use lerc2::raw;
+use second::Refusal;
 use std::collections::BTreeMap;
 
 /// What is compared with whole numbers.
@@ -18,7 +19,7 @@ pub struct Side {
     pub scaled: fn(u64, u32) -> u64,
     pub narrow: fn(u64) -> u32,
     pub number: fn(u64, u32) -> u64,
-    pub stored: fn(u64, u32) -> Result<u64, u32>,
+    pub stored: fn(u64, u32) -> Result<u64, Refusal>,
     /// The cells of a block; none where it is refused.
     pub steps: fn(&Steps) -> Vec<u64>,
     pub ready: fn(u64) -> bool,
@@ -34,11 +35,11 @@ pub const PROVED: Side = Side {
     ready: raw::float_ready,
 };
 
-fn stored(v: u64, kind: u32) -> Result<u64, u32> {
-    let mut said = [0; raw::STORED];
-    match raw::stored(v, kind, &mut said) {
+fn stored(v: u64, kind: u32) -> Result<u64, Refusal> {
+    let (mut said, mut place) = ([0; raw::STORED], [7; raw::PLACE]);
+    match raw::stored(v, kind, &mut said, &mut place) {
         0 => Ok(said[0]),
-        refusal => Err(refusal),
+        number => Err(Refusal::at(number, place[0] as usize)),
     }
 }
 

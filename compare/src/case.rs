@@ -57,6 +57,11 @@ impl Op {
             Op::Stored => "stored",
         }
     }
+
+    /// Those that can are lent a slice for the place.
+    pub fn can_refuse(self) -> bool {
+        !matches!(self, Op::Sum | Op::Scaled | Op::Narrow | Op::Number)
+    }
 }
 
 /// Slices that the operation is not lent stay empty.
@@ -78,9 +83,12 @@ pub struct Case {
     pub reuse: bool,
     /// Fill: the block's number. Arithmetic: the operands.
     pub numbers: [u64; 2],
+    /// The first number of it is the place of the refusal, afterwards.
+    pub place: Vec<u64>,
 }
 
 impl Case {
+    /// With room for the place, and for nothing else.
     pub fn new(op: Op) -> Case {
         Case {
             op,
@@ -95,6 +103,7 @@ impl Case {
             said: Vec::new(),
             reuse: false,
             numbers: [0; 2],
+            place: vec![7; usize::from(op.can_refuse())],
         }
     }
 
@@ -123,11 +132,12 @@ const BYTES: [Part<u8>; 4] = [
     |case| &mut case.spare,
 ];
 
-const NUMBERS: [Part<u64>; 4] = [
+const NUMBERS: [Part<u64>; 5] = [
     |case| &mut case.header,
     |case| &mut case.ranges,
     |case| &mut case.image,
     |case| &mut case.said,
+    |case| &mut case.place,
 ];
 
 const STARTS: [Part<usize>; 1] = [|case| &mut case.list];
@@ -154,10 +164,31 @@ pub struct After {
 }
 
 impl After {
+    /// The place of the refusal, or 0, where there is room for it.
+    pub fn place(&self) -> Option<u64> {
+        self.lent.place.first().copied()
+    }
+
+    pub fn outcome(&self) -> String {
+        let place = match self.place() {
+            Some(place) => place.to_string(),
+            None => "none".into(),
+        };
+        format!(
+            "answer {}, place {place}, word {:#x}",
+            self.answer, self.word
+        )
+    }
+
     /// The first thing in which two calls differ.
     pub fn difference(&self, other: &After) -> Option<String> {
         if self.answer != other.answer {
             return Some(format!("answer {} and {}", self.answer, other.answer));
+        }
+        if let (Some(a), Some(b)) = (self.place(), other.place()) {
+            if a != b {
+                return Some(format!("answer {}, place {a} and {b}", self.answer));
+            }
         }
         if self.word != other.word {
             return Some(format!("word {:#018x} and {:#018x}", self.word, other.word));
@@ -175,6 +206,7 @@ impl After {
             .or_else(|| first_of("list", &a.list, &b.list))
             .or_else(|| first_of("image", &a.image, &b.image))
             .or_else(|| first_of("said", &a.said, &b.said))
+            .or_else(|| first_of("place", &a.place, &b.place))
     }
 }
 

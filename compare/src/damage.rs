@@ -159,50 +159,66 @@ pub fn header(random: &mut Random, record: &mut [u64]) {
     };
 }
 
-/// Changes one or two numbers of the ranges' record.
+/// Changes one or two numbers of the ranges' record, or all maxima.
 pub fn ranges(random: &mut Random, record: &mut [u64], size: usize, depth: usize) {
-    for _ in 0..random.between(1, 2) {
-        let at = match random.below(6) {
-            0 => 0,
-            1 => 1,
-            // Below the depth, and just past it.
-            n => 2 + 64 * (n % 2) + random.below(depth.clamp(1, 63) + 1),
-        };
-        if at >= record.len() {
-            continue;
-        }
-        let near = [
-            0,
-            69,
-            70,
-            71,
-            size as u64,
-            (size as u64).wrapping_sub(1),
-            size as u64 + 1,
-            record[0].wrapping_add(1),
-            record[0].wrapping_sub(1),
-            u64::MAX,
-            u64::MAX - 1,
-            1 << 63,
-            16_777_216,
-        ];
-        record[at] = match at {
-            0 => random.pick(&near),
-            1 => random.pick(&[0, 1, 1, 2, 256, 1 << 32, u64::MAX]),
-            _ => match random.below(4) {
-                0 => random.pick(&NUMBERS),
-                1 => random.word(),
-                2 => f64::to_bits(random.pick(&[1e10, 300.0, -1e10, 1e300, 70000.0, 128.0])),
-                _ => record[at].wrapping_add(random.pick(&[1, u64::MAX])),
-            },
-        };
+    if random.once_in(6) {
+        // No integer kind holds them, so nothing is clamped to where it fits.
+        record[2 + 64..][..depth].fill(1e300f64.to_bits());
+        return;
     }
+    for _ in 0..random.between(1, 2) {
+        range(random, record, size as u64, depth);
+    }
+}
+
+fn range(random: &mut Random, record: &mut [u64], size: u64, depth: usize) {
+    let at = match random.below(6) {
+        0 => 0,
+        1 => 1,
+        // Below the depth, and just past it.
+        n => 2 + 64 * (n % 2) + random.below(depth.clamp(1, 63) + 1),
+    };
+    if at >= record.len() {
+        return;
+    }
+    record[at] = match at {
+        0 => body_place(random, record[0], size),
+        1 => random.pick(&[0, 1, 1, 2, 256, 1 << 32, u64::MAX]),
+        _ => match random.below(4) {
+            0 => random.pick(&NUMBERS),
+            1 => random.word(),
+            2 => f64::to_bits(random.pick(&[1e10, 300.0, -1e10, 1e300, 70000.0, 128.0])),
+            _ => record[at].wrapping_add(random.pick(&[1, u64::MAX])),
+        },
+    };
+}
+
+/// A place that need not be the body's.
+fn body_place(random: &mut Random, place: u64, size: u64) -> u64 {
+    random.pick(&[
+        0,
+        69,
+        70,
+        71,
+        size,
+        size.wrapping_sub(1),
+        size + 1,
+        place.wrapping_add(1),
+        place.wrapping_sub(1),
+        u64::MAX,
+        u64::MAX - 1,
+        1 << 63,
+        16_777_216,
+        // The true place, but for digits above the 32nd.
+        1 << 32 | place,
+    ])
 }
 
 /// A place in a list that need not be a block's start.
 pub fn start(random: &mut Random, size: usize, starts: &[usize]) -> usize {
     match random.below(6) {
-        0 => random.pick(&[0, 1, 69, 70, usize::MAX, usize::MAX - 1, 1 << 63]),
+        0 => random.pick(&[0, 1, 69, 70]),
+        _ if random.once_in(8) => far(random, starts),
         1 => random.pick(&[size, size.wrapping_sub(1), size + 1]),
         2 => random.below(size.max(1)),
         _ if starts.is_empty() => random.below(size + 2),
@@ -210,4 +226,20 @@ pub fn start(random: &mut Random, size: usize, starts: &[usize]) -> usize {
         4 => random.pick(starts).wrapping_sub(1),
         _ => random.pick(starts),
     }
+}
+
+/// A start that no blob reaches, often with the lower digits of a true one.
+fn far(random: &mut Random, starts: &[usize]) -> usize {
+    let near = match starts {
+        [] => 70,
+        _ => random.pick(starts),
+    };
+    random.pick(&[
+        usize::MAX,
+        usize::MAX - 1,
+        1 << 63,
+        1 << 32,
+        1 << 32 | near,
+        1 << 63 | near,
+    ])
 }

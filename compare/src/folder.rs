@@ -3,6 +3,7 @@
 
 use crate::case::{Case, Op};
 use crate::paths::Paths;
+use crate::places::Places;
 use crate::sides::{plain, proved, ranges_record, record};
 use crate::table::Table;
 use lerc2::raw;
@@ -23,13 +24,22 @@ pub fn files(folder: &Path) -> io::Result<Vec<PathBuf>> {
     Ok(files)
 }
 
+/// What the calls came upon.
+#[derive(Clone, Default)]
+pub struct Counts {
+    pub table: Table,
+    pub paths: Paths,
+    pub places: Places,
+}
+
 /// The first call on which the sides differ.
-pub fn compare(blob: &[u8], table: &mut Table, paths: &mut Paths) -> Result<(), Box<Case>> {
+pub fn compare(blob: &[u8], counts: &mut Counts) -> Result<(), Box<Case>> {
     let mut both = |case: &Case| {
         let (after, other) = (proved(case), plain(case));
-        table.count(case.op, after.answer);
+        counts.table.count(case.op, after.answer);
         if after == other {
-            paths.count(case, &other);
+            counts.paths.count(case, &other);
+            counts.places.count(case, &other);
             Ok(after)
         } else {
             Err(Box::new(case.clone()))

@@ -99,10 +99,15 @@ pub enum Fault {
     MaskMissing,
     RangeCrossed,
     RangeNotFinite,
+    /// Several numbers, of several depths.
+    RangesWrong,
+    RangesCut,
     ConstantTooLarge,
     Sweep,
+    SweepMissing,
     ModeUnread,
     ModeWrong,
+    ModeMissing,
     CheckBits,
     OffsetCode,
     OffsetNotFinite,
@@ -112,10 +117,12 @@ pub enum Fault {
     TableBits,
     TableEntries,
     TableIndex,
+    /// At a block's first bytes.
+    BlockCut,
     Cut,
 }
 
-const FAULTS: [Fault; 24] = [
+const FAULTS: [Fault; 29] = [
     Fault::MaskRunOfZero,
     Fault::MaskEndsEarly,
     Fault::MaskEndsLate,
@@ -126,10 +133,14 @@ const FAULTS: [Fault; 24] = [
     Fault::MaskMissing,
     Fault::RangeCrossed,
     Fault::RangeNotFinite,
+    Fault::RangesWrong,
+    Fault::RangesCut,
     Fault::ConstantTooLarge,
     Fault::Sweep,
+    Fault::SweepMissing,
     Fault::ModeUnread,
     Fault::ModeWrong,
+    Fault::ModeMissing,
     Fault::CheckBits,
     Fault::OffsetCode,
     Fault::OffsetNotFinite,
@@ -139,8 +150,26 @@ const FAULTS: [Fault; 24] = [
     Fault::TableBits,
     Fault::TableEntries,
     Fault::TableIndex,
+    Fault::BlockCut,
     Fault::Cut,
 ];
+
+impl Fault {
+    fn is_of_mode(self) -> bool {
+        matches!(
+            self,
+            Fault::ModeUnread | Fault::ModeWrong | Fault::ModeMissing
+        )
+    }
+
+    /// The blob ends where something should be.
+    fn is_of_end(self) -> bool {
+        matches!(
+            self,
+            Fault::RangesCut | Fault::SweepMissing | Fault::ModeMissing | Fault::BlockCut
+        )
+    }
+}
 
 /// By kind and code; 9 is none.
 pub const OFFSET_KINDS: [[u32; 4]; 8] = [
@@ -200,7 +229,7 @@ impl Wanted {
         } else {
             Fault::None
         };
-        Wanted {
+        let wanted = Wanted {
             rows,
             columns,
             depth,
@@ -210,6 +239,30 @@ impl Wanted {
             fault,
             esri,
             huge: false,
+        };
+        wanted.with_room_for_fault(random)
+    }
+
+    /// Only some images can have these faults.
+    fn with_room_for_fault(self, random: &mut Random) -> Wanted {
+        match self.fault {
+            Fault::RangesWrong => Wanted {
+                depth: self.depth.max(random.between(2, 4)),
+                kind: random.between(6, 7) as u32,
+                body: random.pick(&[Body::Raw, Body::Blocks]),
+                ..self
+            },
+            Fault::OffsetNotFinite => Wanted {
+                kind: random.between(6, 7) as u32,
+                body: Body::Blocks,
+                ..self
+            },
+            fault if fault.is_of_mode() => Wanted {
+                kind: random.below(2) as u32,
+                body: Body::Blocks,
+                ..self
+            },
+            _ => self,
         }
     }
 
@@ -391,14 +444,23 @@ impl<'a> Maker<'a> {
             return;
         }
         self.put_ranges();
+        if self.has(Fault::RangesCut) {
+            let cut = self.random.between(1, self.form.after.len());
+            self.form.after.truncate(self.form.after.len() - cut);
+            return;
+        }
         let kind = self.wanted.kind;
         let constant = self
             .pairs
             .iter()
             .all(|&(low, high)| second::same(number(low, kind), number(high, kind)));
-        if constant {
-            return;
+        if !constant && !self.has(Fault::SweepMissing) {
+            self.put_after_ranges();
         }
+    }
+
+    /// Sweep and mode byte, and what they say.
+    fn put_after_ranges(&mut self) {
         let raw = self.wanted.body == Body::Raw;
         let sweep = if self.has(Fault::Sweep) {
             self.random.pick(&[2, 3, 128, 255])
@@ -412,6 +474,9 @@ impl<'a> Maker<'a> {
             return;
         }
         if self.has_mode() {
+            if self.has(Fault::ModeMissing) {
+                return;
+            }
             let mode = match self.wanted.fault {
                 Fault::ModeUnread => self.random.pick(&[1, 2]),
                 Fault::ModeWrong => self.random.pick(&[3, 4, 128, 255]),
@@ -443,6 +508,7 @@ impl<'a> Maker<'a> {
                     pairs[at].1 = word;
                 }
             }
+            Fault::RangesWrong => self.spoil(&mut pairs),
             _ => {}
         }
         for &(low, _) in &pairs {
@@ -450,6 +516,23 @@ impl<'a> Maker<'a> {
         }
         for &(_, high) in &pairs {
             put_word(&mut self.form.after, high, kind);
+        }
+    }
+
+    /// About half of the pairs, each in one of several ways.
+    fn spoil(&mut self, pairs: &mut [(u64, u64)]) {
+        for (low, high) in pairs {
+            let kind = self.wanted.kind;
+            match self.random.below(8) {
+                0 => *low = not_finite(self.random, kind),
+                1 => *high = not_finite(self.random, kind),
+                2 => {
+                    *low = not_finite(self.random, kind);
+                    *high = not_finite(self.random, kind);
+                }
+                3 => (*low, *high) = (*high, *low),
+                _ => {}
+            }
         }
     }
 
@@ -720,12 +803,18 @@ impl<'a> Maker<'a> {
             random,
             wanted,
             mut form,
+            faulty,
             ..
         } = self;
-        if wanted.fault == Fault::Cut && !form.after.is_empty() {
+        if wanted.fault == Fault::BlockCut {
+            let behind = 70 + form.section.len();
+            let start = form.starts.get(faulty).map(|start| start - behind);
+            let end = start.unwrap_or(form.after.len());
+            form.after.truncate(end + random.below(3));
+        } else if wanted.fault == Fault::Cut && !form.after.is_empty() {
             let cut = random.between(1, form.after.len());
             form.after.truncate(form.after.len() - cut);
-        } else if random.once_in(4) {
+        } else if !wanted.fault.is_of_end() && random.once_in(4) {
             let n = random.between(1, 9);
             form.gap = random.bytes(n);
         }
@@ -831,7 +920,7 @@ fn any_pixels(random: &mut Random, wanted: &Wanted) -> Vec<bool> {
 /// An error that a header may have.
 fn any_error(random: &mut Random, wanted: &Wanted) -> u64 {
     let usual = [0.5, 0.5, 1.0, 2.0, 0.3, 1.5, 10.0, 0.01, 0.001, 0.1, 0.25];
-    if matches!(wanted.fault, Fault::ModeUnread | Fault::ModeWrong) {
+    if wanted.fault.is_of_mode() {
         return 0.5f64.to_bits();
     }
     if wanted.huge {

@@ -1,8 +1,8 @@
 //! Compares the proved reader with the plain one, call by call.
 //!
-//! Each call is made on both sides with the same slices; answer, number and
-//! every lent byte afterwards must be the same, and marks on both sides of each
-//! slice must stand.
+//! Each call is made on both sides with the same slices; answer, number, place
+//! and every lent byte afterwards must be the same, and marks on both sides of
+//! each slice must stand.
 
 pub mod arithmetic;
 pub mod block_paths;
@@ -16,11 +16,13 @@ pub mod form;
 mod lent;
 pub mod operands;
 pub mod paths;
+pub mod places;
 pub mod plan;
 pub mod random;
 pub mod run;
 pub mod shrink;
 pub mod sides;
+mod sites;
 pub mod sorts;
 pub mod step;
 pub mod store;

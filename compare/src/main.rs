@@ -1,10 +1,11 @@
 use compare::arithmetic::{self, PROVED};
 use compare::folder;
 use compare::paths::Paths;
+use compare::places::Places;
 use compare::run::{Failure, Run};
 use compare::sides::{plain, proved};
 use compare::store;
-use compare::table::{grouped, Table};
+use compare::table::grouped;
 use std::error::Error;
 use std::fs;
 use std::path::{Path, PathBuf};
@@ -29,10 +30,11 @@ compare esri [--overflow] [--blobs N] [--seed S]
 compare esri FOLDER..
     the same with every NAME.lerc2 of the folders
 
-run, folder and esri count accepted blocks, tiles and bodies by path.
+run, folder and esri count accepted blocks, tiles and bodies by path; run and
+folder count calls by the place at which they are refused.
 
 Exit status: 0 no disagreement, 1 some, 2 wrong words, or it could not be run,
-or a run of 200,000 calls or more left a path out.
+or a run of 200,000 calls or more left a path or a place out.
 ";
 
 fn main() -> ExitCode {
@@ -148,6 +150,7 @@ fn run(rest: &[&str]) -> Result<bool, Box<dyn Error>> {
     println!("\n{}", report.table.text());
     println!("Accepted whole reads:\n\n{}", report.bodies.text());
     paths_shown(&report.paths);
+    places_shown(&report.places);
     println!(
         "{} calls on {} blobs in {:.0} s, {} disagreements",
         grouped(report.table.total()),
@@ -164,6 +167,10 @@ fn run(rest: &[&str]) -> Result<bool, Box<dyn Error>> {
 
 fn paths_shown(paths: &Paths) {
     println!("Blocks, tiles and bodies by path:\n\n{}", paths.text());
+}
+
+fn places_shown(places: &Places) {
+    println!("Calls by place:\n\n{}", places.text());
 }
 
 fn arithmetic_compared(rest: &[&str]) -> Result<bool, Box<dyn Error>> {
@@ -198,8 +205,8 @@ fn replay(file: &str) -> Result<bool, Box<dyn Error>> {
     let case = store::case(&text).map_err(|error| format!("{file}: {error}"))?;
     let (one, other) = (proved(&case), plain(&case));
     println!("operation {}", case.op.name());
-    println!("proved: answer {}, word {:#x}", one.answer, one.word);
-    println!("plain:  answer {}, word {:#x}", other.answer, other.word);
+    println!("proved: {}", one.outcome());
+    println!("plain:  {}", other.outcome());
     match one.difference(&other) {
         Some(difference) => println!("differ: {difference}"),
         None => println!("no difference"),
@@ -209,12 +216,12 @@ fn replay(file: &str) -> Result<bool, Box<dyn Error>> {
 
 fn folders_compared(folders: &[&str]) -> Result<bool, Box<dyn Error>> {
     ready()?;
-    let (mut table, mut paths) = (Table::default(), Paths::default());
+    let mut counts = folder::Counts::default();
     let (mut count, mut disagreements) = (0, 0);
     for folder in folders {
         for file in blobs(folder)? {
             count += 1;
-            if let Err(case) = folder::compare(&bytes(&file)?, &mut table, &mut paths) {
+            if let Err(case) = folder::compare(&bytes(&file)?, &mut counts) {
                 println!("{}:", file.display());
                 let name = file.file_stem().unwrap_or_default().to_string_lossy();
                 let failure = Failure::new(0, *case, proved, plain);
@@ -223,11 +230,12 @@ fn folders_compared(folders: &[&str]) -> Result<bool, Box<dyn Error>> {
             }
         }
     }
-    println!("\n{}", table.text());
-    paths_shown(&paths);
+    println!("\n{}", counts.table.text());
+    paths_shown(&counts.paths);
+    places_shown(&counts.places);
     println!(
         "{} calls on {count} blobs, {disagreements} disagreements",
-        grouped(table.total())
+        grouped(counts.table.total())
     );
     Ok(disagreements == 0)
 }

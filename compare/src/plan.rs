@@ -88,11 +88,15 @@ pub fn calls(random: &mut Random, out: &mut Vec<Case>) {
     if random.once_in(100) {
         rooms(random, &blob, out);
     }
+    if random.once_in(16) && is_raw(&blob) {
+        raw_cuts(random, &blob, out);
+    }
 }
 
 /// A call with lengths and contents at random.
 fn call(random: &mut Random, blob: &Blob, op: Op) -> Option<Case> {
     let mut case = Case::new(op);
+    case.place = marks(random, raw::PLACE);
     case.blob = blob.bytes.clone();
     case.reuse = random.once_in(2);
     let mut header = record(&blob.header).to_vec();
@@ -263,6 +267,28 @@ fn cuts(random: &mut Random, blob: &Blob, out: &mut Vec<Case>) {
     }
 }
 
+fn is_raw(blob: &Blob) -> bool {
+    let [place, constant, ..] = blob.ranges;
+    constant == 0 && blob.bytes.get(place as usize) == Some(&1)
+}
+
+/// Whole reads of a raw body whose declared size ends at every byte, in a large
+/// one at some in a row.
+fn raw_cuts(random: &mut Random, blob: &Blob, out: &mut Vec<Case>) {
+    const MOST: usize = 48;
+    let size = blob.bytes.len().min(blob.header.size as usize);
+    let mut sizes = blob.ranges[0] as usize..size;
+    if sizes.len() > MOST {
+        sizes.start += random.below(sizes.len() - MOST);
+        sizes.end = sizes.start + MOST;
+    }
+    for size in sizes {
+        let mut case = exact(random, blob, Op::Read);
+        case.blob[34..38].copy_from_slice(&(size as u32).to_le_bytes());
+        out.push(case);
+    }
+}
+
 /// Every slice in turn one short, exact, one long and empty.
 fn rooms(random: &mut Random, blob: &Blob, out: &mut Vec<Case>) {
     for op in Op::READING {
@@ -313,6 +339,7 @@ fn exact(random: &mut Random, blob: &Blob, op: Op) -> Case {
     let mut case = Case::new(op);
     case.blob = blob.bytes.clone();
     let numbers = |n: usize| (0..n as u64).map(|n| n ^ 0x5555_5555).collect::<Vec<u64>>();
+    case.place = numbers(raw::PLACE);
     let starts = |n: usize| {
         let mut starts = blob.starts.clone();
         starts.resize(n, 70);
@@ -380,6 +407,7 @@ fn arithmetic(random: &mut Random) -> Case {
     let mut case = Case::arithmetic(op, a, b);
     if op == Op::Stored {
         case.said = marks(random, raw::STORED);
+        case.place = marks(random, raw::PLACE);
     }
     case
 }

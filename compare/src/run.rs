@@ -2,6 +2,7 @@
 
 use crate::case::{After, Case, Op};
 use crate::paths::Paths;
+use crate::places::Places;
 use crate::plan;
 use crate::random::Random;
 use crate::shrink::shrunk;
@@ -10,7 +11,7 @@ use crate::table::{grouped, Bodies, Table};
 /// One blob in so many is a large one.
 const LARGE: u64 = 8192;
 
-/// A run of so many calls must have taken every path.
+/// A run of so many calls must have taken every path and come upon every place.
 pub const FULL_RUN: u64 = 200_000;
 
 /// One side of the comparison.
@@ -50,6 +51,7 @@ pub struct Report {
     pub table: Table,
     pub bodies: Bodies,
     pub paths: Paths,
+    pub places: Places,
     pub blobs: u64,
     pub failures: Vec<Failure>,
 }
@@ -61,7 +63,14 @@ impl Report {
         if !self.failures.is_empty() {
             return Ok(false);
         }
-        let (calls, missing) = (self.table.total(), self.paths.missing());
+        if self.places.unexplained > 0 {
+            let calls = grouped(self.places.unexplained);
+            return Err(format!(
+                "{calls} calls ended at places that their bytes do not explain"
+            ));
+        }
+        let calls = self.table.total();
+        let missing = [self.paths.missing(), self.places.missing()].concat();
         if calls < FULL_RUN || missing.is_empty() {
             return Ok(true);
         }
@@ -78,6 +87,7 @@ impl Run {
             table: Table::default(),
             bodies: Bodies::default(),
             paths: Paths::default(),
+            places: Places::default(),
             blobs: 0,
             failures: Vec::new(),
         };
@@ -103,6 +113,7 @@ impl Run {
                     break;
                 }
                 report.paths.count(&case, &other);
+                report.places.count(&case, &other);
             }
             cases.clear();
             report.blobs += 1;

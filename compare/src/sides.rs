@@ -3,7 +3,8 @@
 use crate::case::{After, Case, Op};
 use crate::lent::Lent;
 use lerc2::raw;
-use second::{Header, Ranges, MOST_DEPTH};
+use second::refusal::{NO_ROOM, WRONG_FIELD};
+use second::{Header, Ranges, Refusal, MOST_DEPTH};
 
 /// The slices of a call, marked on both sides.
 struct Slices {
@@ -16,6 +17,7 @@ struct Slices {
     list: Lent<usize>,
     image: Lent<u64>,
     said: Lent<u64>,
+    place: Lent<u64>,
 }
 
 fn called(case: &Case, call: impl Fn(&Case, &mut Slices) -> (u32, u64)) -> After {
@@ -29,6 +31,7 @@ fn called(case: &Case, call: impl Fn(&Case, &mut Slices) -> (u32, u64)) -> After
         list: Lent::new(&case.list),
         image: Lent::new(&case.image),
         said: Lent::new(&case.said),
+        place: Lent::new(&case.place),
     };
     let (answer, word) = call(case, &mut slices);
     let mut outside = false;
@@ -43,6 +46,7 @@ fn called(case: &Case, call: impl Fn(&Case, &mut Slices) -> (u32, u64)) -> After
         list: slices.list.back(&mut outside),
         image: slices.image.back(&mut outside),
         said: slices.said.back(&mut outside),
+        place: slices.place.back(&mut outside),
         reuse: case.reuse,
         numbers: case.numbers,
     };
@@ -60,61 +64,66 @@ pub fn proved(case: &Case) -> After {
         let (blob, header, ranges) = (s.blob.slice(), s.header.slice(), s.ranges.slice());
         let (mask, kept, spare) = (s.mask.slice(), s.kept.slice(), s.spare.slice());
         let (list, image, said) = (s.list.slice(), s.image.slice(), s.said.slice());
-        let [a, b] = case.numbers;
-        match case.op {
-            Op::Header => (raw::read_header(blob, header), 0),
-            Op::Mask => (
-                raw::prepare_mask(blob, header, case.reuse, kept, spare, said),
-                0,
-            ),
-            Op::Ranges => (raw::read_ranges(blob, header, ranges), 0),
-            Op::Walk => (raw::walk(blob, header, ranges, mask, list, said), 0),
-            Op::Fill => (
-                raw::fill(blob, header, ranges, mask, list, a as usize, image, said),
-                0,
-            ),
-            Op::Read => (
-                raw::read(blob, case.reuse, kept, spare, list, image, said),
-                0,
-            ),
-            Op::Sum => (0, raw::sum(a, b)),
-            Op::Scaled => (0, raw::scaled(a, b as u32)),
-            Op::Narrow => (0, raw::narrow(a).into()),
-            Op::Number => (0, raw::number(a, b as u32)),
-            Op::Stored => (raw::stored(a, b as u32, said), 0),
-        }
+        let (place, reuse, [a, b]) = (s.place.slice(), case.reuse, case.numbers);
+        let number = a as usize;
+        let answer = match case.op {
+            Op::Header => raw::read_header(blob, header, place),
+            Op::Mask => raw::prepare_mask(blob, header, reuse, kept, spare, said, place),
+            Op::Ranges => raw::read_ranges(blob, header, ranges, place),
+            Op::Walk => raw::walk(blob, header, ranges, mask, list, said, place),
+            Op::Fill => raw::fill(blob, header, ranges, mask, list, number, image, said, place),
+            Op::Read => raw::read(blob, reuse, kept, spare, list, image, said, place),
+            Op::Stored => raw::stored(a, b as u32, said, place),
+            Op::Sum => return (0, raw::sum(a, b)),
+            Op::Scaled => return (0, raw::scaled(a, b as u32)),
+            Op::Narrow => return (0, raw::narrow(a).into()),
+            Op::Number => return (0, raw::number(a, b as u32)),
+        };
+        (answer, 0)
     })
 }
 
 /// The plain reader, lent the same records.
 pub fn plain(case: &Case) -> After {
     called(case, |case, slices| {
-        let answer = |result: Result<(), u32>| (result.err().unwrap_or(0), 0);
         let [a, b] = case.numbers;
-        match case.op {
-            Op::Header => answer(plain_header(slices)),
-            Op::Mask => answer(plain_mask(case, slices)),
-            Op::Ranges => answer(plain_ranges(slices)),
-            Op::Walk => answer(plain_walk(slices)),
-            Op::Fill => answer(plain_fill(case, slices)),
-            Op::Read => answer(plain_read(case, slices)),
-            Op::Sum => (0, second::sum(a, b)),
-            Op::Scaled => (0, second::scaled(a, b as u32)),
-            Op::Narrow => (0, second::narrow(a).into()),
-            Op::Number => (0, second::number(a, b as u32)),
-            Op::Stored => answer(plain_stored(case, slices)),
-        }
+        let answer = match case.op {
+            Op::Header => placed(slices, plain_header),
+            Op::Mask => placed(slices, |slices| plain_mask(case, slices)),
+            Op::Ranges => placed(slices, plain_ranges),
+            Op::Walk => placed(slices, plain_walk),
+            Op::Fill => placed(slices, |slices| plain_fill(case, slices)),
+            Op::Read => placed(slices, |slices| plain_read(case, slices)),
+            Op::Stored => placed(slices, |slices| plain_stored(case, slices)),
+            Op::Sum => return (0, second::sum(a, b)),
+            Op::Scaled => return (0, second::scaled(a, b as u32)),
+            Op::Narrow => return (0, second::narrow(a).into()),
+            Op::Number => return (0, second::number(a, b as u32)),
+        };
+        (answer, 0)
     })
 }
 
-fn plain_header(s: &mut Slices) -> Result<(), u32> {
+/// The number of a call, once its place is written. Without room for a place it
+/// is 5, before anything else, and nothing is written.
+fn placed(slices: &mut Slices, call: impl Fn(&mut Slices) -> Result<(), Refusal>) -> u32 {
+    if slices.place.slice().is_empty() {
+        return NO_ROOM;
+    }
+    let accepted = Refusal::of(0);
+    let refusal = call(slices).err().unwrap_or(accepted);
+    slices.place.slice()[0] = refusal.place as u64;
+    refusal.number
+}
+
+fn plain_header(s: &mut Slices) -> Result<(), Refusal> {
     room(s.header.slice(), raw::HEADER)?;
     let header = second::read_header(s.blob.slice())?;
     s.header.slice()[..raw::HEADER].copy_from_slice(&record(&header));
     Ok(())
 }
 
-fn plain_mask(case: &Case, s: &mut Slices) -> Result<(), u32> {
+fn plain_mask(case: &Case, s: &mut Slices) -> Result<(), Refusal> {
     room(s.header.slice(), raw::HEADER)?;
     room(s.said.slice(), raw::MASK)?;
     let header = header_of(s.header.slice())?;
@@ -133,7 +142,7 @@ fn plain_mask(case: &Case, s: &mut Slices) -> Result<(), u32> {
     Ok(())
 }
 
-fn plain_ranges(s: &mut Slices) -> Result<(), u32> {
+fn plain_ranges(s: &mut Slices) -> Result<(), Refusal> {
     room(s.header.slice(), raw::HEADER)?;
     room(s.ranges.slice(), raw::RANGES)?;
     let header = header_of(s.header.slice())?;
@@ -142,7 +151,7 @@ fn plain_ranges(s: &mut Slices) -> Result<(), u32> {
     Ok(())
 }
 
-fn plain_walk(s: &mut Slices) -> Result<(), u32> {
+fn plain_walk(s: &mut Slices) -> Result<(), Refusal> {
     room(s.header.slice(), raw::HEADER)?;
     room(s.ranges.slice(), raw::RANGES)?;
     room(s.said.slice(), raw::WALK)?;
@@ -159,7 +168,7 @@ fn plain_walk(s: &mut Slices) -> Result<(), u32> {
     Ok(())
 }
 
-fn plain_fill(case: &Case, s: &mut Slices) -> Result<(), u32> {
+fn plain_fill(case: &Case, s: &mut Slices) -> Result<(), Refusal> {
     room(s.header.slice(), raw::HEADER)?;
     room(s.ranges.slice(), raw::RANGES)?;
     room(s.said.slice(), raw::FILL)?;
@@ -178,7 +187,7 @@ fn plain_fill(case: &Case, s: &mut Slices) -> Result<(), u32> {
     Ok(())
 }
 
-fn plain_read(case: &Case, s: &mut Slices) -> Result<(), u32> {
+fn plain_read(case: &Case, s: &mut Slices) -> Result<(), Refusal> {
     room(s.said.slice(), raw::READ)?;
     let (header, blocks, end) = second::read(
         s.blob.slice(),
@@ -194,24 +203,24 @@ fn plain_read(case: &Case, s: &mut Slices) -> Result<(), u32> {
     Ok(())
 }
 
-fn plain_stored(case: &Case, s: &mut Slices) -> Result<(), u32> {
+fn plain_stored(case: &Case, s: &mut Slices) -> Result<(), Refusal> {
     room(s.said.slice(), raw::STORED)?;
     let [v, kind] = case.numbers;
     s.said.slice()[0] = second::stored(v, kind as u32)?;
     Ok(())
 }
 
-/// A record that is too short is 5, before anything else.
-fn room(record: &[u64], numbers: usize) -> Result<(), u32> {
+/// A record that is too short is 5, before anything else but the place.
+fn room(record: &[u64], numbers: usize) -> Result<(), Refusal> {
     if record.len() < numbers {
-        return Err(second::refusal::NO_ROOM);
+        return Err(Refusal::of(NO_ROOM));
     }
     Ok(())
 }
 
 /// A number that its field cannot hold is 3.
-pub(crate) fn header_of(record: &[u64]) -> Result<Header, u32> {
-    let field = |n: usize| u32::try_from(record[n]).map_err(|_| second::refusal::WRONG_FIELD);
+pub(crate) fn header_of(record: &[u64]) -> Result<Header, Refusal> {
+    let field = |n: usize| u32::try_from(record[n]).map_err(|_| Refusal::of(WRONG_FIELD));
     Ok(Header {
         rows: field(0)?,
         columns: field(1)?,
@@ -228,9 +237,9 @@ pub(crate) fn header_of(record: &[u64]) -> Result<Header, u32> {
 }
 
 /// A constant mark other than 0 and 1 is 3.
-pub(crate) fn ranges_of(record: &[u64]) -> Result<Ranges, u32> {
+pub(crate) fn ranges_of(record: &[u64]) -> Result<Ranges, Refusal> {
     if record[1] > 1 {
-        return Err(second::refusal::WRONG_FIELD);
+        return Err(Refusal::of(WRONG_FIELD));
     }
     let numbers = |from: usize| std::array::from_fn(|n| record[from + n]);
     Ok(Ranges {

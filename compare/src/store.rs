@@ -24,6 +24,7 @@ pub fn text(case: &Case) -> String {
         ("said", numbers(&case.said)),
         ("reuse", u8::from(case.reuse).to_string()),
         ("numbers", numbers(&case.numbers)),
+        ("place", numbers(&case.place)),
     ];
     for (name, value) in lines {
         writeln!(text, "{name} {value}").unwrap();
@@ -31,7 +32,8 @@ pub fn text(case: &Case) -> String {
     text
 }
 
-/// Lines that begin with `#` are comments.
+/// Lines that begin with `#` are comments. Without a line for the place there is
+/// room for it.
 pub fn case(text: &str) -> Result<Case, String> {
     let mut case = Case::new(Op::Header);
     if !text.lines().any(|line| line.starts_with("op ")) {
@@ -57,6 +59,7 @@ pub fn case(text: &str) -> Result<Case, String> {
             "numbers" => {
                 case.numbers = numbers(value)?.try_into().map_err(|_| "two numbers")?;
             }
+            "place" => case.place = numbers(value)?,
             _ => return Err(format!("no line is called {name}")),
         }
     }

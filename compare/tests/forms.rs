@@ -36,8 +36,10 @@ fn every_form_comes_up() {
         match answer {
             Ok((_, _, end)) => assert!(end <= form.size() - form.gap.len()),
             // A constant of the header need not fit its kind.
-            Err(9) => assert_eq!(wanted.body, Body::ConstantByHeader),
-            Err(number) => panic!("{number}: {wanted:?}"),
+            Err(refusal) => {
+                assert_eq!(refusal.number, 9, "{refusal}: {wanted:?}");
+                assert_eq!(wanted.body, Body::ConstantByHeader);
+            }
         }
         sides.insert(wanted.side);
         depths.insert(wanted.depth);
@@ -146,4 +148,40 @@ fn every_pairing_of_a_sum_comes_up() {
     assert_eq!(pairings.len(), 14 * 14);
     let (pairing, least) = pairings.iter().min_by_key(|entry| entry.1).unwrap();
     assert!(*least > 3, "{pairing:?}: {least}");
+}
+
+/// Raw bodies whose size ends at every byte of a word, for words of every size.
+#[test]
+fn raw_bodies_cut_at_every_byte_come_up() {
+    let mut there = HashMap::new();
+    let mut cases = Vec::new();
+    for blob in 0..20_000 {
+        plan::calls(&mut Random::of(1, blob), &mut cases);
+        for case in cases.drain(..).filter(|case| case.op == Op::Read) {
+            if let Some(cut) = cut_word(&case.blob) {
+                *there.entry(cut).or_insert(0) += 1;
+            }
+        }
+    }
+    // Of 1, 2, 4 and 8 bytes.
+    assert_eq!(there.len(), 15);
+    let (cut, least) = there.iter().min_by_key(|entry| entry.1).unwrap();
+    assert!(*least > 20, "{cut:?}: {least}");
+}
+
+/// The size of a word that a raw body ends in or before, and how much of it is
+/// there.
+fn cut_word(blob: &[u8]) -> Option<(usize, usize)> {
+    let header = second::read_header(blob).ok()?;
+    let ranges = second::read_ranges(blob, &header).ok()?;
+    let bytes = &blob[..header.size as usize];
+    if ranges.constant || bytes.get(ranges.place) != Some(&1) {
+        return None;
+    }
+    let (size, words) = (
+        second::word_size(header.kind),
+        header.valid as usize * header.depth as usize,
+    );
+    let there = bytes.len() - ranges.place - 1;
+    (there < words * size).then_some((size, there % size))
 }

@@ -1,13 +1,16 @@
 //! Blocks, tiles and bodies of blobs made by hand have the paths that they
 //! should, a run comes upon every path, and one that does not is told.
 
+#[path = "common/full.rs"]
+mod full;
+
 use compare::case::{Case, Op};
 use compare::form::{form, packed, Fault, Fields, Form, Wanted};
 use compare::paths::{Counts, Path, Paths, PATHS};
 use compare::random::Random;
-use compare::run::{Failure, Report, Run, FULL_RUN};
+use compare::run::{Report, Run, FULL_RUN};
 use compare::sides::{plain, ranges_record, record};
-use compare::table::{Bodies, Table};
+use full::{a_failure, full_report, paths_but};
 use lerc2::raw;
 use std::process::Command;
 
@@ -609,55 +612,25 @@ fn maxima_with_a_fraction() {
     }
 }
 
-/// Every path is counted but one, of whole reads or of fills.
-fn report_without(calls: u64, left_out: Option<(Path, Op)>) -> Report {
-    let mut report = Report {
-        table: Table::default(),
-        bodies: Bodies::default(),
-        paths: Paths::default(),
-        blobs: 1,
-        failures: Vec::new(),
-    };
-    for _ in 0..calls {
-        report.table.count(Op::Read, 0);
-    }
-    for (path, _) in PATHS {
-        if left_out != Some((path, Op::Read)) {
-            report.paths.reads.add(path);
-        }
-        if left_out != Some((path, Op::Fill)) && !path.is_body() {
-            report.paths.fills.add(path);
-        }
-    }
-    report
-}
-
 #[test]
 fn a_full_run_that_leaves_a_path_out_is_told() {
-    assert_eq!(report_without(FULL_RUN, None).verdict(), Ok(true));
+    assert_eq!(full_report(FULL_RUN).verdict(), Ok(true));
     for (path, name) in PATHS {
         for (op, calls) in [(Op::Read, "whole reads"), (Op::Fill, "fills")] {
             if op == Op::Fill && path.is_body() {
                 continue;
             }
-            let mut report = report_without(FULL_RUN, Some((path, op)));
+            let without = |calls| Report {
+                paths: paths_but(Some((path, op))),
+                ..full_report(calls)
+            };
+            let mut report = without(FULL_RUN);
             let said = report.verdict().unwrap_err();
             assert!(said.ends_with(&format!(": {name} ({calls})")), "{said}");
             report.failures.push(a_failure());
             assert_eq!(report.verdict(), Ok(false));
-            let short = report_without(FULL_RUN - 1, Some((path, op)));
-            assert_eq!(short.verdict(), Ok(true));
+            assert_eq!(without(FULL_RUN - 1).verdict(), Ok(true));
         }
-    }
-}
-
-fn a_failure() -> Failure {
-    let case = Case::new(Op::Sum);
-    Failure {
-        blob: 0,
-        small: case.clone(),
-        case,
-        difference: String::new(),
     }
 }
 

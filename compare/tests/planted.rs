@@ -126,3 +126,151 @@ fn an_infinity_counted_in_a_read() {
     assert!(failure.difference.starts_with("image["));
     assert_eq!(failure.small.blob[38], 7);
 }
+
+/// A fault of the place alone.
+fn place_is_found(other: fn(&Case) -> After) -> Case {
+    let failure = run(other).failures.remove(0);
+    assert!(
+        failure.difference.contains("place"),
+        "{}",
+        failure.difference
+    );
+    let saved = store::text(&failure.small);
+    assert_eq!(store::case(&saved).unwrap(), failure.small);
+    failure.small
+}
+
+/// Another place, where there is room for one.
+fn moved(mut after: After, place: impl Fn(u64) -> u64) -> After {
+    if let Some(first) = after.lent.place.first_mut() {
+        *first = place(*first);
+    }
+    after
+}
+
+/// The sweep byte's place for a fault of the mode byte behind it.
+#[test]
+fn the_sweep_byte_for_the_mode_byte() {
+    fn other(case: &Case) -> After {
+        let after = plain(case);
+        let mode = case.ranges.first().map_or(0, |at| at.wrapping_add(1));
+        let is_mode = case.op == Op::Walk && after.answer == 10 && after.place() == Some(mode);
+        moved(after, |place| place - u64::from(is_mode))
+    }
+    assert_eq!(place_is_found(other).op, Op::Walk);
+}
+
+/// The first byte of a raw body that is missing, and not the first of its word.
+#[test]
+fn the_missing_byte_for_its_word() {
+    fn other(case: &Case) -> After {
+        let after = plain(case);
+        let sweep = second::read_header(&case.blob).and_then(|header| {
+            let ranges = second::read_ranges(&case.blob, &header)?;
+            Ok((ranges.place as u64, u64::from(header.size)))
+        });
+        match sweep {
+            Ok((at, size)) if case.op == Op::Read && after.answer == 1 => {
+                let is_raw = case.blob.get(at as usize) == Some(&1);
+                moved(after, |place| match is_raw && place > at {
+                    true => size,
+                    false => place,
+                })
+            }
+            _ => after,
+        }
+    }
+    let small = place_is_found(other);
+    assert_eq!(small.op, Op::Read);
+    // A word of one byte does not tell.
+    assert!(small.blob[38] > 1);
+}
+
+/// The first wrong number as the blob has them: all minima, then all maxima.
+#[test]
+fn ranges_judged_byte_by_byte() {
+    fn other(case: &Case) -> After {
+        let after = plain(case);
+        if case.op != Op::Ranges || after.answer != 7 {
+            return after;
+        }
+        let [depth, kind, mask] = [2, 6, 10].map(|n| case.header[n] as usize);
+        let size = second::word_size(kind as u32);
+        let minima = case.blob[70 + mask..].chunks(size).take(depth);
+        let number = |word: &[u8]| {
+            let mut bytes = [0; 8];
+            bytes[..size].copy_from_slice(word);
+            second::number(u64::from_le_bytes(bytes), kind as u32)
+        };
+        let wrong = minima.map(number).position(|min| !second::is_finite(min));
+        let first = wrong.map(|nth| (70 + mask + nth * size) as u64);
+        moved(after, |place| first.unwrap_or(place))
+    }
+    let small = place_is_found(other);
+    assert_eq!(small.op, Op::Ranges);
+    // One depth does not tell.
+    assert!(small.header[2] > 1);
+}
+
+/// A listed start of which only 32 bits are kept.
+#[test]
+fn a_start_cut_to_32_bits() {
+    fn other(case: &Case) -> After {
+        let after = plain(case);
+        moved(after, |place| place & u64::from(u32::MAX))
+    }
+    let small = place_is_found(other);
+    assert!(matches!(small.op, Op::Fill | Op::Walk));
+}
+
+/// An accepted call that leaves the place as it was.
+#[test]
+fn a_place_that_is_not_cleared() {
+    fn other(case: &Case) -> After {
+        let mut after = plain(case);
+        if after.answer == 0 {
+            after.lent.place.clone_from(&case.place);
+        }
+        after
+    }
+    place_is_found(other);
+}
+
+/// A number behind the place.
+#[test]
+fn a_number_behind_the_place() {
+    fn other(case: &Case) -> After {
+        let mut after = plain(case);
+        if let Some(second) = after.lent.place.get_mut(1) {
+            *second = 0;
+        }
+        after
+    }
+    let small = place_is_found(other);
+    assert_eq!(small.place.len(), 2);
+}
+
+/// A call that is made though there is no room for its place.
+#[test]
+fn a_call_without_room_for_its_place() {
+    fn other(case: &Case) -> After {
+        let mut roomy = case.clone();
+        roomy.place.resize(case.place.len().max(1), 0);
+        let mut after = plain(&roomy);
+        after.lent.place.truncate(case.place.len());
+        after
+    }
+    let failure = run(other).failures.remove(0);
+    assert!(failure.difference.starts_with("answer 5 and "));
+    assert!(failure.small.place.is_empty());
+}
+
+/// A call that was saved without a line for the place has room for it.
+#[test]
+fn a_saved_call_without_a_place() {
+    let case = Case::new(Op::Header);
+    let saved = store::text(&case);
+    let lines = saved.lines().filter(|line| !line.starts_with("place"));
+    let before: Vec<&str> = lines.collect();
+    assert_eq!(store::case(&before.join("\n")).unwrap().place.len(), 1);
+}

@@ -20,9 +20,24 @@ const OFFSET_KINDS: [[u32; 4]; 8] = [
     [7, 6, 4, 2],
 ];
 
+const WRONG: Refusal = Refusal::of(WRONG_BLOCK);
+
 /// Reads the block at `at` of a tile whose left edge is at column `x`: one
-/// word for each of its valid pixels. Gives the place after the block.
+/// word for each of its valid pixels. Gives the place after the block. A
+/// refusal's place is `at`, the flag byte's, whatever of the block is wrong or
+/// missing.
 pub(crate) fn read_block(
+    bytes: &[u8],
+    at: usize,
+    header: &Header,
+    x: usize,
+    maximum: u64,
+    words: &mut [u64],
+) -> Result<usize, Refusal> {
+    block_from(bytes, at, header, x, maximum, words).map_err(|refusal| refusal.moved(at))
+}
+
+fn block_from(
     bytes: &[u8],
     at: usize,
     header: &Header,
@@ -32,7 +47,7 @@ pub(crate) fn read_block(
 ) -> Result<usize, Refusal> {
     let flag = byte(bytes, at)?;
     if usize::from(flag / 4 % 16) != x / 8 % 16 {
-        return Err(WRONG_BLOCK);
+        return Err(WRONG);
     }
     let at = at + 1;
     match flag % 4 {
@@ -70,12 +85,12 @@ pub(crate) fn read_raw_words(
 fn read_offset(bytes: &[u8], at: usize, kind: u32, code: u8) -> Result<(u64, usize), Refusal> {
     let kind = OFFSET_KINDS[kind as usize][usize::from(code)];
     if kind == NONE {
-        return Err(WRONG_BLOCK);
+        return Err(WRONG);
     }
     let word = part(bytes, at, word_size(kind))?;
     let offset = number(little(word), kind);
     if !is_finite(offset) {
-        return Err(WRONG_BLOCK);
+        return Err(WRONG);
     }
     Ok((offset, at + word.len()))
 }
@@ -91,7 +106,7 @@ fn read_counted(
     let mut counts = [0; MOST_COUNTS];
     let (n, end) = packed_counts(bytes, at, &mut counts)?;
     if n != words.len() {
-        return Err(WRONG_BLOCK);
+        return Err(WRONG);
     }
     for (word, &count) in words.iter_mut().zip(&counts) {
         let value = sum(offset, scaled(header.error, count));

@@ -30,14 +30,15 @@ pub fn walk(
 ) -> Result<(usize, usize), Refusal> {
     let bytes = held(blob, header)?;
     if mask.len() < header.mask_length() || list.len() < header.blocks() {
-        return Err(NO_ROOM);
+        return Err(Refusal::of(NO_ROOM));
     }
     check_ranges(ranges, header)?;
     if header.valid == 0 || ranges.constant {
-        return Err(NOT_BLOCKS);
+        // There is no byte that says so.
+        return Err(Refusal::of(NOT_BLOCKS));
     }
     let Body::Blocks(at) = body_at(bytes, ranges.place, header)? else {
-        return Err(NOT_BLOCKS);
+        return Err(Refusal::at(NOT_BLOCKS, ranges.place));
     };
     let (starts, end) = check_blocks(bytes, header, ranges, mask, at)?;
     list[..starts.len()].copy_from_slice(&starts);
@@ -57,13 +58,13 @@ pub fn fill(
 ) -> Result<usize, Refusal> {
     let bytes = held(blob, header)?;
     if number >= header.blocks() {
-        return Err(NO_SUCH_BLOCK);
+        return Err(Refusal::of(NO_SUCH_BLOCK));
     }
     if mask.len() < header.mask_length()
         || list.len() < header.blocks()
         || image.len() < header.cells()
     {
-        return Err(NO_ROOM);
+        return Err(Refusal::of(NO_ROOM));
     }
     check_ranges(ranges, header)?;
     fill_block(bytes, header, ranges, mask, list[number], number, image)
@@ -86,7 +87,7 @@ pub fn read(
         || list.len() < header.blocks()
         || image.len() < header.cells()
     {
-        return Err(NO_ROOM);
+        return Err(Refusal::of(NO_ROOM));
     }
     let in_force = mask_in_force(bytes, &header, reuse, kept, spare)?;
     let mask = match in_force {
@@ -133,21 +134,23 @@ fn read_body(
     }
 }
 
+/// A refusal's place is the sweep or the mode byte's, whichever is missing or
+/// wrong.
 fn body_at(bytes: &[u8], place: usize, header: &Header) -> Result<Body, Refusal> {
     let sweep = byte(bytes, place)?;
     let at = place + 1;
     match sweep {
         0 => {}
         1 => return Ok(Body::Raw(at)),
-        _ => return Err(WRONG_BLOCK),
+        _ => return Err(Refusal::at(WRONG_BLOCK, place)),
     }
     if header.kind > 1 || header.error != ERROR_OF_MODES {
         return Ok(Body::Blocks(at));
     }
     match byte(bytes, at)? {
         0 => Ok(Body::Blocks(at + 1)),
-        1 | 2 => Err(NOT_BLOCKS),
-        _ => Err(WRONG_BLOCK),
+        1 | 2 => Err(Refusal::at(NOT_BLOCKS, at)),
+        _ => Err(Refusal::at(WRONG_BLOCK, at)),
     }
 }
 
@@ -219,11 +222,13 @@ fn write_raw(
     image: &mut [u64],
 ) -> Result<usize, Refusal> {
     let depths = header.depth as usize;
-    let pixel_bytes = depths * word_size(header.kind);
+    let word_bytes = word_size(header.kind);
+    let pixel_bytes = depths * word_bytes;
     let end = at + header.valid as usize * pixel_bytes;
     // All words must be there before a cell is written.
     if end > bytes.len() {
-        return Err(PASSES_SIZE);
+        let whole_words = (bytes.len() - at) / word_bytes;
+        return Err(Refusal::at(PASSES_SIZE, at + whole_words * word_bytes));
     }
     let valid = (0..header.pixels()).filter(|&pixel| is_valid(mask, pixel));
     for (nth, pixel) in valid.enumerate() {

@@ -2,14 +2,19 @@
 
 use crate::refusal::{Refusal, PASSES_SIZE};
 
+/// What is missing is told by its first byte, wherever that is.
 pub(crate) fn part(bytes: &[u8], at: usize, length: usize) -> Result<&[u8], Refusal> {
     // A place given by a caller may be any number, so the sum may pass usize.
-    let end = at.checked_add(length).ok_or(PASSES_SIZE)?;
-    bytes.get(at..end).ok_or(PASSES_SIZE)
+    let end = at.checked_add(length).ok_or(missing(at))?;
+    bytes.get(at..end).ok_or(missing(at))
 }
 
 pub(crate) fn byte(bytes: &[u8], at: usize) -> Result<u8, Refusal> {
-    bytes.get(at).copied().ok_or(PASSES_SIZE)
+    bytes.get(at).copied().ok_or(missing(at))
+}
+
+fn missing(at: usize) -> Refusal {
+    Refusal::at(PASSES_SIZE, at)
 }
 
 /// At most eight bytes as an unsigned number, the lowest byte first.

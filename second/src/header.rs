@@ -64,9 +64,9 @@ impl Header {
 }
 
 pub fn read_header(blob: &[u8]) -> Result<Header, Refusal> {
-    let bytes = blob.get(..HEADER_BYTES).ok_or(PASSES_SIZE)?;
+    let bytes = blob.get(..HEADER_BYTES).ok_or(Refusal::of(PASSES_SIZE))?;
     if !bytes.starts_with(KEY) || little(&bytes[6..10]) != VERSION {
-        return Err(WRONG_KEY);
+        return Err(Refusal::of(WRONG_KEY));
     }
     let narrow = |at: usize| little(&bytes[at..at + 4]) as u32;
     let wide = |at: usize| little(&bytes[at..at + 8]);
@@ -92,11 +92,12 @@ pub fn read_header(blob: &[u8]) -> Result<Header, Refusal> {
 /// so that nobody can look at the bytes after it.
 pub(crate) fn held<'a>(blob: &'a [u8], header: &Header) -> Result<&'a [u8], Refusal> {
     if !fields_right(header) {
-        return Err(WRONG_FIELD);
+        return Err(Refusal::of(WRONG_FIELD));
     }
     if !under_ceilings(header) {
-        return Err(CEILING);
+        return Err(Refusal::of(CEILING));
     }
+    // The blob itself is what is too short, so the place is 0.
     part(blob, 0, header.size as usize)
 }
 

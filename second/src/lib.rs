@@ -5,8 +5,8 @@
 //! handed around as the bits of a binary64; cells are native words, which are
 //! the sample's own bits, zero-extended.
 //!
-//! A refusal is its number alone and leaves every lent slice as it was, except
-//! that an accepted new mask stays in the spare.
+//! A refusal is a number and the place of what is at fault, and leaves every
+//! lent slice as it was, except that an accepted new mask stays in the spare.
 
 mod block;
 mod body;

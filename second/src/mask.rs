@@ -13,6 +13,10 @@ pub enum Mask {
 
 const END_OF_RUNS: i16 = i16::MIN;
 
+/// Whatever is wrong with the section or with a reused mask, the place is that
+/// of the header's number of mask bytes.
+const WRONG: Refusal = Refusal::at(WRONG_MASK, 66);
+
 /// The mask must reach the pixel's byte.
 pub fn is_valid(mask: &[u8], pixel: usize) -> bool {
     mask[pixel / 8] & (128 >> (pixel % 8)) != 0
@@ -28,7 +32,7 @@ pub fn prepare_mask(
     let bytes = held(blob, header)?;
     let length = header.mask_length();
     if kept.len() < length || spare.len() < length {
-        return Err(NO_ROOM);
+        return Err(Refusal::of(NO_ROOM));
     }
     mask_in_force(bytes, header, reuse, kept, spare)
 }
@@ -46,7 +50,7 @@ pub(crate) fn mask_in_force(
     let section = &bytes[HEADER_BYTES..header.after_mask()];
     if header.valid == 0 || header.valid as usize == header.pixels() {
         if !section.is_empty() {
-            return Err(WRONG_MASK);
+            return Err(WRONG);
         }
         spare[..length].fill(if header.valid == 0 { 0 } else { 255 });
         return Ok(Mask::Spare(length));
@@ -76,28 +80,28 @@ fn unpack_runs(section: &[u8], length: usize) -> Result<Vec<u8>, Refusal> {
             let repeated = take(&mut rest, 1)?[0];
             mask.resize(mask.len() + bytes, repeated);
         } else {
-            return Err(WRONG_MASK);
+            return Err(WRONG);
         }
         // Judged at each run, so that a long section costs no memory.
         if mask.len() > length {
-            return Err(WRONG_MASK);
+            return Err(WRONG);
         }
     }
     if !rest.is_empty() || mask.len() != length {
-        return Err(WRONG_MASK);
+        return Err(WRONG);
     }
     Ok(mask)
 }
 
 fn take<'a>(rest: &mut &'a [u8], length: usize) -> Result<&'a [u8], Refusal> {
-    let (taken, after) = rest.split_at_checked(length).ok_or(WRONG_MASK)?;
+    let (taken, after) = rest.split_at_checked(length).ok_or(WRONG)?;
     *rest = after;
     Ok(taken)
 }
 
 fn check_count(mask: &[u8], header: &Header) -> Result<(), Refusal> {
     if count_valid(mask, header.pixels()) != header.valid {
-        return Err(WRONG_MASK);
+        return Err(WRONG);
     }
     Ok(())
 }

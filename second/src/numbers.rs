@@ -194,7 +194,7 @@ fn whole(v: u64, kind: u32) -> Result<u64, Refusal> {
     let value = f64::from_bits(v) as i64;
     let (least, greatest) = LIMITS[kind as usize];
     if !is_finite(v) || value < least || value > greatest {
-        return Err(DOES_NOT_FIT);
+        return Err(Refusal::of(DOES_NOT_FIT));
     }
     Ok(value as u64 & (u64::MAX >> (64 - 8 * word_size(kind))))
 }

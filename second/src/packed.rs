@@ -7,9 +7,20 @@ pub const MOST_COUNTS: usize = 256;
 
 const TABLE: u8 = 32;
 
+const WRONG: Refusal = Refusal::of(WRONG_BLOCK);
+
 /// Reads the counts that begin at `at`; gives how many and where they end.
-/// Later entries of `counts` stay, and all of them if refused.
+/// Later entries of `counts` stay, and all of them if refused. A refusal's
+/// place is `at`, whatever of the counts is wrong or missing.
 pub fn packed_counts(
+    bytes: &[u8],
+    at: usize,
+    counts: &mut [u32; MOST_COUNTS],
+) -> Result<(usize, usize), Refusal> {
+    counts_from(bytes, at, counts).map_err(|refusal| refusal.moved(at))
+}
+
+fn counts_from(
     bytes: &[u8],
     at: usize,
     counts: &mut [u32; MOST_COUNTS],
@@ -19,11 +30,11 @@ pub fn packed_counts(
         0 => 4,
         1 => 2,
         2 => 1,
-        _ => return Err(WRONG_BLOCK),
+        _ => return Err(WRONG),
     };
     let n = little(part(bytes, at + 1, width)?) as usize;
     if n > MOST_COUNTS {
-        return Err(WRONG_BLOCK);
+        return Err(WRONG);
     }
     let at = at + 1 + width;
     let bits = usize::from(head % 32);
@@ -44,11 +55,11 @@ fn plain_counts(bytes: &[u8], at: usize, bits: usize, out: &mut [u32]) -> Result
 
 fn table_counts(bytes: &[u8], at: usize, bits: usize, out: &mut [u32]) -> Result<usize, Refusal> {
     if bits == 0 {
-        return Err(WRONG_BLOCK);
+        return Err(WRONG);
     }
     let entries = usize::from(byte(bytes, at)?);
     if entries < 2 {
-        return Err(WRONG_BLOCK);
+        return Err(WRONG);
     }
     // Entry 0 is zero and not stored.
     let stored = part(bytes, at + 1, run_length(entries - 1, bits))?;
@@ -63,7 +74,7 @@ fn table_counts(bytes: &[u8], at: usize, bits: usize, out: &mut [u32]) -> Result
     unpack(run, width, indices);
     // All are judged before any count is written.
     if indices.iter().any(|&index| index as usize >= entries) {
-        return Err(WRONG_BLOCK);
+        return Err(WRONG);
     }
     for (count, &index) in out.iter_mut().zip(indices.iter()) {
         *count = table[index as usize];

@@ -40,7 +40,10 @@ pub(crate) fn ranges_of(bytes: &[u8], header: &Header) -> Result<Ranges, Refusal
     let (minima, maxima) = run.split_at(length);
     read_numbers(minima, header.kind, &mut ranges.min);
     read_numbers(maxima, header.kind, &mut ranges.max);
-    check_ranges(&ranges, header)?;
+    if let Some(nth) = first_wrong(&ranges, depth) {
+        let place = ranges.place + nth * word_size(header.kind);
+        return Err(Refusal::at(WRONG_RANGE, place));
+    }
     ranges.place += 2 * length;
     let constant = pairs(&ranges, header).all(|(min, max)| same(min, max));
     Ok(Ranges { constant, ..ranges })
@@ -52,14 +55,28 @@ fn read_numbers(run: &[u8], kind: u32, out: &mut [u64; MOST_DEPTH]) {
     }
 }
 
-/// What ranges are held to, whether read or given by a caller.
+/// Holds ranges that a caller gives to the rules. They are not in the blob, so
+/// a refusal has no place.
 pub(crate) fn check_ranges(ranges: &Ranges, header: &Header) -> Result<(), Refusal> {
-    let right = |(min, max)| is_finite(min) && is_finite(max) && !less(max, min);
-    if pairs(ranges, header).all(right) {
-        Ok(())
-    } else {
-        Err(WRONG_RANGE)
+    match first_wrong(ranges, header.depth as usize) {
+        Some(_) => Err(Refusal::of(WRONG_RANGE)),
+        None => Ok(()),
     }
+}
+
+/// The first wrong number, depth by depth, counted as they stand in a blob: all
+/// minima, then all maxima. Of a crossed pair it is the maximum.
+fn first_wrong(ranges: &Ranges, depths: usize) -> Option<usize> {
+    (0..depths).find_map(|depth| {
+        let (min, max) = (ranges.min[depth], ranges.max[depth]);
+        if !is_finite(min) {
+            Some(depth)
+        } else if !is_finite(max) || less(max, min) {
+            Some(depths + depth)
+        } else {
+            None
+        }
+    })
 }
 
 fn pairs<'a>(ranges: &'a Ranges, header: &Header) -> impl Iterator<Item = (u64, u64)> + 'a {

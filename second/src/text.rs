@@ -13,12 +13,12 @@ pub const MOST_CELLS: usize = 4_096;
 
 /// What the program writes for an input.
 pub fn program_text(blob: &[u8]) -> String {
-    image_text(blob).unwrap_or_else(|refusal| format!("refused {refusal}\n"))
+    image_text(blob).unwrap_or_else(|refusal| format!("{refusal}\n"))
 }
 
 fn image_text(blob: &[u8]) -> Result<String, Refusal> {
     if blob.len() > MOST_BYTES {
-        return Err(CEILING);
+        return Err(Refusal::of(CEILING));
     }
     // There are no more pixels than cells, and no more blocks either.
     let mut kept = [0; MOST_CELLS / 8];

@@ -1,11 +1,12 @@
 #!/usr/bin/env python3
-"""Runs the C examples on the stored blobs of lerc_fill_cases and compares what they write with Esri's cells.
+"""Runs the C examples on the stored blobs of lerc_fill_cases and compares what they write with Esri's cells; then on blobs that are
+refused (refused.py), and compares number and place.
 
     python3 tests/c/run.py FOLDER [EMULATOR AND ITS WORDS]      FOLDER has the programs read and blocks (target/examples)
 
 In data blob i is file 2i and what Esri's decoder gave for it file 2i + 1 (its form is in tests/fill/make.py). What data/names
-calls planted has a wrong expectation, and must differ. Ends with status 1 if anything else differs or a planted one does
-not, 2 if it could not be run.
+calls planted has a wrong expectation, and must differ; so have the refusals that refused.py plants. Ends with status 1 if
+anything else differs or a planted one does not, 2 if it could not be run.
 """
 import glob
 import os
@@ -13,6 +14,9 @@ import shutil
 import struct
 import subprocess
 import sys
+
+sys.dont_write_bytecode = True
+import refused  # noqa: E402
 
 DATA = os.path.join(os.path.dirname(os.path.abspath(__file__)), '../../crates/lerc_fill_cases/data')
 WORD = ('B', 'B', 'H', 'H', 'I', 'I', 'I', 'Q')
@@ -50,6 +54,30 @@ def fits(e, lines):
             and words == e.valid * e.depth and lines[-len(e.cells):] == e.lines())
 
 
+def last_line(command, blob):
+    """the status, and the last line that was written"""
+    ran = subprocess.run(command, input=blob, stdout=subprocess.PIPE)
+    return ran.returncode, (ran.stdout.decode().splitlines() or [''])[-1]
+
+
+def same_refusal(commands, blob, lines):
+    """whether each program ends in its line, with status 1; where there is none the blob is accepted"""
+    said = [(last_line(command, blob), line) for command, line in zip(commands, lines)]
+    return all(got == (1, line) if line else got[0] == 0 for got, line in said)
+
+
+def compare_refusals(commands):
+    """how many refusals differ, or are planted and do not"""
+    cases, planted = refused.cases(), list(refused.planted())
+    differ = [name for name, blob, *lines in cases if not same_refusal(commands, blob, lines)]
+    missed = [name for name, blob, *lines in planted if same_refusal(commands, blob, lines)]
+    for name in differ + missed:
+        print('%s: the refusal %s' % (name, 'does not show what was planted' if name in missed else 'differs'))
+    print('%d refusals with their places, by read and by blocks: %d differ' % (len(cases), len(differ)))
+    print('%d planted refusals that must differ' % len(planted))
+    return len(differ) + len(missed)
+
+
 def wrong(why):
     print('run.py: %s; usage: python3 tests/c/run.py FOLDER [EMULATOR AND ITS WORDS]' % why, file=sys.stderr)
     return 2
@@ -83,6 +111,7 @@ def main():
         cells += 0 if misled else e.valid * e.depth
     print('%d blobs, %d valid cells, by read and by blocks: %d differ' % (len(planted) - found, cells, differ))
     print('%d planted expectations that must differ' % found)
+    differ += compare_refusals([emulator + [os.path.join(folder, name)] for name in ('read', 'blocks')])
     return 1 if differ or not found or len(files) != 2 * len(planted) else 0
 
 

@@ -5,8 +5,9 @@
 
 In crates/lerc_program_cases/data input i is file i, and `names` lists them with the sentence of the rules; crates/lerc_program_cases/stdout
 has for each a line with its number and length, then its text. No text comes from the program under test: the blobs are encoded here from
-cells that are known beforehand, and a refusal's number is written beside its blob. The blocks and the end of an encoded blob must be those
-that tests/read/blobs.py measures.
+cells that are known beforehand, and a refusal's number is written beside its blob; its place is worked out from the blob by the words of
+the rules (tests/read/offsets.py), and is 0 where they name none. The blocks and the end of an encoded blob must be those that
+tests/read/blobs.py measures.
 """
 import glob
 import os
@@ -16,11 +17,14 @@ import sys
 ROOT = os.path.join(os.path.dirname(os.path.abspath(__file__)), '../..')
 sys.path.insert(0, os.path.join(ROOT, 'tests/read'))
 import blobs  # noqa: E402
-from blobs import CODES, SIZES, changed, made  # noqa: E402
+from blobs import CODES, changed, made  # noqa: E402
 from hand import BLOCK, P7, WHOLE, hexed, pairs, u32  # noqa: E402
+from offsets import FIRST, FLAG, FRONT, NUMBER, WORD  # noqa: E402
+from offsets import MASK_BYTES, flag_at, mode_at, ranges_at, raw_word_at, sweep_at, wrong_range_at  # noqa: E402
 
 CASES = os.path.join(ROOT, 'crates/lerc_program_cases')
 BYTES, CELLS = 16384, 4096
+NAN = float('nan')
 RULES = """width 3 height 1 depth 1 kind 1 valid 3
 blocks 1
 cell 0 10
@@ -41,8 +45,8 @@ RAW, PACKED, ZERO, LEVEL, TABLE = 0, 1, 2, 3, 5
 # --- texts ------------------------------------------------------------------------------------------------------------------------
 
 
-def refused(number):
-    return 'refused %d\n' % number
+def refused(number, place=0):
+    return 'refused %d at %d\n' % (number, place)
 
 
 def word(value, kind):
@@ -225,10 +229,10 @@ def sizes():
 
 
 def wrong_last(blob):
-    """other check bits in the last block"""
+    """other check bits in the last block, and where it begins"""
     h = blobs.header(blob)
     at = blobs.body(blob, h, blobs.mask_of(blob, h)[0])[1][-1]
-    return changed(blob, at, bytes([blob[at] ^ 4]))
+    return changed(blob, at, bytes([blob[at] ^ 4])), at
 
 
 def refusals():
@@ -236,26 +240,51 @@ def refusals():
     yield 'another key', 'key or version differs: 2', changed(whole, 0, b'M'), refused(2)
     yield 'kind 8', 'a header field breaks its rule: 3', changed(whole, 38, u32(8)), refused(3)
     yield 'side 17', 'a ceiling is passed: 4', changed(whole, 30, u32(17)), refused(4)
-    yield 'a mask run of 0', 'any breach is 6', made(BLOCK, columns=10, valid=3, side=16, mask=hexed('0000 0080')), refused(6)
-    yield 'a mask that would be reused', 'no reuse: 6', made(BLOCK, columns=10, valid=3, side=16), refused(6)
+    yield 'a mask run of 0', 'any breach is 6', made(BLOCK, columns=10, valid=3, side=16, mask=hexed('0000 0080')), refused(6, MASK_BYTES)
+    yield 'a mask that would be reused', 'no reuse: 6', made(BLOCK, columns=10, valid=3, side=16), refused(6, MASK_BYTES)
     masked = made(BLOCK, columns=10, valid=3, side=16, mask=P7)
     clamped = 'the lesser of 10 + 2·q·error (1) and the maximum, 12, for the counts 0 1 2'
     yield 'the same with its mask', clamped, masked, text(masked, [10, None, 12] + [None] * 6 + [12], 1, len(masked))
-    yield 'crossed ranges', 'maximum less than minimum: 7', made(hexed('0C0A 00030B')), refused(7)
-    yield 'sweep byte 2', 'others are 8', made(hexed('0A0C02')), refused(8)
-    yield 'check bits', '(flag/4)%16 must equal (x/8)%16: 8', made(hexed('0A0C00 050A820324')), refused(8)
-    late = encoded([p % 50 for p in range(256)], 16, 16)[0]
-    yield 'a last block that is wrong', '(flag/4)%16 must equal (x/8)%16: 8', wrong_last(late), refused(8)
+    crossed, sweep, check = (made(hexed(tail)) for tail in ('0C0A 00030B', '0A0C02', '0A0C00 050A820324'))
+    yield 'crossed ranges', 'maximum less than minimum: 7', crossed, refused(7, wrong_range_at(crossed))
+    yield 'sweep byte 2', 'others are 8', sweep, refused(8, sweep_at(sweep))
+    yield 'check bits', '(flag/4)%16 must equal (x/8)%16: 8', check, refused(8, flag_at(check, 0))
+    late, last = wrong_last(encoded([p % 50 for p in range(256)], 16, 16)[0])
+    assert last == flag_at(late, 3)
+    yield 'a last block that is wrong', '(flag/4)%16 must equal (x/8)%16: 8', late, refused(8, last)
     yield 'a constant of 300', 'kinds 0 to 5 refuse outside the range: 9', made(b'', low=300.0, high=300.0), refused(9)
-    yield 'mode byte 1', 'mode byte 1, 2 refused 10', made(hexed('0A0C0001'), error=0.5), refused(10)
-    yield 'ranges cut', 'a number passes the declared size: 1', made(pairs(2, 10, 12)[:3], kind=2), refused(1)
+    mode, cut = made(hexed('0A0C0001'), error=0.5), made(pairs(2, 10, 12)[:3], kind=2)
+    yield 'mode byte 1', 'mode byte 1, 2 refused 10', mode, refused(10, mode_at(mode))
+    yield 'ranges cut', 'a number passes the declared size: 1', cut, refused(1, ranges_at(cut))
+
+
+def places():
+    """a refusal at each place that the rules name, some of them behind a mask"""
+    masked = dict(columns=10, valid=3, side=16, mask=P7)
+    for name, tail, number, where, named in (('no sweep byte', '0A0C', 1, sweep_at, {}), ('sweep byte 2 behind a mask', '0A0C02', 8, sweep_at, masked),
+                                             ('no mode byte', '0A0C00', 1, mode_at, dict(error=0.5)),
+                                             ('mode byte 3', '0A0C0003', 8, mode_at, dict(error=0.5))):
+        blob = made(hexed(tail), **named)
+        yield name, FRONT, blob, refused(number, where(blob))
+    for name, tail, number, block, named in (('no flag byte', '0A0C00', 1, 0, {}), ('a run cut in block 1', '0A0A0C0C00 030B 010A8203', 1, 1, dict(depth=2)),
+                                             ('no such offset in block 1', '0A0A0C0C00 030B 430A', 8, 1, dict(depth=2, **masked))):
+        blob = made(hexed(tail), **named)
+        yield name, FLAG, blob, refused(number, flag_at(blob, block))
+    for name, numbers in (('a maximum before a minimum of the next depth', (1, NAN, 0, 3)), ('a minimum of the next depth', (1, NAN, 2, 3))):
+        blob = made(struct.pack('<4f', *numbers), depth=2, kind=6)
+        yield name, NUMBER, blob, refused(7, wrong_range_at(blob))
+    for name, words in (('raw, cut in its second word', '0A000B'), ('raw, without a word', '')):
+        blob = made(pairs(3, 10, 12) + b'\1' + hexed(words), kind=3, **masked)
+        yield name, WORD, blob, refused(1, raw_word_at(blob))
+    cut = made(pairs(3, 10, 12)[:3], kind=3, **masked)
+    yield 'ranges cut behind a mask', FIRST, cut, refused(1, ranges_at(cut))
 
 
 def write():
     for old in glob.glob(CASES + '/data/*'):
         os.remove(old)
     with open(CASES + '/data/names', 'w') as names, open(CASES + '/stdout', 'w') as out:
-        for i, (name, sentence, blob, said) in enumerate([*lengths(), *bodies(), *kinds(), *sizes(), *refusals()]):
+        for i, (name, sentence, blob, said) in enumerate([*lengths(), *bodies(), *kinds(), *sizes(), *refusals(), *places()]):
             with open('%s/data/%03d' % (CASES, i), 'wb') as f:
                 f.write(blob)
             names.write('%03d %s: %s\n' % (i, name, sentence))
@@ -263,4 +292,7 @@ def write():
 
 
 if __name__ == '__main__':
+    if sys.argv[1:]:
+        print('make.py: unknown word %s; usage: python3 tests/program/make.py' % sys.argv[1], file=sys.stderr)
+        sys.exit(2)
     write()

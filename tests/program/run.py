@@ -3,7 +3,8 @@
 
     python3 tests/program/run.py
 
-Its status must be 1 after a refusal and 0 otherwise. Ends with status 1 if anything differs.
+Its status must be 1 after a refusal and 0 otherwise. With --explain a refusal must have one sentence more, to standard error, and
+nothing else may change. Ends with status 1 if anything differs.
 """
 import os
 import re
@@ -12,6 +13,7 @@ import sys
 
 ROOT = os.path.join(os.path.dirname(os.path.abspath(__file__)), '../..')
 CASES = os.path.join(ROOT, 'crates/lerc_program_cases')
+REFUSAL = re.compile(r'refused (\d+) at \d+\n')
 
 
 def texts():
@@ -19,12 +21,20 @@ def texts():
     return re.split(r'^input \d+ bytes \d+\n', open(CASES + '/stdout').read(), flags=re.M)[1:]
 
 
-def differs(i, text):
+def run(i, *words, **streams):
     with open('%s/data/%03d' % (CASES, i), 'rb') as blob:
-        got = subprocess.run([ROOT + '/lerc2'], stdin=blob, stdout=subprocess.PIPE)
-    if got.stdout.decode() == text and got.returncode == text.startswith('refused'):
+        return subprocess.run([ROOT + '/lerc2', *words], stdin=blob, stdout=subprocess.PIPE, text=True, **streams)
+
+
+def differs(i, text):
+    refusal = REFUSAL.fullmatch(text)
+    # the first run may prove, and says so; the second one has nothing to say but the sentence
+    plain, told = run(i), run(i, '--explain', stderr=subprocess.PIPE)
+    sentence = r'lerc2: refused %s: .+\n' % refusal[1] if refusal else ''
+    same = all(got.stdout == text and got.returncode == bool(refusal) for got in (plain, told))
+    if same and re.fullmatch(sentence, told.stderr):
         return False
-    print('input %d: status %d, %d bytes and not the %d of its text' % (i, got.returncode, len(got.stdout), len(text)))
+    print('input %d: status %d, %d bytes and not the %d of its text, or not explained' % (i, plain.returncode, len(plain.stdout), len(text)))
     return True
 
 

@@ -1,9 +1,11 @@
-"""Blobs by hand and what the rules say of them, the sentence of the rules, or of a change request, beside each."""
+"""Blobs by hand and what the rules say of them, the sentence of the rules, or of a change request, beside each. A refusal has its number and
+a site (AT_.., at_block), which is the sentence of its place and works the place out."""
 import struct
 import sys
 
 import blobs
 from blobs import changed, made
+from offsets import AT_MASK, AT_MODE, AT_NUMBER, AT_RANGES, AT_SWEEP, AT_WORD, AT_ZERO, at_block
 
 VERSION = 'key or version differs'
 CEILING = 'a ceiling is passed'
@@ -57,10 +59,16 @@ def room(h):
     return dict(lent_kept=mask + 2, lent_spare=mask + 4, lent_list=blocks + 1, lent_image=cells + 3)
 
 
-def no(name, blob, number, note, spare=b'', before=b'', reuse=False, **lent):
+def refusal(number, site, note, blob, kept=None):
+    """number and place, and the sentences of both"""
+    return dict(number=number, place=site.place(blob, kept), note='%s; the place: %s' % (note, site.sentence))
+
+
+def no(name, blob, number, site, note, spare=b'', before=b'', reuse=False, **lent):
     """a refusal: the kept mask, the list and the image as before"""
     slices = dict(room(blobs.header(blob)), **lent)
-    return dict(name=name, blob=blob, number=number, note=note, spare=spare, before=before, kept=before, reuse=reuse, lent=slices)
+    why = refusal(number, site, note, blob, before)
+    return dict(why, name=name, blob=blob, spare=spare, before=before, kept=before, reuse=reuse, lent=slices)
 
 
 def pairs(kind, low, high):
@@ -176,54 +184,54 @@ def reused():
 
 def short():
     whole = made(WHOLE, error=0.5)
-    yield no('nothing', b'', 1, SHORT)
-    yield no('69-bytes', whole[:69], 1, SHORT)
-    yield no('69-bytes-other-key', b'LERC2 ' + whole[6:69], 1, ORDER)
-    yield no('70-bytes', whole[:70], 1, SHORT)
-    yield no('78-bytes', whole[:78], 1, SHORT)
-    yield no('78-bytes-kind-8', changed(whole, 38, u32(8))[:78], 3, ORDER)
-    yield no('78-bytes-side-17', changed(whole, 30, u32(17))[:78], 4, ORDER)
-    yield no('78-bytes-no-room', whole[:78], 1, ROOM, lent_image=2)
-    yield no('size-16777216', changed(whole, 34, u32(1 << 24)), 1, ORDER)
+    yield no('nothing', b'', 1, AT_ZERO, SHORT)
+    yield no('69-bytes', whole[:69], 1, AT_ZERO, SHORT)
+    yield no('69-bytes-other-key', b'LERC2 ' + whole[6:69], 1, AT_ZERO, ORDER)
+    yield no('70-bytes', whole[:70], 1, AT_ZERO, SHORT)
+    yield no('78-bytes', whole[:78], 1, AT_ZERO, SHORT)
+    yield no('78-bytes-kind-8', changed(whole, 38, u32(8))[:78], 3, AT_ZERO, ORDER)
+    yield no('78-bytes-side-17', changed(whole, 30, u32(17))[:78], 4, AT_ZERO, ORDER)
+    yield no('78-bytes-no-room', whole[:78], 1, AT_ZERO, ROOM, lent_image=2)
+    yield no('size-16777216', changed(whole, 34, u32(1 << 24)), 1, AT_ZERO, ORDER)
 
 
 def keys():
     whole = made(WHOLE, error=0.5)
     for at in range(6):
-        yield no('key-%d' % at, changed(whole, at, bytes([whole[at] ^ 32])), 2, VERSION)
+        yield no('key-%d' % at, changed(whole, at, bytes([whole[at] ^ 32])), 2, AT_ZERO, VERSION)
     for number in (0, 3, 5, 260, 1 << 31 | 4):
-        yield no('version-%d' % number, changed(whole, 6, u32(number)), 2, VERSION)
-    yield no('version-5-rows-0', changed(changed(whole, 6, u32(5)), 14, u32(0)), 2, ORDER)
+        yield no('version-%d' % number, changed(whole, 6, u32(number)), 2, AT_ZERO, VERSION)
+    yield no('version-5-rows-0', changed(changed(whole, 6, u32(5)), 14, u32(0)), 2, AT_ZERO, ORDER)
 
 
 def fields():
     whole = made(WHOLE, error=0.5)
     for name, at in (('rows', 14), ('columns', 18), ('depth', 22), ('side', 30)):
-        yield no(name + '-0', changed(whole, at, u32(0)), 3, RULE)
+        yield no(name + '-0', changed(whole, at, u32(0)), 3, AT_ZERO, RULE)
     for name, at, v in (('valid-4', 26, 4), ('valid-max', 26, 0xFFFFFFFF), ('kind-8', 38, 8), ('kind-max', 38, 0xFFFFFFFF), ('size-69', 34, 69),
                         ('size-0', 34, 0), ('mask-10', 66, 10), ('mask-max', 66, 0xFFFFFFFF)):
-        yield no(name, changed(whole, at, u32(v)), 3, RULE)
+        yield no(name, changed(whole, at, u32(v)), 3, AT_ZERO, RULE)
     for name, at, v in (('error-minus-0', 42, SIGN), ('error-minus-1', 42, SIGN + (1023 << 52)), ('error-2^1023', 42, 2046 << 52),
                         ('error-infinite', 42, INF), ('error-nan', 42, NAN), ('min-infinite', 50, SIGN + INF), ('min-nan', 50, NAN),
                         ('max-infinite', 58, INF), ('max-nan', 58, NAN), ('max-below-min', 58, 1022 << 52)):
-        yield no(name, changed(whole, at, u64(v)), 3, RULE)
-    yield no('kind-8-rows-5000', changed(changed(whole, 38, u32(8)), 14, u32(5000)), 3, ORDER)
-    yield no('size-69-side-17', changed(changed(whole, 34, u32(69)), 30, u32(17)), 3, ORDER)
-    yield no('empty-kind-8', made(b'', valid=0, kind=8), 3, RULE)
+        yield no(name, changed(whole, at, u64(v)), 3, AT_ZERO, RULE)
+    yield no('kind-8-rows-5000', changed(changed(whole, 38, u32(8)), 14, u32(5000)), 3, AT_ZERO, ORDER)
+    yield no('size-69-side-17', changed(changed(whole, 34, u32(69)), 30, u32(17)), 3, AT_ZERO, ORDER)
+    yield no('empty-kind-8', made(b'', valid=0, kind=8), 3, AT_ZERO, RULE)
 
 
 def ceilings():
     whole = made(WHOLE, error=0.5)
     for name, at, v in (('rows-4097', 14, 4097), ('columns-4097', 18, 4097), ('depth-65', 22, 65), ('side-17', 30, 17), ('side-max', 30, 0xFFFFFFFF),
                         ('size-16777217', 34, (1 << 24) + 1), ('size-max', 34, 0xFFFFFFFF)):
-        yield no(name, changed(whole, at, u32(v)), 4, CEILING)
+        yield no(name, changed(whole, at, u32(v)), 4, AT_ZERO, CEILING)
     big = 'ceilings (4): cells (pixels × depth) 4,194,304'
-    yield no('cells-4198400', made(WHOLE, rows=4096, columns=1025), 4, big)
-    yield no('cells-times-depth', made(WHOLE, rows=4096, columns=17, depth=61), 4, big)
-    yield no('pixels-2^32', changed(changed(whole, 14, u32(1 << 16)), 18, u32(1 << 16)), 4, CEILING + ' (the pixels do not fit 32 bits)')
-    yield no('raw-side-17', made(hexed('0A0C01 0A0B0C'), side=17), 4, CEILING + ', whatever the body')
-    yield no('side-17-no-slice', changed(whole, 30, u32(17)), 4, ROOM, lent_kept=0, lent_spare=0, lent_list=0, lent_image=0)
-    yield no('constant-side-17', made(b'', side=17, low=5.0, high=5.0), 4, CEILING + ', whatever the body')
+    yield no('cells-4198400', made(WHOLE, rows=4096, columns=1025), 4, AT_ZERO, big)
+    yield no('cells-times-depth', made(WHOLE, rows=4096, columns=17, depth=61), 4, AT_ZERO, big)
+    yield no('pixels-2^32', changed(changed(whole, 14, u32(1 << 16)), 18, u32(1 << 16)), 4, AT_ZERO, CEILING + ' (the pixels do not fit 32 bits)')
+    yield no('raw-side-17', made(hexed('0A0C01 0A0B0C'), side=17), 4, AT_ZERO, CEILING + ', whatever the body')
+    yield no('side-17-no-slice', changed(whole, 30, u32(17)), 4, AT_ZERO, ROOM, lent_kept=0, lent_spare=0, lent_list=0, lent_image=0)
+    yield no('constant-side-17', made(b'', side=17, low=5.0, high=5.0), 4, AT_ZERO, CEILING + ', whatever the body')
 
 
 def rooms():
@@ -231,17 +239,17 @@ def rooms():
              ('constant-ranges', made(hexed('0A0A'))), ('empty', made(b'', valid=0)))
     for form, blob in forms:
         for name, n in (('kept', 0), ('spare', 0), ('list', 0), ('image', 2)):
-            yield no('%s-%s-short' % (form, name), blob, 5, ROOM, **{'lent_' + name: n})
+            yield no('%s-%s-short' % (form, name), blob, 5, AT_ZERO, ROOM, **{'lent_' + name: n})
     wide = made(b'', columns=10, depth=3, valid=3, mask=P7, low=5.0, high=5.0)
     for name, n in (('kept', 1), ('spare', 1), ('list', 5), ('image', 29)):
-        yield no('masked-%s-short' % name, wide, 5, ROOM, **{'lent_' + name: n})
+        yield no('masked-%s-short' % name, wide, 5, AT_ZERO, ROOM, **{'lent_' + name: n})
     none = made(hexed('0A0C01 0A0B0C'), columns=10, valid=3)
-    yield no('reuse-kept-short', none, 5, ROOM, before=THREE[:1], reuse=True, lent_kept=1)
-    yield no('reuse-spare-short', none, 5, ROOM + ' (the spare too, though the kept mask would do)', before=THREE, reuse=True, lent_spare=1)
+    yield no('reuse-kept-short', none, 5, AT_ZERO, ROOM, before=THREE[:1], reuse=True, lent_kept=1)
+    yield no('reuse-spare-short', none, 5, AT_ZERO, ROOM + ' (the spare too, though the kept mask would do)', before=THREE, reuse=True, lent_spare=1)
     wrong = made(hexed('0A0C01 0A0B0C'), columns=10, valid=3, mask=b'\x00\x00')
-    yield no('mask-wrong-list-short', wrong, 5, ROOM, lent_list=0)
-    yield no('no-slice', made(WHOLE, error=0.5), 5, ROOM, lent_kept=0, lent_spare=0, lent_list=0, lent_image=0)
-    yield no('cells-4194304', made(b'', rows=4096, columns=1024, side=16, low=5.0, high=5.0), 5, ROOM)
+    yield no('mask-wrong-list-short', wrong, 5, AT_ZERO, ROOM, lent_list=0)
+    yield no('no-slice', made(WHOLE, error=0.5), 5, AT_ZERO, ROOM, lent_kept=0, lent_spare=0, lent_list=0, lent_image=0)
+    yield no('cells-4194304', made(b'', rows=4096, columns=1024, side=16, low=5.0, high=5.0), 5, AT_ZERO, ROOM)
 
 
 def masks():
@@ -253,72 +261,77 @@ def masks():
              ('four-valid', '0200A0C0 0080', 'valid pixels must number `valid`'), ('past-the-pixels', '0200A001 0080', 'valid pixels must number `valid`'),
              ('second-run-long', '0100A0 FEFF40 0080', ENDS))
     for name, section, note in wrong:
-        yield no('mask-' + name, made(BLOCK, columns=10, valid=3, side=16, mask=hexed(section)), 6, note)
+        yield no('mask-' + name, made(BLOCK, columns=10, valid=3, side=16, mask=hexed(section)), 6, AT_MASK, note)
     text = 'valid 0 gives all 0, valid = pixels all 255; mask bytes must then be 0'
-    yield no('mask-none-valid', made(b'', columns=10, valid=0, mask=hexed('FEFF00 0080')), 6, text)
-    yield no('mask-all-valid', made(BLOCK, columns=10, mask=hexed('FEFFFF 0080')), 6, text)
+    yield no('mask-none-valid', made(b'', columns=10, valid=0, mask=hexed('FEFF00 0080')), 6, AT_MASK, text)
+    yield no('mask-all-valid', made(BLOCK, columns=10, mask=hexed('FEFFFF 0080')), 6, AT_MASK, text)
     none, kept = made(BLOCK, columns=10, valid=3, side=16), 'mask bytes 0 means the kept mask, if the caller allows reuse'
-    yield no('no-reuse', none, 6, kept, before=THREE)
-    yield no('reuse-two-valid', none, 6, 'valid pixels must number `valid`', before=b'\xA0\x00', reuse=True)
-    yield no('reuse-all-valid', none, 6, 'valid pixels must number `valid`', before=b'\xFF\xFF', reuse=True)
-    yield no('reuse-bits-past', none, 6, 'valid pixels must number `valid`', before=b'\xA0\x01', reuse=True)
-    yield no('mask-wrong-reuse', made(BLOCK, columns=10, valid=3, side=16, mask=hexed('0000 0080')), 6, MASK, before=THREE, reuse=True)
+    yield no('no-reuse', none, 6, AT_MASK, kept, before=THREE)
+    yield no('reuse-two-valid', none, 6, AT_MASK, 'valid pixels must number `valid`', before=b'\xA0\x00', reuse=True)
+    yield no('reuse-all-valid', none, 6, AT_MASK, 'valid pixels must number `valid`', before=b'\xFF\xFF', reuse=True)
+    yield no('reuse-bits-past', none, 6, AT_MASK, 'valid pixels must number `valid`', before=b'\xA0\x01', reuse=True)
+    yield no('mask-wrong-reuse', made(BLOCK, columns=10, valid=3, side=16, mask=hexed('0000 0080')), 6, AT_MASK, MASK, before=THREE, reuse=True)
     crossed = made(hexed('0C0A02'), columns=10, valid=3, side=16, mask=hexed('0200A000 0080'))
-    yield no('mask-wrong-ranges-wrong', crossed, 6, FRONT)
-    yield no('mask-wrong-constant-300', made(b'', columns=10, valid=3, mask=hexed('0080'), low=300.0, high=300.0), 6, FRONT)
+    yield no('mask-wrong-ranges-wrong', crossed, 6, AT_MASK, FRONT)
+    yield no('mask-wrong-constant-300', made(b'', columns=10, valid=3, mask=hexed('0080'), low=300.0, high=300.0), 6, AT_MASK, FRONT)
 
 
 def cut_tails():
-    for name, tail, note in (('ranges', '0A', FIT), ('sweep', '0A0C', FIELD), ('flag', '0A0C00', FIELD), ('offset', '0A0C00 01', FIELD),
-                             ('counts', '0A0C00 010A', FIELD), ('count', '0A0C00 010A82', FIELD), ('count-of-4', '0A0C00 010A02030000', FIELD),
-                             ('count-of-2', '0A0C00 010A4203', FIELD), ('packed', '0A0C00 010A8203', RUN), ('count-bits-0', '0A0C00 010AA0', ENTRIES),
-                             ('entries', '0A0C00 010AA403', FIELD), ('table', '0A0C00 010AA40303', RUN), ('indices', '0A0C00 010AA4030395', RUN),
-                             ('indices-high', '0A0C00 010AA80303FFFF', RUN), ('raw', '0A0C01 0A0B', FIELD), ('raw-none', '0A0C01', FIELD),
-                             ('raw-block', '0A0C00 000A0B', FIELD), ('raw-block-none', '0A0C00 00', FIELD)):
-        yield 'no-' + name, hexed(tail), {}, 1, note
-    yield 'no-mode', hexed('0A0C00'), dict(error=0.5), 1, FIELD
-    yield 'ranges-nan-cut', hexed('0000C07F 000080'), dict(kind=6), 1, FIT
-    yield 'offset-of-8-cut', pairs(7, 10.0, 12.0) + hexed('00 03 00000000000026'), dict(kind=7), 1, FIELD
-    for name, tail in (('packed', '0A0C00 010A820324'), ('offset', '0A0C00 030B'), ('raw', '0A0C01 0A0B0C')):
-        yield 'behind-size-' + name, hexed(tail), dict(less=1), 1, FIELD
+    block = at_block(0)
+    for name, tail, where, note in (('ranges', '0A', AT_RANGES, FIT), ('sweep', '0A0C', AT_SWEEP, FIELD), ('flag', '0A0C00', block, FIELD),
+                                    ('offset', '0A0C00 01', block, FIELD), ('counts', '0A0C00 010A', block, FIELD),
+                                    ('count', '0A0C00 010A82', block, FIELD), ('count-of-4', '0A0C00 010A02030000', block, FIELD),
+                                    ('count-of-2', '0A0C00 010A4203', block, FIELD), ('packed', '0A0C00 010A8203', block, RUN),
+                                    ('count-bits-0', '0A0C00 010AA0', block, ENTRIES), ('entries', '0A0C00 010AA403', block, FIELD),
+                                    ('table', '0A0C00 010AA40303', block, RUN), ('indices', '0A0C00 010AA4030395', block, RUN),
+                                    ('indices-high', '0A0C00 010AA80303FFFF', block, RUN), ('raw', '0A0C01 0A0B', AT_WORD, FIELD),
+                                    ('raw-none', '0A0C01', AT_WORD, FIELD), ('raw-block', '0A0C00 000A0B', block, FIELD),
+                                    ('raw-block-none', '0A0C00 00', block, FIELD)):
+        yield 'no-' + name, hexed(tail), {}, 1, where, note
+    yield 'no-mode', hexed('0A0C00'), dict(error=0.5), 1, AT_MODE, FIELD
+    yield 'ranges-nan-cut', hexed('0000C07F 000080'), dict(kind=6), 1, AT_RANGES, FIT
+    yield 'offset-of-8-cut', pairs(7, 10.0, 12.0) + hexed('00 03 00000000000026'), dict(kind=7), 1, block, FIELD
+    for name, tail, where in (('packed', '0A0C00 010A820324', block), ('offset', '0A0C00 030B', block), ('raw', '0A0C01 0A0B0C', AT_WORD)):
+        yield 'behind-size-' + name, hexed(tail), dict(less=1), 1, where, FIELD
 
 
 def pair_tails():
-    yield 'range-crossed', hexed('0C0A 00030B'), {}, 7, PAIR
-    yield 'range-crossed-only', hexed('0C0A'), {}, 7, PAIR
-    yield 'range-crossed-sweep-2', hexed('0C0A 02'), {}, 7, FRONT
-    yield 'range-infinite', hexed('0000803F 0000807F 00'), dict(kind=6), 7, PAIR
-    yield 'range-minus-infinite', hexed('000080FF 0000803F 00'), dict(kind=6), 7, PAIR
-    yield 'range-nan', struct.pack('<2Q', NAN, 0) + b'\0', dict(kind=7), 7, PAIR
-    yield 'range-nan-above', struct.pack('<2Q', 0, NAN) + b'\0', dict(kind=7), 7, PAIR
-    yield 'range-second-depth', hexed('0A0A 0C09 01'), dict(depth=2), 7, PAIR
-    yield 'range-signed', pairs(0, 5, -5) + b'\1', dict(kind=0), 7, PAIR
+    yield 'range-crossed', hexed('0C0A 00030B'), {}, 7, AT_NUMBER, PAIR
+    yield 'range-crossed-only', hexed('0C0A'), {}, 7, AT_NUMBER, PAIR
+    yield 'range-crossed-sweep-2', hexed('0C0A 02'), {}, 7, AT_NUMBER, FRONT
+    yield 'range-infinite', hexed('0000803F 0000807F 00'), dict(kind=6), 7, AT_NUMBER, PAIR
+    yield 'range-minus-infinite', hexed('000080FF 0000803F 00'), dict(kind=6), 7, AT_NUMBER, PAIR
+    yield 'range-nan', struct.pack('<2Q', NAN, 0) + b'\0', dict(kind=7), 7, AT_NUMBER, PAIR
+    yield 'range-nan-above', struct.pack('<2Q', 0, NAN) + b'\0', dict(kind=7), 7, AT_NUMBER, PAIR
+    yield 'range-second-depth', hexed('0A0A 0C09 01'), dict(depth=2), 7, AT_NUMBER, PAIR
+    yield 'range-signed', pairs(0, 5, -5) + b'\1', dict(kind=0), 7, AT_NUMBER, PAIR
 
 
 def byte_tails():
     for sweep in (2, 3, 128, 255):
-        yield 'sweep-%d' % sweep, hexed('0A0C') + bytes([sweep]) + b'\x0A\x0B\x0C', {}, 8, SWEEP
+        yield 'sweep-%d' % sweep, hexed('0A0C') + bytes([sweep]) + b'\x0A\x0B\x0C', {}, 8, AT_SWEEP, SWEEP
     for mode in (3, 4, 255):
-        yield 'mode-%d' % mode, hexed('0A0C00') + bytes([mode]) + hexed('010A820324'), dict(error=0.5), 8, MODE + '; others 8'
+        yield 'mode-%d' % mode, hexed('0A0C00') + bytes([mode]) + hexed('010A820324'), dict(error=0.5), 8, AT_MODE, MODE + '; others 8'
     for kind in (0, 1):
         for mode in (1, 2):
-            yield 'mode-%d-kind-%d' % (mode, kind), hexed('0A0C00') + bytes([mode]), dict(error=0.5, kind=kind), 10, MODE
+            yield 'mode-%d-kind-%d' % (mode, kind), hexed('0A0C00') + bytes([mode]), dict(error=0.5, kind=kind), 10, AT_MODE, MODE
     for flag in (0x04, 0x05, 0x3E, 0x43):
-        yield 'check-%02x' % flag, hexed('0A0C00') + bytes([flag]) + hexed('0A820324'), {}, 8, CHECK
-    yield 'second-block', hexed('0A0A 0C0C 00 030A 070B'), dict(depth=2), 8, CHECK + '; a refusal leaves every lent slice unchanged'
-    yield 'second-block-none', hexed('0A0A 0C0C 00 030A'), dict(depth=2), 1, FIELD + '; a refusal leaves every lent slice unchanged'
+        yield 'check-%02x' % flag, hexed('0A0C00') + bytes([flag]) + hexed('0A820324'), {}, 8, at_block(0), CHECK
+    unchanged = '; a refusal leaves every lent slice unchanged'
+    yield 'second-block', hexed('0A0A 0C0C 00 030A 070B'), dict(depth=2), 8, at_block(1), CHECK + unchanged
+    yield 'second-block-none', hexed('0A0A 0C0C 00 030A'), dict(depth=2), 1, at_block(1), FIELD + unchanged
 
 
 def offset_tails():
     for kind, row in enumerate(blobs.OFFSETS):
         for code in range(len(row), 4):
             tail = pairs(kind, 10, 12) + bytes([0, 64 * code + 1 + 2 * (code % 2)]) + hexed('0A820324') + bytes(8)
-            yield 'offset-kind-%d-code-%d' % (kind, code), tail, dict(kind=kind), 8, TABLE
+            yield 'offset-kind-%d-code-%d' % (kind, code), tail, dict(kind=kind), 8, at_block(0), TABLE
     for name, word in (('infinite', 0x7F800000), ('minus-infinite', 0xFF800000), ('nan', 0x7FC00000)):
-        yield 'offset-' + name, pairs(6, 10, 12) + b'\0\3' + u32(word), dict(kind=6), 8, OFFSET
-        yield 'offset-counts-' + name, pairs(7, 10, 12) + b'\0\x41' + u32(word) + hexed('820324'), dict(kind=7), 8, OFFSET
-    yield 'offset-nan-8', pairs(7, 10, 12) + b'\0\3' + u64(NAN), dict(kind=7), 8, OFFSET
-    yield 'offset-nan-no-counts', pairs(6, 10, 12) + b'\0\1' + u32(0x7FC00000), dict(kind=6), 8, FRONT
+        yield 'offset-' + name, pairs(6, 10, 12) + b'\0\3' + u32(word), dict(kind=6), 8, at_block(0), OFFSET
+        yield 'offset-counts-' + name, pairs(7, 10, 12) + b'\0\x41' + u32(word) + hexed('820324'), dict(kind=7), 8, at_block(0), OFFSET
+    yield 'offset-nan-8', pairs(7, 10, 12) + b'\0\3' + u64(NAN), dict(kind=7), 8, at_block(0), OFFSET
+    yield 'offset-nan-no-counts', pairs(6, 10, 12) + b'\0\1' + u32(0x7FC00000), dict(kind=6), 8, at_block(0), FRONT
 
 
 def count_tails():
@@ -327,10 +340,11 @@ def count_tails():
                                ('n-65536', '0200000100', PACKED), ('n-max', '02FFFFFFFF', PACKED), ('bits-0-table', 'A003', ENTRIES),
                                ('bits-0-table-whole', 'A00303000018', ENTRIES), ('entries-0', 'A40300', ENTRIES), ('entries-1', 'A4030118', ENTRIES),
                                ('p3', 'A40303951C', ENTRIES)):
-        yield 'counts-' + name, hexed('0A0C00 010A' + counts), {}, 8, note
+        yield 'counts-' + name, hexed('0A0C00 010A' + counts), {}, 8, at_block(0), note
 
 
 def tails():
+    """name, what stands behind the mask section, other fields of the header, number, site, sentence"""
     return [*cut_tails(), *pair_tails(), *byte_tails(), *offset_tails(), *count_tails()]
 
 
@@ -342,24 +356,24 @@ def made_small(tail, less=0, **named):
 def behind_masks():
     """each wrong tail behind no mask section, behind a new mask, and behind a reused one: three valid pixels in one tile"""
     reused = 'a mask reused: no slice is written'
-    for name, tail, named, number, note in tails():
-        yield no(name, made_small(tail, **named), number, note + '; ' + SPARE, spare=b'\xFF')
+    for name, tail, named, number, where, note in tails():
+        yield no(name, made_small(tail, **named), number, where, note + '; ' + SPARE, spare=b'\xFF')
         wide = dict(named, columns=10, valid=3, side=16)
-        yield no('masked-' + name, made_small(tail, mask=P7, **wide), number, note + '; ' + SPARE, spare=THREE, before=b'\x11\x22')
-    for name, tail, named, number, note in tails()[::7]:
+        yield no('masked-' + name, made_small(tail, mask=P7, **wide), number, where, note + '; ' + SPARE, spare=THREE, before=b'\x11\x22')
+    for name, tail, named, number, where, note in tails()[::7]:
         wide = dict(named, columns=10, valid=3, side=16)
-        yield no('reused-' + name, made_small(tail, **wide), number, note + '; ' + reused, before=THREE, reuse=True)
+        yield no('reused-' + name, made_small(tail, **wide), number, where, note + '; ' + reused, before=THREE, reuse=True)
 
 
 def values():
     """a constant outside its kind"""
     for kind, value in ((0, 128.0), (0, -129.0), (1, 256.0), (1, 300.0), (1, -1.0), (2, 32768.0), (2, -32769.0), (3, 65536.0), (3, -1.0), (4, 2147483648.0),
                         (4, -2147483649.0), (5, 4294967296.0), (5, -1.0), (1, 1e300), (4, -1e300)):
-        yield no('constant-%d-%s' % (kind, value), made(b'', kind=kind, low=value, high=value), 9, VALUE + '; ' + SPARE, spare=b'\xFF')
+        yield no('constant-%d-%s' % (kind, value), made(b'', kind=kind, low=value, high=value), 9, AT_ZERO, VALUE + '; ' + SPARE, spare=b'\xFF')
     masked = made(b'\x02', columns=10, depth=2, valid=3, mask=P7, low=300.0, high=300.0)
-    yield no('constant-masked', masked, 9, VALUE + '; ' + SPARE, spare=THREE, before=b'\xFF\xFF')
+    yield no('constant-masked', masked, 9, AT_ZERO, VALUE + '; ' + SPARE, spare=THREE, before=b'\xFF\xFF')
     none = made(b'', columns=10, valid=3, low=300.0, high=300.0)
-    yield no('constant-reused', none, 9, VALUE, before=THREE, reuse=True)
+    yield no('constant-reused', none, 9, AT_ZERO, VALUE, before=THREE, reuse=True)
 
 
 def refused():
@@ -375,15 +389,16 @@ def damages(name, blob):
     _, starts, end = blobs.body(blob, h, mask)
     if len(starts) < 3 or end != h['size'] or len(blob) != end:
         return
-    last = starts[-1]
-    yield no(name + '-check', changed(blob, last, bytes([blob[last] ^ 4])), 8, CHECK + ' (the last block); ' + SPARE, spare=mask)
-    yield no(name + '-size', changed(blob, 34, u32(end - 1)), 1, FIELD + ' (the last block); ' + SPARE, spare=mask)
-    yield no(name + '-slice', blob[:-1], 1, SHORT)
+    last, where = starts[-1], at_block(len(starts) - 1)
+    assert where.place(blob, None) == last
+    yield no(name + '-check', changed(blob, last, bytes([blob[last] ^ 4])), 8, where, CHECK + ' (the last block); ' + SPARE, spare=mask)
+    yield no(name + '-size', changed(blob, 34, u32(end - 1)), 1, where, FIELD + ' (the last block); ' + SPARE, spare=mask)
+    yield no(name + '-slice', blob[:-1], 1, AT_ZERO, SHORT)
     if h['mask']:
-        yield no(name + '-valid', changed(blob, 26, u32(h['valid'] - 1)), 6, 'valid pixels must number `valid`')
+        yield no(name + '-valid', changed(blob, 26, u32(h['valid'] - 1)), 6, AT_MASK, 'valid pixels must number `valid`')
     need = blobs.needs(h)
     for slice_name, n in zip(('kept', 'spare', 'list', 'image'), (need[0], need[0], need[1], need[2])):
-        yield no('%s-%s' % (name, slice_name), blob, 5, ROOM, **{'lent_' + slice_name: n - 1})
+        yield no('%s-%s' % (name, slice_name), blob, 5, AT_ZERO, ROOM, **{'lent_' + slice_name: n - 1})
 
 
 def damaged(vectors):

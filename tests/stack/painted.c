@@ -12,7 +12,7 @@ enum { STACK = 1 << 18, PAINT = 0xA5, BYTES = 1 << 20, MASK = 1 << 14, CELLS = 1
 
 static uint8_t stack[STACK] __attribute__((aligned(16)));
 static uint8_t blob[BYTES], kept[MASK], spare[MASK];
-static uint64_t header[LERC2_HEADER], ranges[LERC2_RANGES], image[CELLS], said[LERC2_READ];
+static uint64_t header[LERC2_HEADER], ranges[LERC2_RANGES], image[CELLS], said[LERC2_READ], place[1];
 static size_t size, list[CELLS], count, length;
 static const uint8_t *mask;
 
@@ -37,29 +37,31 @@ NOTED(lerc2_stored);
 
 static uint32_t answer;
 
-static void call_read_header(void) { answer = noted_lerc2_read_header(blob, size, header, LERC2_HEADER); }
+static void call_read_header(void) { answer = noted_lerc2_read_header(blob, size, header, LERC2_HEADER, place, 1); }
 
 static void call_prepare_mask(void) {
-    answer = noted_lerc2_prepare_mask(blob, size, header, LERC2_HEADER, false, kept, MASK, spare, MASK, said, 2);
+    answer = noted_lerc2_prepare_mask(blob, size, header, LERC2_HEADER, false, kept, MASK, spare, MASK, said, 2, place, 1);
 }
 
 static void call_read_ranges(void) {
-    answer = noted_lerc2_read_ranges(blob, size, header, LERC2_HEADER, ranges, LERC2_RANGES);
+    answer = noted_lerc2_read_ranges(blob, size, header, LERC2_HEADER, ranges, LERC2_RANGES, place, 1);
 }
 
 static void call_walk(void) {
-    answer = noted_lerc2_walk(blob, size, header, LERC2_HEADER, ranges, LERC2_RANGES, mask, length, list, CELLS, said, 2);
+    answer = noted_lerc2_walk(blob, size, header, LERC2_HEADER, ranges, LERC2_RANGES, mask, length, list, CELLS, said, 2, place,
+                              1);
 }
 
 static void call_fill(void) {
     for (size_t n = 0; n < count; n++) {
         answer |= noted_lerc2_fill(blob, size, header, LERC2_HEADER, ranges, LERC2_RANGES, mask, length, list, CELLS, n, image,
-                                   CELLS, said, 1);
+                                   CELLS, said, 1, place, 1);
     }
 }
 
 static void call_read(void) {
-    answer = noted_lerc2_read(blob, size, false, kept, MASK, spare, MASK, list, CELLS, image, CELLS, said, LERC2_READ);
+    answer = noted_lerc2_read(blob, size, false, kept, MASK, spare, MASK, list, CELLS, image, CELLS, said, LERC2_READ, place,
+                              1);
 }
 
 /* operands that are far apart, that cancel, that are small and that are not finite */
@@ -100,7 +102,7 @@ static void call_number(void) {
 
 static void call_stored(void) {
     for (size_t n = 0; n < OPERANDS * 8; n++) {
-        result += noted_lerc2_stored(operands[n / 8], (uint32_t)n % 8, said, 1);
+        result += noted_lerc2_stored(operands[n / 8], (uint32_t)n % 8, said, 1, place, 1);
     }
 }
 

@@ -97,8 +97,15 @@ gives 'help' 0 "$repo/lerc2" --help
 for status in '0 decoded' '1 refused' '2 not run' '3 the output was lost'; do
     holds "help names status $status" grep -q "$status" "$out"
 done
-gives 'unknown word' 2 "$repo/lerc2" tile.lerc2
+holds 'help names the form of a refusal' grep -q "'refused N at P'" "$out"
+holds 'help names --explain' grep -q -- '^  ./lerc2 --explain < tile.lerc2 ' "$out"
+for word in tile.lerc2 explain --explained; do
+    gives "unknown word $word" 2 "$repo/lerc2" "$word"
+    says "unknown word $word" 'no word is known but --explain and --help'
+done
 gives 'unknown word after --help' 2 "$repo/lerc2" --help more
+gives 'unknown word after --explain' 2 "$repo/lerc2" --explain more
+gives '--explain twice' 2 "$repo/lerc2" --explain --explain
 no_input() { "$repo/lerc2" <&-; }
 gives 'input closed' 2 no_input
 folder_in() { "$repo/lerc2" <"$ROOM"; }
@@ -229,10 +236,46 @@ gives 'a text without an end' 2 call
 writes 'a text without an end' ''
 program 'exit 3'
 gives 'a program that fails' 2 call
-program "printf 'refused 8\\n'"
+program "printf 'refused 8 at 74\\n'"
 gives 'a refusal' 1 call
-writes 'a refusal' 'refused 8'
+writes 'a refusal' 'refused 8 at 74'
 gives 'a refusal to a full device' 3 lost
+
+# ---- refusals in words: here the program's text is its input
+program cat
+tell() { printf '%s\n' "$1" | "$repo/lerc2" ${2:+"$2"}; } # TEXT [WORD]
+gives 'a text that is told' 0 tell "$decodes"
+gives 'an image, to be explained' 0 tell "$decodes" --explain
+writes 'an image, to be explained' "$decodes"
+is_silent 'an image, to be explained'
+# each number, and whether its sentence names the place
+for told in '1 0 no' '1 72 yes' '2 0 no' '3 0 no' '4 0 no' '5 0 no' '6 66 yes' '7 78 yes' '8 74 yes' '9 0 no' '9 74 yes' '10 73 yes'; do
+    number=${told%% *} place=${told#* } text="refused $number at ${place% *}"
+    gives "$text" 1 tell "$text"
+    writes "$text" "$text"
+    is_silent "$text"
+    gives "$text, explained" 1 tell "$text" --explain
+    writes "$text, explained" "$text"
+    says "$text, explained" "lerc2: refused $number: "
+    holds "$text, explained in one line" [ "$(wc -l <"$err")" -eq 1 ]
+    if [ "${told##* }" = yes ]; then says "$text, explained" " at ${place% *}"; fi
+    sed 's/^lerc2: refused [0-9]*: //' "$err" >>"$ROOM/sentences"
+done
+holds 'each number has its own sentence' [ "$(sort -u "$ROOM/sentences" | wc -l)" -eq 12 ]
+lost_words() { printf 'refused 8 at 74\n' | "$repo/lerc2" --explain >/dev/full; }
+gives 'a refusal to be explained, to a full device' 3 lost_words
+holds 'what is lost is not explained' [ "$(cat "$err")" = 'lerc2: the output could not be written' ]
+for odd in refused 'refused 8' 'refused 8 at' 'refused 8 at ' 'refused at 74' 'refused  at 74' 'refused 8 74' 'refused 0 at 0' 'refused 11 at 0' \
+    'refused 08 at 74' 'refused 80 at 74' 'refused 8 at 074' 'refused 8 at 00' 'refused 8 at -1' 'refused 8 at 7x' 'refused 8 at 74.' \
+    'refused 8 at 74 at 74' 'refused 8  at 74' ' refused 8 at 74' 'Refused 8 at 74' 'refused * at 74' 'width 1
+refused 8 at 74' 'refused 8 at 74
+refused 8 at 74'; do
+    for word in '' --explain; do
+        gives "an odd text: $odd" 2 tell "$odd" "$word"
+        writes "an odd text: $odd" ''
+        holds "an odd text is not explained: $odd" [ "$(cat "$err")" = "lerc2: the program's text has no end" ]
+    done
+done
 right
 
 # ---- the archive, and who links it
@@ -342,12 +385,12 @@ if command -v python3 >/dev/null; then
     # scripts that write stored cases: in a copy, since a wrong word must not change one
     mkdir "$ROOM/stored"
     cp -r tests "$ROOM/stored"
-    for part in header numeric fill read; do
+    for part in header numeric fill read place program; do
         mkdir -p "$ROOM/stored/crates" && cp -r "crates/lerc_${part}_cases" "$ROOM/stored/crates"
     done
     stored() { (cd "$ROOM/stored/crates" && find . -type f -exec sha256sum {} + | sort); }
     stored_before=$(stored)
-    for part in header numeric fill read; do
+    for part in header numeric fill read place program; do
         make_cases() { (cd "$ROOM/stored" && python3 "tests/$part/make.py" "$@"); }
         gives "tests/$part/make.py, an unknown word" 2 make_cases --help
         holds "tests/$part/make.py changes nothing" [ "$(stored)" = "$stored_before" ]
@@ -431,6 +474,11 @@ if command -v cargo >/dev/null && command -v gcc >/dev/null && tools/archive.sh 
     # shellcheck disable=SC2086
     gives 'float units that were changed' 0 "$ROOM/ready" $words
     wrong_words 'unknown word nosuch' "$ROOM/ready" nosuch
+    gives 'tests/c/places.c is built' 0 gcc -std=c11 -O2 -Wall -Wextra -Werror -pedantic tests/c/places.c target/staticlib/liblerc_c.a -o "$ROOM/places"
+    places() { "$ROOM/places" <"$1"; }
+    gives 'the place of each function' 0 places crates/lerc2/stdin
+    gives 'the place of each function, another blob' 2 places README.md
+    gives 'the examples on stored blobs and refused ones' 0 python3 tests/c/run.py target/examples
     # shellcheck disable=SC2086
     gives 'the float instructions' 0 python3 tests/floats/run.py ${words:+--words target/staticlib/liblerc_c.a}
     wrong_words 'usage: tests/floats/run.py' python3 tests/floats/run.py --nosuch

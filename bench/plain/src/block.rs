@@ -3,7 +3,8 @@
 use crate::bytes::{array, byte};
 use crate::linear::read_words;
 use crate::packed::{read_counts, MOST_COUNTS};
-use second::refusal::{Refusal, DOES_NOT_FIT, WRONG_BLOCK};
+use crate::Refusal;
+use second::refusal::{DOES_NOT_FIT, WRONG_BLOCK};
 use second::Header;
 
 const NONE: u32 = 8;

@@ -5,7 +5,8 @@ use crate::bytes::byte;
 use crate::given::{check_ranges, held};
 use crate::linear::{write_constant, write_raw};
 use crate::tile::{Tile, MOST_PIXELS};
-use second::refusal::{Refusal, NOT_BLOCKS, NO_ROOM, NO_SUCH_BLOCK, WRONG_BLOCK};
+use crate::Refusal;
+use second::refusal::{NOT_BLOCKS, NO_ROOM, NO_SUCH_BLOCK, WRONG_BLOCK};
 use second::{prepare_mask, read_header, read_ranges, Header, Mask, Ranges};
 
 const HEADER_BYTES: usize = 70;

@@ -1,6 +1,7 @@
 //! Bytes of a slice that ends at the declared size.
 
-use second::refusal::{Refusal, PASSES_SIZE};
+use crate::Refusal;
+use second::refusal::PASSES_SIZE;
 
 pub(crate) fn byte(bytes: &[u8], at: usize) -> Result<u8, Refusal> {
     bytes.get(at).copied().ok_or(PASSES_SIZE)

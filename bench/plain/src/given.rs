@@ -1,6 +1,7 @@
 //! Headers and ranges that a caller hands over are held to the rules again.
 
-use second::refusal::{Refusal, CEILING, PASSES_SIZE, WRONG_FIELD, WRONG_RANGE};
+use crate::Refusal;
+use second::refusal::{CEILING, PASSES_SIZE, WRONG_FIELD, WRONG_RANGE};
 use second::{Header, Ranges};
 
 const HEADER_BYTES: u64 = 70;

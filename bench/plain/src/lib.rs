@@ -4,7 +4,7 @@
 //!
 //! What is done once for an image (header, mask, ranges) is that of `second`;
 //! what is done for each cell is here. Answers, refusal numbers and what is
-//! left of every lent slice are those of `second`, too.
+//! left of every lent slice are those of `second`, too; places are not told.
 
 mod block;
 mod body;
@@ -15,4 +15,7 @@ mod packed;
 mod tile;
 
 pub use body::{fill, read, walk};
-pub use second::{prepare_mask, read_header, read_ranges, Header, Mask, Ranges, Refusal};
+pub use second::{prepare_mask, read_header, read_ranges, Header, Mask, Ranges};
+
+/// The number of a refusal.
+pub type Refusal = u32;

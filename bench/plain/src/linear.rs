@@ -3,7 +3,7 @@
 use crate::block::stored;
 use crate::bytes::part;
 use crate::tile::valid_runs;
-use second::refusal::Refusal;
+use crate::Refusal;
 use second::{word_size, Header, Ranges};
 
 /// Words of a kind, as many as there is room for; gives where they end.

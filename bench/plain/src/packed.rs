@@ -1,7 +1,8 @@
 //! Packed counts.
 
 use crate::bytes::{array, byte, part};
-use second::refusal::{Refusal, WRONG_BLOCK};
+use crate::Refusal;
+use second::refusal::WRONG_BLOCK;
 
 pub(crate) const MOST_COUNTS: usize = 256;
 

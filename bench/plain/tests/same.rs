@@ -98,6 +98,7 @@ fn walk_and_fill(blob: &[u8], name: &str) {
     let mut lists = [(); 2].map(|()| vec![7; header.blocks()]);
     let walked = second::walk(blob, &header, &ranges, &mask, &mut lists[0]);
     let other = plain::walk(blob, &header, &ranges, &mask, &mut lists[1]);
+    let walked = walked.map_err(u32::from);
     assert_eq!((walked, &lists[0]), (other, &lists[1]), "{name}: walk");
     if walked.is_ok() {
         fill_all(blob, &header, &ranges, &mask, &lists[0], name);
@@ -117,7 +118,7 @@ fn fill_all(
         let [one, other] = &mut images;
         let words = second::fill(blob, header, ranges, mask, list, number, one);
         let same = plain::fill(blob, header, ranges, mask, list, number, other);
-        assert_eq!(words, same, "{name}: block {number}");
+        assert_eq!(words.map_err(u32::from), same, "{name}: block {number}");
     }
     assert!(images[0] == images[1], "{name}: cells");
 }

@@ -82,6 +82,8 @@ pub struct Task {
     pub image: Vec<u64>,
     /// What the last call said, as the C interface does; nothing for steps.
     said: [u64; raw::READ],
+    /// Where the proved reader tells the place of a refusal.
+    place: [u64; raw::PLACE],
     #[cfg(feature = "esri")]
     decoded: compare::esri::Decoded,
 }
@@ -110,6 +112,7 @@ impl Task {
             list: vec![0; header.blocks()],
             image: vec![0; header.cells()],
             said: [0; raw::READ],
+            place: [0; raw::PLACE],
             #[cfg(feature = "esri")]
             decoded: compare::esri::Decoded::new(&header),
             header,
@@ -122,7 +125,8 @@ impl Task {
         if way == Way::Reuse {
             task.keep_mask()?;
         }
-        accepted(raw::read_header(&task.blob, &mut task.header_record))?;
+        let (record, place) = (&mut task.header_record, &mut task.place);
+        accepted(raw::read_header(&task.blob, record, place))?;
         if way == Way::Walk {
             task.prepare_walk()?;
         }
@@ -133,8 +137,8 @@ impl Task {
         let (blob, header) = (&self.blob, &self.header);
         second::prepare_mask(blob, header, false, &self.kept, &mut self.spare)?;
         self.ranges = Some(second::read_ranges(blob, header)?);
-        let record = &mut self.ranges_record;
-        accepted(raw::read_ranges(blob, &self.header_record, record))
+        let (record, place) = (&mut self.ranges_record, &mut self.place);
+        accepted(raw::read_ranges(blob, &self.header_record, record, place))
     }
 
     /// Keeps the mask of the section, and takes the section out.
@@ -233,9 +237,12 @@ fn measured_proved_read(task: &mut Task) -> Result<(), u32> {
         list,
         image,
         said,
+        place,
         ..
     } = task;
-    accepted(raw::read(blob, false, kept, spare, list, image, said))
+    accepted(raw::read(
+        blob, false, kept, spare, list, image, said, place,
+    ))
 }
 
 #[no_mangle]
@@ -260,20 +267,22 @@ fn measured_proved_steps(task: &mut Task) -> Result<(), u32> {
 
 fn proved_steps(task: &mut Task) -> Result<(), u32> {
     let (mut header, mut ranges) = ([0; raw::HEADER], [0; raw::RANGES]);
-    let (blob, list) = (&task.blob, &mut task.list);
+    let (blob, list, place) = (&task.blob, &mut task.list, &mut task.place);
     let mut said = [0; raw::WALK];
-    accepted(raw::read_header(blob, &mut header))?;
+    accepted(raw::read_header(blob, &mut header, place))?;
     let spare = &mut task.spare;
     accepted(raw::prepare_mask(
-        blob, &header, false, &task.kept, spare, &mut said,
+        blob, &header, false, &task.kept, spare, &mut said, place,
     ))?;
-    accepted(raw::read_ranges(blob, &header, &mut ranges))?;
-    accepted(raw::walk(blob, &header, &ranges, spare, list, &mut said))?;
+    accepted(raw::read_ranges(blob, &header, &mut ranges, place))?;
+    accepted(raw::walk(
+        blob, &header, &ranges, spare, list, &mut said, place,
+    ))?;
     let image = &mut task.image;
     for number in 0..said[0] as usize {
         let mut words = [0; raw::FILL];
         let filled = raw::fill(
-            blob, &header, &ranges, spare, list, number, image, &mut words,
+            blob, &header, &ranges, spare, list, number, image, &mut words, place,
         );
         accepted(filled)?;
     }
@@ -303,7 +312,7 @@ fn plain_steps(task: &mut Task) -> Result<(), u32> {
 #[inline(never)]
 fn measured_proved_walk(task: &mut Task) -> Result<(), u32> {
     let (header, ranges) = (&task.header_record, &task.ranges_record);
-    let (list, said) = (&mut task.list, &mut task.said);
+    let (list, said, place) = (&mut task.list, &mut task.said, &mut task.place);
     accepted(raw::walk(
         &task.blob,
         header,
@@ -311,6 +320,7 @@ fn measured_proved_walk(task: &mut Task) -> Result<(), u32> {
         &task.spare,
         list,
         said,
+        place,
     ))
 }
 
@@ -336,9 +346,9 @@ fn measured_proved_reuse(task: &mut Task) -> Result<(), u32> {
 
 fn proved_mask(task: &mut Task, reuse: bool) -> Result<(), u32> {
     let (header, kept) = (&task.header_record, &task.kept);
-    let (spare, said) = (&mut task.spare, &mut task.said);
+    let (spare, said, place) = (&mut task.spare, &mut task.said, &mut task.place);
     accepted(raw::prepare_mask(
-        &task.blob, header, reuse, kept, spare, said,
+        &task.blob, header, reuse, kept, spare, said, place,
     ))
 }
 
@@ -356,7 +366,8 @@ fn measured_plain_reuse(task: &mut Task) -> Result<Mask, u32> {
 
 fn plain_mask(task: &mut Task, reuse: bool) -> Result<Mask, u32> {
     let (header, kept) = (&task.header, &task.kept);
-    plain::prepare_mask(&task.blob, header, reuse, kept, &mut task.spare)
+    let mask = plain::prepare_mask(&task.blob, header, reuse, kept, &mut task.spare)?;
+    Ok(mask)
 }
 
 #[cfg(feature = "esri")]

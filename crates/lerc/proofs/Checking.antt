@@ -9,7 +9,7 @@ use lib.ListN.{length, take, drop, replicate}
 use lib.Seq.{take-all, take-append-seam}
 use borrow.Author.Tests.{le-leb, lt-leb, eq-eqb, ne-eqb}
 use Rattle.lerc_words.specs.declared.Refusal.{Refusal}
-use Rattle.lerc_words.specs.Res.{Res, ok, fail, _>>=_, refuse}
+use Rattle.lerc_words.specs.Res.{Res, ok, fail, _>>=_, refuse, placed}
 use Rattle.lerc_words.specs.Lists.{over}
 use Rattle.lerc_words.proofs.Binding.{bind-fail, ok-is}
 use Rattle.lerc_numeric.specs.Kinds.{typeSize}
@@ -31,7 +31,7 @@ use Rattle.lerc_image.proofs.Chain.{chain-lengths}
 use Rattle.lerc.specs.declared.ReadAnswer.the-variants as answer
 use Rattle.lerc.specs.declared.body.BodyFound.{BodyFound}
 use Rattle.lerc.specs.declared.body.BodyFound.the-variants as found
-use Rattle.lerc.specs.Meaning.{Body, blocks, constant, rawBody, blockBody, constantBody, bodyFrom, sweptBody, bodySays}
+use Rattle.lerc.specs.Meaning.{Body, blocks, constant, missingWordAt, rawBody, blockBody, constantBody, bodyFrom, sweptBody, bodySays}
 use Rattle.lerc.specs.Read.{readSaid}
 use Rattle.lerc.specs.Parts.{Ready, Checked, bodyCount}
 
@@ -66,7 +66,7 @@ module _ (h : Header) (r : Ranges) (s m : List ℕ) where
 -- ---- raw
 
 module _ (s : List ℕ) (h : Header) (at : ℕ) (m words : List ℕ) where
-  pub raw-no : length s < at + h .valid * h .depth * typeSize (h .kind) → Checked (rawBody s h at) s h m words (found.Refused (refuse 1))
+  pub raw-no : length s < at + h .valid * h .depth * typeSize (h .kind) → Checked (rawBody s h at) s h m words (found.Refused (placed (missingWordAt (length s) at (h .kind)) (refuse 1)))
   unfolding rawBody rawWords
   raw-no l = found-no (rw (lt-leb _ _ l))
 

@@ -5,9 +5,9 @@ use mathlib.Core.Bool.{Bool, true, false}
 use mathlib.Core.List.{List, []}
 use Prim.Native.Nat.{ℕ, _*_}
 use native.Mathlib.Omega.{arith}
-use lib.ListN.{take}
+use lib.ListN.{length, take}
 use Rattle.lerc_words.specs.declared.Refusal.{Refusal}
-use Rattle.lerc_words.specs.Res.{Res, ok, fail, _>>=_, refuse, after}
+use Rattle.lerc_words.specs.Res.{Res, ok, fail, _>>=_, refuse, marked, after}
 use Rattle.lerc_words.specs.Lists.{over}
 use Rattle.lerc_words.proofs.Binding.{ok-is, bind-is, bind-fail, bind-counts}
 use Rattle.lerc_header.specs.declared.Header.{Header}
@@ -18,7 +18,7 @@ use Rattle.lerc_block.specs.Block.{rawWords}
 use Rattle.lerc.specs.declared.ReadAnswer.{ReadAnswer}
 use Rattle.lerc.specs.declared.ReadAnswer.the-variants as answer
 use Rattle.lerc.specs.declared.body.BodyFound.{BodyFound}
-use Rattle.lerc.specs.Meaning.{Body, rawBody, constantBody, bodySays, startsOf, meaningFrom}
+use Rattle.lerc.specs.Meaning.{Body, missingWordAt, rawBody, constantBody, bodySays, startsOf, meaningFrom}
 use Rattle.lerc_validity.specs.Validity.{MaskInForce, bytesOf, maskSays, spareWith}
 use Rattle.lerc.specs.Read.{Lent, room, Masked, masked, readSays, published, refusedAfter, ReadTold, WholeRead, readSaid}
 use Rattle.lerc.specs.Parts.{Ready, bodyIn, bodyCount, answerOf, Checked, ToWrite, Written, BodyRead}
@@ -51,7 +51,7 @@ constant-starts h k b e = let (ws, p, q) = bind-is (constantWords (h .depth) (h 
 
 pub raw-starts : (s : List ℕ) (h : Header) (at : ℕ) (b : Body) → rawBody s h at ≡ ok b → startsOf b ≡ []
 unfolding rawBody
-raw-starts s h at b e = let (w, p, q) = bind-is (rawWords s at (h .kind) (h .valid * h .depth)) _ e in rw (← ok-is q)
+raw-starts s h at b e = let (w, p, q) = bind-is (marked (missingWordAt (length s) at (h .kind)) (rawWords s at (h .kind) (h .valid * h .depth))) _ e in rw (← ok-is q)
 
 -- ---- the whole read
 

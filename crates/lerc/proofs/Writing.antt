@@ -11,7 +11,8 @@ use lib.Dec.{leb, eqb}
 use lib.Seq.{getD-take}
 use borrow.Author.Tests.{eqb-true, leb-true, le-leb}
 use Rattle.lerc_words.specs.declared.Refusal.{Refusal}
-use Rattle.lerc_words.specs.Res.{Res, ok, fail, _>>=_, require, refuse, after}
+use Rattle.lerc_words.specs.Res.{Res, ok, fail, _>>=_, marked, require, refuse, after}
+use Rattle.lerc_words.proofs.Marking.{marked-is}
 use Rattle.lerc_words.specs.Lists.{over}
 use Rattle.lerc_words.proofs.Binding.{bind-is, require-is}
 use Rattle.lerc_numeric.specs.Kinds.{typeSize}
@@ -29,7 +30,7 @@ use Rattle.lerc_image.proofs.Painting.{painted-words}
 use Rattle.lerc_image.proofs.Stages.{checked-written}
 use Rattle.lerc.specs.declared.body.BodyFound.{BodyFound}
 use Rattle.lerc.specs.declared.body.BodyFound.the-variants as found
-use Rattle.lerc.specs.Meaning.{Body, empty, constant, blocks, rawBody, blockBody, startsOf, cellWord}
+use Rattle.lerc.specs.Meaning.{Body, empty, constant, blocks, missingWordAt, rawBody, blockBody, startsOf, cellWord}
 use Rattle.lerc.specs.Linear.{depthWord, rawWord, RawAsked}
 use Rattle.lerc.specs.Parts.{ToWrite, Written, bodyIn, bodyImage}
 use Rattle.lerc.proofs.Bodies.{image-empty, image-raw}
@@ -40,8 +41,9 @@ use Rattle.lerc.proofs.Checking.{tiles-are}
 raw-inside : (s : List ℕ) (h : Header) (at : ℕ) (b : Body) → rawBody s h at ≡ ok b → at + h .valid * h .depth * typeSize (h .kind) ≤ length s
 unfolding rawBody rawWords
 raw-inside s h at b q =
-    let (_, p, _) = bind-is (require (leb (at + h .valid * h .depth * typeSize (h .kind)) (length s)) 1 >>= _) _ q in
-    let (_, t, _) = bind-is (require (leb (at + h .valid * h .depth * typeSize (h .kind)) (length s)) 1) _ p in
+    let fits = require (leb (at + h .valid * h .depth * typeSize (h .kind)) (length s)) 1 in
+    let (_, p, _) = bind-is (marked (missingWordAt (length s) at (h .kind)) (fits >>= _)) _ q in
+    let (_, t, _) = bind-is fits _ (marked-is (missingWordAt (length s) at (h .kind)) (fits >>= _) p) in
     leb-true _ _ (require-is _ 1 t)
 
 module _ {s : List ℕ} {h : Header} {m words : List ℕ} {f : BodyFound} (w : ToWrite s h m words f) where

@@ -1,13 +1,14 @@
 -- The meaning of a blob. It mentions no buffer: the kept mask is an input, and what the words are put into is not spoken of.
 -- Assumes nothing.
-use Prim.Native.Nat.{ℕ, _+_, _*_, _/_, _%_}
+use Prim.Native.Nat.{ℕ, _+_, _-_, _*_, _/_, _%_}
 use mathlib.Core.Bool.{Bool, cond}
 use mathlib.Core.List.{List, []}
-use lib.ListN.{getD, take}
+use lib.ListN.{length, getD, take}
 use lib.Dec.{eqb}
-use Rattle.lerc_words.specs.Res.{Res, ok, _>>=_}
+use Rattle.lerc_words.specs.Res.{Res, ok, _>>=_, marked}
 use Rattle.lerc_header.specs.declared.Header.{Header}
 use Rattle.lerc_header.specs.Header.{shapeOf, headerBytes, headerSays}
+use Rattle.lerc_numeric.specs.Kinds.{typeSize}
 use Rattle.lerc_mask.specs.Mask.{validBelow}
 use Rattle.lerc_ranges.specs.declared.Ranges.{Ranges}
 use Rattle.lerc_validity.specs.Validity.{MaskInForce, bytesOf, maskSays}
@@ -24,10 +25,14 @@ pub data Body : Type 0 where
   raw : List ℕ → ℕ → Body
   blocks : Chain → Body
 
+-- "the missing raw word's first byte": behind the words of a kind that lie whole between `at` and the end
+abbrev pub missingWordAt : ℕ → ℕ → ℕ → ℕ
+missingWordAt len at kind = at + (len - at) / typeSize kind * typeSize kind
+
 -- "1 is raw words, valid pixels in order, depth innermost"
 unfoldable pub rawBody : List ℕ → Header → ℕ → Res Body
 rawBody s h at = do
-  b ← rawWords s at (h .kind) (h .valid * h .depth)
+  b ← marked (missingWordAt (length s) at (h .kind)) (rawWords s at (h .kind) (h .valid * h .depth))
   ok (raw (b .words) (b .next))
 
 unfoldable pub blockBody : List ℕ → Header → List ℕ → List ℕ → ℕ → Res Body

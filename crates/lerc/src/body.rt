@@ -3,11 +3,12 @@ ghost use mathlib.Core.Path.{_≡_};
 ghost use mathlib.Core.List.{List};
 ghost use Prim.Native.Nat.{ℕ, _≤_};
 ghost use lib.ListN.{length};
+ghost use Rattle.lerc_words.specs.Res.{refuse, placed};
 ghost use Rattle.lerc_header.specs.Limits.{depthLimit};
 ghost use Rattle.lerc_header.specs.Header.{shapeOf};
 ghost use Rattle.lerc_header.specs.Shape.{blockCount, cells};
 ghost use Rattle.lerc.specs.declared.ReadAnswer.the-variants as Answer;
-ghost use Rattle.lerc.specs.Meaning.{rawBody, blockBody, constantBody, sweptBody, bodySays};
+ghost use Rattle.lerc.specs.Meaning.{missingWordAt, rawBody, blockBody, constantBody, sweptBody, bodySays};
 ghost use Rattle.lerc.specs.Parts.{Ready, answerOf, bodyIn, Checked, ToWrite, Written};
 use super::ReadAnswer;
 use super::linear;
@@ -99,6 +100,20 @@ fn check_constant(h: Header, r: Ranges) -> BodyChecked
     }
 }
 
+// 1, at the first word that is not whole
+fn missing_word(len: usize, at: usize, kind: u32) -> Refusal
+    ensures { λ r. ⌜ r ≡ placed (missingWordAt len at kind) (refuse 1) ⌝ }
+{
+    if len < at {
+        return Refusal { number: 1, at };
+    }
+    let size = lerc_numeric::size(kind);
+    Refusal {
+        number: 1,
+        at: at + (len - at) / size * size,
+    }
+}
+
 // raw words, which must all fit: 1
 fn check_raw(s: &[u8], h: Header, at: usize, mask: &[u8]) -> BodyFound
     requires { ⌜ Ready (now s) h (now mask) ⌝ }
@@ -106,10 +121,10 @@ fn check_raw(s: &[u8], h: Header, at: usize, mask: &[u8]) -> BodyFound
 {
     let bytes = h.valid as usize * h.depth as usize * lerc_numeric::size(h.kind);
     if s.len() < bytes {
-        return BodyFound::Refused(Refusal { number: 1 });
+        return BodyFound::Refused(missing_word(s.len(), at, h.kind));
     }
     if s.len() - bytes < at {
-        return BodyFound::Refused(Refusal { number: 1 });
+        return BodyFound::Refused(missing_word(s.len(), at, h.kind));
     }
     BodyFound::Raw {
         at,

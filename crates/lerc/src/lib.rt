@@ -36,7 +36,7 @@ impl ReadAnswer {
                 header: _h,
                 blocks: _n,
                 end: _end,
-            } => Refusal { number: 0 },
+            } => Refusal { number: 0, at: 0 },
             ReadAnswer::Refused(why) => why,
         }
     }
@@ -145,7 +145,7 @@ pub fn read(
     let masks = (e.mask <= kept.len()) & (e.mask <= spare.len());
     let room = masks & (e.blocks <= list.len()) & (e.cells <= image.len());
     if !room {
-        return ReadAnswer::Refused(Refusal { number: 5 });
+        return ReadAnswer::Refused(Refusal { number: 5, at: 0 });
     }
     read_masked(
         blob,

@@ -9,7 +9,10 @@ use borrow.Author.Tests.{lt-ltb, le-ltb, le-leb, lt-leb, eq-eqb, ne-eqb}
 use lib.ListN.{length, getD, drop}
 use Rattle.lerc_words.specs.declared.Refusal.{Refusal}
 use Rattle.lerc_words.specs.Lists.{over}
-use Rattle.lerc_words.specs.Res.{Res, ok, fail, refuse, wordAt}
+use lib.Dec.{leb, ltb, eqb}
+use Rattle.lerc_words.specs.Res.{Res, ok, fail, refuse, placed, marked, require, wordAt}
+use Rattle.lerc_words.proofs.Little.{wordAt-bare}
+use Rattle.lerc_words.proofs.Marking.{Bare, marked-is, marked-no, marked-fails, marked-tells, marked-after, bare-bind, bare-then, bare-cond, bare-no}
 use Rattle.lerc_bits.specs.declared.Plan.{Plan}
 use Rattle.lerc_bits.specs.declared.PlanAnswer.{PlanAnswer}
 use Rattle.lerc_bits.specs.declared.PlanAnswer.the-variants as found
@@ -93,11 +96,35 @@ module _ (s : List ℕ) (at : ℕ) where
     unfolding plan
     plan-tabled k t = rw (g .first, lt-ltb (h / 64) 3 (g .known), g .second, le-leb n 256 k, ne-eqb (h / 32 % 2) 0 t)
 
+-- ---- a plan tells no place
+
+tabled-bare : (s : List ℕ) (at n bits : ℕ) → Bare (tabled s at n bits)
+unfolding tabled
+tabled-bare s at n bits =
+    bare-then (ltb 0 bits) 8 _
+    (bare-bind (wordAt 1 s at) _ (wordAt-bare 1 s at) (λ entries.
+    bare-then (leb 2 entries) 8 _ (bare-then (leb (tablePlan n bits entries (at + 1) .next) (length s)) 1 _ refl)))
+
+pub plan-bare : (s : List ℕ) (at : ℕ) → Bare (plan s at)
+unfolding plan
+plan-bare s at =
+    bare-bind (wordAt 1 s at) _ (wordAt-bare 1 s at) (λ h.
+    bare-then (ltb (h / 64) 3) 8 _
+    (bare-bind (wordAt (countBytes h) s (at + 1)) _ (wordAt-bare (countBytes h) s (at + 1)) (λ n.
+    let to = at + 1 + countBytes h in
+    bare-then (leb n 256) 8 _ (bare-cond (eqb (h / 32 % 2) 0) (bare-then (leb (plainPlan n (h % 32) to .next) (length s)) 1 _ refl) (tabled-bare s to n (h % 32))))))
+
 -- ---- counts
 
 pub counts-no : (s : List ℕ) (at : ℕ) {r : Refusal} → plan s at ≡ fail r → counts s at ≡ fail r
 unfolding counts
 counts-no s at e = rw (e)
+
+-- the same with a place on both
+pub counts-no-at : (s : List ℕ) (at p : ℕ) {r : Refusal} → marked p (plan s at) ≡ fail r → marked p (counts s at) ≡ fail r
+counts-no-at s at p e =
+    let (q, f, g) = marked-fails p (plan s at) e in
+    marked-no p (counts-no s at f) ∙ ap fail (sym g)
 
 pub counts-by : (s : List ℕ) (at : ℕ) {p : Plan} → plan s at ≡ ok p → counts s at ≡ unpacked s p
 unfolding counts
@@ -130,6 +157,16 @@ pub given : {m : Res Counts} (values : List ℕ) (n : ℕ) {next : ℕ} {old new
     → new ≡ values ++ drop n old → CountsDecoded m (answer.Counts n next) old new
 given values n e l d = rw (e, d) (record { says = rw (l); left = rw (l) })
 
+-- with a place on the answer
+pub spanned-at : (m : Res Counts) (r q : CountsAnswer) (p : ℕ) → countsSaid r ≡ spanned m → countsSaid q ≡ marked p (countsSaid r) → countsSaid q ≡ spanned (marked p m)
+spanned-at m r q p d e = e ∙ ap (marked p) d ∙ marked-tells p m (λ c. record { n = length (c .values); next = c .next })
+
+pub decoded-at : {m : Res Counts} {r q : CountsAnswer} (p : ℕ) {old new : List ℕ} → CountsDecoded m r old new → countsSaid q ≡ marked p (countsSaid r) → CountsDecoded (marked p m) q old new
+decoded-at {m} {r} {q} p {old} d e = record {
+  says = spanned-at m r q p (d .says) e;
+  left = d .left ∙ sym (marked-after p m old (λ c. over (c .values) old));
+}
+
 ok-inj : {x y : Span} → _≡_ {A = Res Span} (ok x) (ok y) → x ≡ y
 ok-inj e = cc
 
@@ -144,11 +181,16 @@ counted values n e l = rw (e, l)
 
 -- ---- what an answer that was taken apart says
 
-pub inspect-ok : (s : List ℕ) (at : ℕ) {r : PlanAnswer} {p : Plan} → planSaid r ≡ plan s at → r ≡ found.Plan p → plan s at ≡ ok p
-inspect-ok s at e d = sym e ∙ ap planSaid d
+module _ (s : List ℕ) (at : ℕ) {r : PlanAnswer} (e : planSaid r ≡ marked at (plan s at)) where
+  pub inspect-ok : {p : Plan} → r ≡ found.Plan p → plan s at ≡ ok p
+  inspect-ok d = marked-is at _ (sym e ∙ ap planSaid d)
 
-pub inspect-no : (s : List ℕ) (at : ℕ) {r : PlanAnswer} {q why : Refusal} → planSaid r ≡ plan s at → r ≡ found.Refused q → why ≡ refusalOfPlan r → plan s at ≡ fail why
-inspect-no s at e d f = sym e ∙ ap planSaid d ∙ ap fail (sym (f ∙ ap refusalOfPlan d))
+  pub inspect-at : {q why : Refusal} → r ≡ found.Refused q → why ≡ refusalOfPlan r → marked at (plan s at) ≡ fail why
+  inspect-at d f = sym e ∙ ap planSaid d ∙ ap fail (sym (f ∙ ap refusalOfPlan d))
+
+  -- the place taken off
+  pub inspect-no : {q why : Refusal} → r ≡ found.Refused q → why ≡ placed 0 (refusalOfPlan r) → plan s at ≡ fail why
+  inspect-no d f = bare-no at _ (plan-bare s at) (sym e ∙ ap planSaid d) (f ∙ ap (λ x. placed 0 (refusalOfPlan x)) d)
 
 -- n values, which stand in front of what the array held, and their end
 pub record CountsGiven (m : Res Counts) (n next : ℕ) (old new : List ℕ) : Type 0 where

@@ -2,6 +2,7 @@
 ghost use mathlib.Core.Path.{_≡_};
 ghost use Prim.Native.Nat.{_≤_};
 ghost use lib.ListN.{length};
+ghost use Rattle.lerc_words.specs.Res.{marked};
 ghost use Rattle.lerc_bits.specs.Bits.{unpacked, countsBy, counts, spanned, countsSaid, PlanKept};
 use super::CountsAnswer;
 use super::Plan;
@@ -25,7 +26,7 @@ fn check_table(s: &[u8], p: Plan) -> CountsAnswer
             next: p.next,
         };
     }
-    CountsAnswer::Refused(Refusal { number: 8 })
+    CountsAnswer::Refused(Refusal { number: 8, at: 0 })
 }
 
 // what `decode_plan` answers, without the values
@@ -33,7 +34,7 @@ pub fn check_plan(s: &[u8], p: Plan) -> CountsAnswer
     ensures { λ r. ⌜ countsSaid r ≡ spanned (countsBy (now (s .entry)) p) ⌝ }
 {
     if !keeps_bounds(s.len(), p) {
-        return CountsAnswer::Refused(Refusal { number: 8 });
+        return CountsAnswer::Refused(Refusal { number: 8, at: 0 });
     }
     if p.entries == 0 {
         return CountsAnswer::Counts {
@@ -46,12 +47,13 @@ pub fn check_plan(s: &[u8], p: Plan) -> CountsAnswer
 
 // what `decode` answers, without the values
 pub fn check(s: &[u8], start: usize) -> CountsAnswer
-    ensures { λ r. ⌜ countsSaid r ≡ spanned (counts (now (s .entry)) start) ⌝ }
+    ensures { λ r. ⌜ countsSaid r ≡ spanned (marked start (counts (now (s .entry)) start)) ⌝ }
 {
     let a = inspect(s, start);
     let PlanAnswer::Plan(p) = a else {
         let why = a.refusal();
         return CountsAnswer::Refused(why);
     };
-    check_plan(s, p)
+    let got = check_plan(s, p);
+    got.at(start)
 }

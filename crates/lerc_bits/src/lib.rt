@@ -5,7 +5,8 @@ ghost use mathlib.Core.Bool.{true};
 ghost use Prim.Native.Nat.{_+_, _-_, _%_, _^_, _≤_};
 ghost use lib.ListN.{length, drop};
 ghost use lib.Seq.{sets};
-ghost use Rattle.lerc_bits.specs.Bits.{runBytes, indexWidth, plainPlan, tablePlan, fits, tabled, plan, planSaid, refusalOfPlan, digits, run, chosen, allBelow, unpacked, keeps, countsBy, counts, refusalOfCounts, CountsDecoded, PlanKept};
+ghost use Rattle.lerc_words.specs.Res.{placed, marked};
+ghost use Rattle.lerc_bits.specs.Bits.{runBytes, indexWidth, plainPlan, tablePlan, fits, tabled, plan, planSaid, refusalOfPlan, digits, run, chosen, allBelow, unpacked, keeps, countsBy, counts, countsSaid, refusalOfCounts, CountsDecoded, PlanKept};
 ghost use Rattle.lerc_bits.specs.Unpacking.{begun};
 use lerc_words::Refusal;
 use lerc_words::WordAnswer;
@@ -42,8 +43,18 @@ impl PlanAnswer {
         ensures { λ r. ⌜ r ≡ refusalOfPlan self ⌝ }
     {
         match self {
-            PlanAnswer::Plan(_p) => Refusal { number: 0 },
+            PlanAnswer::Plan(_p) => Refusal { number: 0, at: 0 },
             PlanAnswer::Refused(why) => why,
+        }
+    }
+
+    // the same answer, refused at a place
+    fn at(self, place: usize) -> PlanAnswer
+        ensures { λ r. ⌜ planSaid r ≡ marked place (planSaid self) ⌝ }
+    {
+        match self {
+            PlanAnswer::Plan(p) => PlanAnswer::Plan(p),
+            PlanAnswer::Refused(why) => PlanAnswer::Refused(why.at(place)),
         }
     }
 }
@@ -59,8 +70,18 @@ impl CountsAnswer {
         ensures { λ r. ⌜ r ≡ refusalOfCounts self ⌝ }
     {
         match self {
-            CountsAnswer::Counts { n: _n, next: _next } => Refusal { number: 0 },
+            CountsAnswer::Counts { n: _n, next: _next } => Refusal { number: 0, at: 0 },
             CountsAnswer::Refused(why) => why,
+        }
+    }
+
+    // the same answer, refused at a place
+    fn at(self, place: usize) -> CountsAnswer
+        ensures { λ r. ⌜ countsSaid r ≡ marked place (countsSaid self) ⌝ }
+    {
+        match self {
+            CountsAnswer::Counts { n, next } => CountsAnswer::Counts { n, next },
+            CountsAnswer::Refused(why) => CountsAnswer::Refused(why.at(place)),
         }
     }
 }
@@ -86,7 +107,7 @@ fn plan_plain(len: usize, n: usize, bits: usize, at: usize) -> PlanAnswer
 {
     let size = run_bytes(n, bits);
     if len - at < size {
-        return PlanAnswer::Refused(Refusal { number: 1 });
+        return PlanAnswer::Refused(Refusal { number: 1, at: 0 });
     }
     PlanAnswer::Plan(Plan {
         n,
@@ -107,7 +128,7 @@ fn plan_table(len: usize, n: usize, bits: usize, entries: usize, table: usize) -
     let first = run_bytes(entries - 1, bits);
     let size = first + run_bytes(n, width);
     if len - table < size {
-        return PlanAnswer::Refused(Refusal { number: 1 });
+        return PlanAnswer::Refused(Refusal { number: 1, at: 0 });
     }
     let at = table + first;
     PlanAnswer::Plan(Plan {
@@ -127,39 +148,39 @@ fn inspect_table(s: &[u8], at: usize, n: usize, bits: usize) -> PlanAnswer
     ensures { λ r. ⌜ planSaid r ≡ tabled (now (s .entry)) at n bits ⌝ }
 {
     if bits == 0 {
-        return PlanAnswer::Refused(Refusal { number: 8 });
+        return PlanAnswer::Refused(Refusal { number: 8, at: 0 });
     }
     let a = lerc_words::word(s, at, 1);
     let WordAnswer::Word(entries) = a else {
         let why = a.refusal();
-        return PlanAnswer::Refused(why);
+        return PlanAnswer::Refused(why.at(0));
     };
     if entries < 2 {
-        return PlanAnswer::Refused(Refusal { number: 8 });
+        return PlanAnswer::Refused(Refusal { number: 8, at: 0 });
     }
     plan_table(s.len(), n, bits, entries as usize, at + 1)
 }
 
-// where the packed counts at `start` stand; their values are not looked at
-pub fn inspect(s: &[u8], start: usize) -> PlanAnswer
+// where the packed counts at `start` stand; a refusal tells no place
+fn find(s: &[u8], start: usize) -> PlanAnswer
     ensures { λ r. ⌜ planSaid r ≡ plan (now (s .entry)) start ⌝ }
 {
     let a = lerc_words::word(s, start, 1);
     let WordAnswer::Word(h) = a else {
         let why = a.refusal();
-        return PlanAnswer::Refused(why);
+        return PlanAnswer::Refused(why.at(0));
     };
     if 3 <= h / 64 {
-        return PlanAnswer::Refused(Refusal { number: 8 });
+        return PlanAnswer::Refused(Refusal { number: 8, at: 0 });
     }
     let size: usize = 4 >> (h / 64);
     let b = lerc_words::word(s, start + 1, size);
     let WordAnswer::Word(n) = b else {
         let why = b.refusal();
-        return PlanAnswer::Refused(why);
+        return PlanAnswer::Refused(why.at(0));
     };
     if 256 < n {
-        return PlanAnswer::Refused(Refusal { number: 8 });
+        return PlanAnswer::Refused(Refusal { number: 8, at: 0 });
     }
     let at = start + 1 + size;
     let bits = (h % 32) as usize;
@@ -167,6 +188,14 @@ pub fn inspect(s: &[u8], start: usize) -> PlanAnswer
         return plan_plain(s.len(), n as usize, bits, at);
     }
     inspect_table(s, at, n as usize, bits)
+}
+
+// where the packed counts at `start` stand; their values are not looked at. A refusal is at their first byte
+pub fn inspect(s: &[u8], start: usize) -> PlanAnswer
+    ensures { λ r. ⌜ planSaid r ≡ marked start (plan (now (s .entry)) start) ⌝ }
+{
+    let found = find(s, start);
+    found.at(start)
 }
 
 // the lowest value in a word
@@ -302,7 +331,7 @@ fn decode_table(s: &[u8], p: Plan, out: &mut [u32; 256]) -> CountsAnswer
             next: p.next,
         };
     }
-    CountsAnswer::Refused(Refusal { number: 8 })
+    CountsAnswer::Refused(Refusal { number: 8, at: 0 })
 }
 
 // whether a plan keeps to its bounds in a slice of `len` bytes, as each that `inspect` gives does
@@ -314,12 +343,12 @@ fn keeps_bounds(len: usize, p: Plan) -> bool
     sized & placed
 }
 
-// the counts of a plan: their values to the front of `out`, or a refusal, which leaves `out`
+// the counts of a plan: their values to the front of `out`, or a refusal, which leaves `out` and is at 0: a plan by value has no place
 pub fn decode_plan(s: &[u8], p: Plan, out: &mut [u32; 256]) -> CountsAnswer
     ensures { λ r. ⌜ CountsDecoded (countsBy (now (s .entry)) p) r (now (out .entry)) (now (out .exit)) ⌝ }
 {
     if !keeps_bounds(s.len(), p) {
-        return CountsAnswer::Refused(Refusal { number: 8 });
+        return CountsAnswer::Refused(Refusal { number: 8, at: 0 });
     }
     if p.entries == 0 {
         unpack(s, p.at, p.n, p.width, out);
@@ -331,14 +360,15 @@ pub fn decode_plan(s: &[u8], p: Plan, out: &mut [u32; 256]) -> CountsAnswer
     decode_table(s, p, out)
 }
 
-// packed counts at `start`: their values to the front of `out`, or a refusal, which leaves `out`
+// packed counts at `start`: their values to the front of `out`, or a refusal at `start`, which leaves `out`
 pub fn decode(s: &[u8], start: usize, out: &mut [u32; 256]) -> CountsAnswer
-    ensures { λ r. ⌜ CountsDecoded (counts (now (s .entry)) start) r (now (out .entry)) (now (out .exit)) ⌝ }
+    ensures { λ r. ⌜ CountsDecoded (marked start (counts (now (s .entry)) start)) r (now (out .entry)) (now (out .exit)) ⌝ }
 {
     let a = inspect(s, start);
     let PlanAnswer::Plan(p) = a else {
         let why = a.refusal();
         return CountsAnswer::Refused(why);
     };
-    decode_plan(s, p, out)
+    let got = decode_plan(s, p, out);
+    got.at(start)
 }

@@ -10,7 +10,9 @@ use borrow.Author.Tests.{le-leb, lt-leb, leb-true, eq-eqb, ne-eqb}
 use lib.Dec.{leb, eqb}
 use lib.ListN.{length, drop, replicate}
 use Rattle.lerc_words.specs.declared.Refusal.{Refusal}
-use Rattle.lerc_words.specs.Res.{Res, ok, fail, refuse, require, wordAt, each}
+use Rattle.lerc_words.specs.Res.{Res, ok, fail, refuse, marked, require, wordAt, each}
+use Rattle.lerc_words.specs.Lists.{over}
+use Rattle.lerc_words.proofs.Marking.{marked-tells, marked-after}
 use Rattle.lerc_words.proofs.Each.{each-none}
 use Rattle.lerc_words.proofs.Binding.{bind-is, require-is, ok-is}
 use Rattle.lerc_words.proofs.Little.{Bytes, wordAt-is, byte-lt}
@@ -19,7 +21,7 @@ use Rattle.lerc_numeric.specs.Kinds.{typeSize}
 use Rattle.lerc_samples.specs.Samples.{sampleAt, stored, offsetKind}
 use Rattle.lerc_block.specs.declared.BlockAnswer.{BlockAnswer}
 use Rattle.lerc_block.specs.declared.BlockAnswer.the-variants as answer
-use Rattle.lerc_block.specs.Block.{Block, Offset, levelBlock, offsetAt, finiteOffset, flagAt, tileLimit, blockSaid, BlockRead}
+use Rattle.lerc_block.specs.Block.{Block, Offset, levelBlock, offsetAt, finiteOffset, flagAt, tileLimit, blockSaid, nextBlock, BlockRead}
 use Rattle.lerc_block.specs.Check.{readFlag}
 
 -- ---- an answer that was taken apart, and what it says
@@ -41,6 +43,16 @@ pub given : {m : Res Block} (words : List ℕ) (n : ℕ) {next : ℕ} {old new :
 given words n e l d = rw (e, d) (record { says = refl; words = rw (l) })
 
 -- another way of saying the same
+-- with a place on the answer
+pub next-at : (m : Res Block) (r q : BlockAnswer) (p : ℕ) → blockSaid r ≡ nextBlock m → blockSaid q ≡ marked p (blockSaid r) → blockSaid q ≡ nextBlock (marked p m)
+next-at m r q p d e = e ∙ ap (marked p) d ∙ marked-tells p m (λ b. b .next)
+
+pub read-at : {m : Res Block} {r q : BlockAnswer} (p : ℕ) {old new : List ℕ} → BlockRead m r old new → blockSaid q ≡ marked p (blockSaid r) → BlockRead (marked p m) q old new
+read-at {m} {r} {q} p {old} d e = record {
+  says = next-at m r q p (d .says) e;
+  words = d .words ∙ sym (marked-after p m old (λ b. over (b .words) old));
+}
+
 pub likewise : {m k : Res Block} {r : BlockAnswer} {old new : List ℕ} → m ≡ k → BlockRead k r old new → BlockRead m r old new
 likewise e b = rw e b
 

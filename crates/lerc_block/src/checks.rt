@@ -1,6 +1,7 @@
 // Whether a block is accepted, without its values: where every value fits, none is computed.
 ghost use mathlib.Core.Path.{_≡_};
 ghost use Prim.Native.Nat.{ℕ, _≤_};
+ghost use Rattle.lerc_words.specs.Res.{marked};
 ghost use Rattle.lerc_block.specs.declared.plan.Form.the-variants as Form;
 ghost use Rattle.lerc_block.specs.Block.{blockSaid, nextBlock, readBlockSays};
 ghost use Rattle.lerc_block.specs.Plan.{steppedWords, ended, plannedBlock};
@@ -11,7 +12,7 @@ use super::plan::BlockPlan;
 use super::plan::BlockPlanAnswer;
 use super::plan::Form;
 use super::plan::Steps;
-use super::plan::inspect_block;
+use super::plan::plan_block;
 use super::read_steps;
 use lerc_bits::CountsAnswer;
 use lerc_samples::StoredAnswer;
@@ -53,7 +54,7 @@ fn check_steps(
     }
     let counts = steps.counts;
     if counts.n != n {
-        return BlockAnswer::Refused(Refusal { number: 8 });
+        return BlockAnswer::Refused(Refusal { number: 8, at: 0 });
     }
     let a = lerc_bits::check_plan(s, counts);
     let CountsAnswer::Counts { n: _n, next: _next } = a else {
@@ -89,7 +90,7 @@ fn check_any(
 ) -> BlockAnswer
     ensures { λ r. ⌜ blockSaid r ≡ nextBlock (readBlockSays (now (s .entry)) at kind error maximum x n) ⌝ }
 {
-    let a = inspect_block(s, at, kind, x, n);
+    let a = plan_block(s, at, kind, x, n);
     let BlockPlanAnswer::Plan(p) = a else {
         let why = a.refusal();
         return BlockAnswer::Refused(why);
@@ -97,8 +98,8 @@ fn check_any(
     check_planned(s, p, kind, error, maximum, n)
 }
 
-// what `read_block` answers, without the words
-pub fn check_block(
+// what `read_words` answers, without the words
+fn check_words(
     s: &[u8],
     at: usize,
     kind: u32,
@@ -116,4 +117,20 @@ pub fn check_block(
         }
     }
     check_any(s, at, kind, error, maximum, x, n)
+}
+
+// what `read_block` answers, without the words
+pub fn check_block(
+    s: &[u8],
+    at: usize,
+    kind: u32,
+    error: u64,
+    maximum: u64,
+    x: usize,
+    n: usize,
+) -> BlockAnswer
+    ensures { λ r. ⌜ blockSaid r ≡ nextBlock (marked at (readBlockSays (now (s .entry)) at kind error maximum x n)) ⌝ }
+{
+    let got = check_words(s, at, kind, error, maximum, x, n);
+    got.at(at)
 }

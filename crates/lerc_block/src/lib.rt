@@ -2,10 +2,10 @@
 ghost use mathlib.Core.Path.{_≡_};
 ghost use Prim.Native.Nat.{_≤_};
 ghost use lib.ListN.{length};
-ghost use Rattle.lerc_words.specs.Res.{each};
+ghost use Rattle.lerc_words.specs.Res.{marked, each};
 ghost use Rattle.lerc_bits.specs.Unpacking.{valueBits};
 ghost use Rattle.lerc_samples.specs.Samples.{storedSaid};
-ghost use Rattle.lerc_block.specs.Block.{levelBlock, readBlockSays, refusalOfBlock, BlockRead};
+ghost use Rattle.lerc_block.specs.Block.{levelBlock, readBlockSays, blockSaid, refusalOfBlock, BlockRead};
 ghost use Rattle.lerc_block.specs.Plan.{offsetValue, steppedWords, ended, plannedBlock};
 ghost use Rattle.lerc_block.specs.Steps.{stepWord, BlockConverted, StepsTried, CountsOf};
 ghost use Rattle.lerc_block.specs.Check.{OffsetHeld, Sound};
@@ -41,8 +41,18 @@ impl BlockAnswer {
         ensures { λ r. ⌜ r ≡ refusalOfBlock self ⌝ }
     {
         match self {
-            BlockAnswer::Block(_next) => Refusal { number: 0 },
+            BlockAnswer::Block(_next) => Refusal { number: 0, at: 0 },
             BlockAnswer::Refused(why) => why,
+        }
+    }
+
+    // the same answer, refused at a place
+    fn at(self, place: usize) -> BlockAnswer
+        ensures { λ r. ⌜ blockSaid r ≡ marked place (blockSaid self) ⌝ }
+    {
+        match self {
+            BlockAnswer::Block(next) => BlockAnswer::Block(next),
+            BlockAnswer::Refused(why) => BlockAnswer::Refused(why.at(place)),
         }
     }
 }
@@ -195,7 +205,7 @@ fn read_steps(
 {
     let plan = steps.counts;
     if plan.n != n {
-        return BlockAnswer::Refused(Refusal { number: 8 });
+        return BlockAnswer::Refused(Refusal { number: 8, at: 0 });
     }
     let mut counts = [0u32; 256];
     let a = lerc_bits::decode_plan(s, plan, &mut counts);
@@ -249,7 +259,7 @@ fn read_any(
 ) -> BlockAnswer
     ensures { λ r. ⌜ BlockRead (readBlockSays (now (s .entry)) at kind error maximum x n) r (now (words .entry)) (now (words .exit)) ⌝ }
 {
-    let a = inspect_block(s, at, kind, x, n);
+    let a = plan::plan_block(s, at, kind, x, n);
     let BlockPlanAnswer::Plan(p) = a else {
         let why = a.refusal();
         return BlockAnswer::Refused(why);
@@ -257,8 +267,8 @@ fn read_any(
     read_planned(s, p, kind, error, maximum, n, words)
 }
 
-// the words of the block at `at` to the front of `words`, or a refusal, which leaves them
-pub fn read_block(
+// what `read_block` answers; a refusal tells no place
+fn read_words(
     s: &[u8],
     at: usize,
     kind: u32,
@@ -275,4 +285,21 @@ pub fn read_block(
         return read_steps(s, usual.steps(), usual.end, kind, error, maximum, n, words);
     }
     read_any(s, at, kind, error, maximum, x, n, words)
+}
+
+// the words of the block at `at` to the front of `words`, or a refusal at its flag byte, which leaves them
+pub fn read_block(
+    s: &[u8],
+    at: usize,
+    kind: u32,
+    error: u64,
+    maximum: u64,
+    x: usize,
+    n: usize,
+    words: &mut [u64; 256],
+) -> BlockAnswer
+    ensures { λ r. ⌜ BlockRead (marked at (readBlockSays (now (s .entry)) at kind error maximum x n)) r (now (words .entry)) (now (words .exit)) ⌝ }
+{
+    let got = read_words(s, at, kind, error, maximum, x, n, words);
+    got.at(at)
 }

@@ -1,7 +1,7 @@
 // Where a block's words stand, and how they are coded: all that stands in front of them, read in one place.
 ghost use mathlib.Core.Path.{_≡_};
 ghost use Prim.Native.Nat.{_≤_};
-ghost use Rattle.lerc_words.specs.Res.{wordSaid};
+ghost use Rattle.lerc_words.specs.Res.{marked, wordSaid};
 ghost use Rattle.lerc_numeric.specs.Numeric.{finite};
 ghost use Rattle.lerc_numeric.specs.Kinds.{valueOf};
 ghost use Rattle.lerc_block.specs.Block.{blockSaid};
@@ -52,7 +52,7 @@ impl BlockPlanAnswer {
         ensures { λ r. ⌜ r ≡ refusalOfPlan self ⌝ }
     {
         match self {
-            BlockPlanAnswer::Plan(_p) => Refusal { number: 0 },
+            BlockPlanAnswer::Plan(_p) => Refusal { number: 0, at: 0 },
             BlockPlanAnswer::Refused(why) => why,
         }
     }
@@ -66,6 +66,16 @@ impl BlockPlanAnswer {
             BlockPlanAnswer::Refused(why) => BlockAnswer::Refused(why),
         }
     }
+
+    // the same answer, refused at a place
+    fn at(self, place: usize) -> BlockPlanAnswer
+        ensures { λ r. ⌜ planSaid r ≡ marked place (planSaid self) ⌝ }
+    {
+        match self {
+            BlockPlanAnswer::Plan(p) => BlockPlanAnswer::Plan(p),
+            BlockPlanAnswer::Refused(why) => BlockPlanAnswer::Refused(why.at(place)),
+        }
+    }
 }
 
 // the flag of a tile that begins in column x and has n valid pixels
@@ -73,14 +83,15 @@ fn flag_at(s: &[u8], at: usize, x: usize, n: usize) -> WordAnswer
     ensures { λ r. ⌜ wordSaid r ≡ readFlag (now (s .entry)) at x n ⌝ }
 {
     if 256 < n {
-        return WordAnswer::Refused(Refusal { number: 8 });
+        return WordAnswer::Refused(Refusal { number: 8, at: 0 });
     }
     let a = lerc_words::word(s, at, 1);
     let WordAnswer::Word(flag) = a else {
-        return a;
+        let why = a.refusal();
+        return WordAnswer::Refused(why.at(0));
     };
     if flag / 4 % 16 != x as u64 / 8 % 16 {
-        return WordAnswer::Refused(Refusal { number: 8 });
+        return WordAnswer::Refused(Refusal { number: 8, at: 0 });
     }
     a
 }
@@ -104,12 +115,13 @@ fn finite_at(s: &[u8], at: usize, kind: u32) -> WordAnswer
 {
     let a = lerc_words::word(s, at, lerc_numeric::size(kind));
     let WordAnswer::Word(word) = a else {
-        return a;
+        let why = a.refusal();
+        return WordAnswer::Refused(why.at(0));
     };
     if finite_word(word, kind) {
         return a;
     }
-    WordAnswer::Refused(Refusal { number: 8 })
+    WordAnswer::Refused(Refusal { number: 8, at: 0 })
 }
 
 // low bits 0
@@ -119,7 +131,7 @@ fn inspect_raw(len: usize, at: usize, kind: u32, n: usize) -> BlockPlanAnswer
 {
     let whole = n * lerc_numeric::size(kind);
     if len - at < whole {
-        return BlockPlanAnswer::Refused(Refusal { number: 1 });
+        return BlockPlanAnswer::Refused(Refusal { number: 1, at: 0 });
     }
     BlockPlanAnswer::Plan(BlockPlan {
         form: Form::Raw(at),
@@ -134,7 +146,7 @@ fn inspect_steps(s: &[u8], at: usize, offset: StoredOffset) -> BlockPlanAnswer
     let a = lerc_bits::inspect(s, at);
     let PlanAnswer::Plan(counts) = a else {
         let why = a.refusal();
-        return BlockPlanAnswer::Refused(why);
+        return BlockPlanAnswer::Refused(why.at(0));
     };
     let next = counts.next;
     let steps = Steps { offset, counts };
@@ -169,8 +181,8 @@ fn inspect_offset(s: &[u8], at: usize, kind: u32, flag: u32) -> BlockPlanAnswer
     inspect_steps(s, next, offset)
 }
 
-// the plan of the block at `at`, of a tile that begins in column x and has n valid pixels; its values are not looked at
-pub fn inspect_block(s: &[u8], at: usize, kind: u32, x: usize, n: usize) -> BlockPlanAnswer
+// the plan of the block at `at`; a refusal tells no place
+pub(crate) fn plan_block(s: &[u8], at: usize, kind: u32, x: usize, n: usize) -> BlockPlanAnswer
     ensures { λ r. ⌜ planSaid r ≡ planSays (now (s .entry)) at kind x n ⌝ }
 {
     let a = flag_at(s, at, x, n);
@@ -190,9 +202,18 @@ pub fn inspect_block(s: &[u8], at: usize, kind: u32, x: usize, n: usize) -> Bloc
     inspect_offset(s, at + 1, kind, flag as u32)
 }
 
+// the plan of the block at `at`, of a tile that begins in column x and has n valid pixels; its values are not looked at.
+// A refusal is at the flag byte
+pub fn inspect_block(s: &[u8], at: usize, kind: u32, x: usize, n: usize) -> BlockPlanAnswer
+    ensures { λ r. ⌜ planSaid r ≡ marked at (planSays (now (s .entry)) at kind x n) ⌝ }
+{
+    let found = plan_block(s, at, kind, x, n);
+    found.at(at)
+}
+
 // where the block at `at` ends, by all that stands in front of its values
 pub fn block_end(s: &[u8], at: usize, kind: u32, x: usize, n: usize) -> BlockAnswer
-    ensures { λ r. ⌜ blockSaid r ≡ planEnd (planSays (now (s .entry)) at kind x n) ⌝ }
+    ensures { λ r. ⌜ blockSaid r ≡ planEnd (marked at (planSays (now (s .entry)) at kind x n)) ⌝ }
 {
     if n <= 256 {
         let usual = usual_head(s, at, kind, x);

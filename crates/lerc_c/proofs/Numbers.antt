@@ -9,7 +9,7 @@ use lib.ListN.{length, getD, take, drop, replicate}
 use lib.Dec.{leb, ltb, eqb}
 use borrow.Author.Tests.{leb-true}
 use Rattle.lerc_words.specs.declared.Refusal.{Refusal}
-use Rattle.lerc_words.specs.Res.{Res, ok, fail, _>>=_, refuse, require, each, wordAt}
+use Rattle.lerc_words.specs.Res.{Res, ok, fail, _>>=_, refuse, marked, require, each, wordAt}
 use Rattle.lerc_words.proofs.Binding.{and-is}
 use Rattle.lerc_numeric.specs.Numeric.{negative, finite, same}
 use Rattle.lerc_numeric.specs.Kinds.{typeSize, whole, bound, cut}
@@ -18,20 +18,20 @@ use Rattle.lerc_samples.specs.Samples.{stored, noKind, offsetKinds, offsetKind,
 use Rattle.lerc_bits.specs.declared.Plan.{Plan}
 use Rattle.lerc_bits.specs.Bits.{countBytes, plainPlan, tablePlan, fits, tabled, plan, run, allBelow, lookedUp, valuesOf, unpacked, counts}
 use Rattle.lerc_header.specs.declared.Header.{Header}
-use Rattle.lerc_header.specs.Header.{shapeOf, headerBytes, fieldsRight, withinCeilings, held, keyRight, headerOf, headerSays}
+use Rattle.lerc_header.specs.Header.{shapeOf, headerBytes, rangesAt, fieldsRight, withinCeilings, held, keyRight, headerOf, headerSays}
 use Rattle.lerc_header.specs.Shape.{pixels, maskLength, blockCount}
-use Rattle.lerc_mask.specs.Mask.{validBelow, coded}
+use Rattle.lerc_mask.specs.Mask.{validBelow, coded, maskField}
 use Rattle.lerc_mask.proofs.Runs.{coded-six}
 use Rattle.lerc_ranges.specs.declared.Ranges.{Ranges}
-use Rattle.lerc_validity.specs.Validity.{bytesOf, uniform, kept, unrolled, maskSays, prepareSays}
-use Rattle.lerc_ranges.specs.Ranges.{rangesEnd, pairsRight, codedRanges, rangesSays, readRangesSays, constantWords}
+use Rattle.lerc_validity.specs.Validity.{bytesOf, uniform, kept, unrolled, maskIn, maskSays, prepareSays}
+use Rattle.lerc_ranges.specs.Ranges.{rangesEnd, wrongNumberAt, pairsRight, codedRanges, rangesSays, readRangesSays, constantWords}
 use Rattle.lerc_block.specs.Block.{rawWords, levelBlock, steppedBlock, offsetAt, finiteOffset, offsetBlock, formed, flagAt, blockSays}
 use Rattle.lerc_image.specs.Geometry.{tileOf, validInTile}
-use Rattle.lerc_sweep.specs.Sweep.{Way, rawFrom, blocksFrom, hasModeByte, modeAt, moded, swept}
+use Rattle.lerc_sweep.specs.Sweep.{Way, rawFrom, blocksFrom, hasModeByte, modeByte, moded, sweepByte, swept}
 use Rattle.lerc_image.specs.Blocks.{blockAt, chain, allBlocks}
 use Rattle.lerc_image.specs.Walk.{wayWalked, bodyWalked, walkSays}
 use Rattle.lerc_image.specs.Fill.{fillSays}
-use Rattle.lerc.specs.Meaning.{rawBody, blockBody, bodyFrom, sweptBody, constantBody, bodySays, meaningFrom}
+use Rattle.lerc.specs.Meaning.{missingWordAt, rawBody, blockBody, bodyFrom, sweptBody, constantBody, bodySays, meaningFrom}
 use Rattle.lerc.specs.Read.{Lent, room, masked, readSays}
 use Rattle.lerc_c.specs.Records.{numberOf, headerRoom, fieldsFit, headerFrom, rangesRoom, rangesFrom}
 use Rattle.lerc_c.specs.Entries.{headerEntry, prepareEntry, rangesEntry, walkEntry, fillEntry, readRoom, readEntry, storedEntry}
@@ -57,6 +57,15 @@ check false n h p = refused n h
 andThen : {A B : Type 0} (m : Res A) {k : A → Res B} → Numbered m → ((a : A) → Numbered (k a)) → Numbered (m >>= k)
 andThen (ok a) p q = q a
 andThen (fail r) p q = record { number = λ s e. p .number s (let d : r ≡ s = cc in rw (d)) }
+
+-- a place on an answer changes no number
+at-place : {A : Type 0} (p : ℕ) (m : Res A) → Numbered m → Numbered (marked p m)
+at-place p (ok a) q = accepted a
+at-place p (fail r) q = record { number = λ s e. let d : s .number ≡ r .number = cc in rw (d) (q .number r refl) }
+
+checkAt : {B : Type 0} (p : ℕ) (t : Bool) (n : ℕ) {k : Bool → Res B} → inTable n ≡ true → ((b : Bool) → Numbered (k b)) → Numbered (marked p (require t n) >>= k)
+checkAt p true n h q = q true
+checkAt p false n h q = record { number = λ r e. let d : r .number ≡ n = cc in rw (d) h }
 
 either : {A : Type 0} (t : Bool) {x y : Res A} → Numbered x → Numbered y → Numbered (cond t x y)
 either true p q = p
@@ -168,7 +177,8 @@ blockAt-n : (s : List ℕ) (h : Header) (maxima m : List ℕ) (n at : ℕ) → N
 unfolding blockAt
 blockAt-n s h maxima m n at =
     let t = tileOf (shapeOf h) n in
-    block-n s at (h .kind) (h .error) (getD maxima (t .d) 0) (t .x) (validInTile (shapeOf h) m t)
+    at-place at (blockSays s at (h .kind) (h .error) (getD maxima (t .d) 0) (t .x) (validInTile (shapeOf h) m t))
+    (block-n s at (h .kind) (h .error) (getD maxima (t .d) 0) (t .x) (validInTile (shapeOf h) m t))
 
 chain-n : (s : List ℕ) (h : Header) (maxima m : List ℕ) (f n at : ℕ) → Numbered (chain s h maxima m f n at)
 unfolding chain
@@ -190,35 +200,47 @@ header-n b = check (leb headerBytes (length b)) 1 refl (λ _. check (keyRight b)
 coded-n : (s : List ℕ) (pixels valid : ℕ) → Numbered (coded s pixels valid)
 coded-n s pixels valid = record { number = λ r e. let d : r ≡ refuse 6 = coded-six s pixels valid r e in rw (d) }
 
-mask-n : (s : List ℕ) (h : Header) (reuse : Bool) (old : List ℕ) → Numbered (maskSays s h reuse old)
-unfolding maskSays uniform kept unrolled
-mask-n s h reuse old =
+maskIn-n : (s : List ℕ) (h : Header) (reuse : Bool) (old : List ℕ) → Numbered (maskIn s h reuse old)
+unfolding maskIn uniform kept unrolled
+maskIn-n s h reuse old =
     either (eqb (h .valid) 0) (check (eqb (h .mask) 0) 6 refl (λ _. accepted _))
     (either (eqb (h .valid) (pixels (shapeOf h))) (check (eqb (h .mask) 0) 6 refl (λ _. accepted _))
     (either (eqb (h .mask) 0)
     (check reuse 6 refl (λ _. check (eqb (validBelow (pixels (shapeOf h)) (take (maskLength (shapeOf h)) old)) (h .valid)) 6 refl (λ _. accepted _)))
     (andThen (coded (take (h .mask) (drop headerBytes s)) (pixels (shapeOf h)) (h .valid)) (coded-n (take (h .mask) (drop headerBytes s)) (pixels (shapeOf h)) (h .valid)) (λ m. accepted _))))
 
+mask-n : (s : List ℕ) (h : Header) (reuse : Bool) (old : List ℕ) → Numbered (maskSays s h reuse old)
+mask-n s h reuse old = at-place maskField (maskIn s h reuse old) (maskIn-n s h reuse old)
+
 ranges-n : (s : List ℕ) (h : Header) → Numbered (rangesSays s h)
 unfolding rangesSays
 ranges-n s h =
-    either (same (h .min) (h .max)) (accepted _) (check (leb (rangesEnd h) (length s)) 1 refl (λ _. check (pairsRight (h .depth) (codedRanges s h)) 7 refl (λ _. accepted _)))
+    either (same (h .min) (h .max)) (accepted _)
+    (checkAt (rangesAt h) (leb (rangesEnd h) (length s)) 1 refl
+    (λ _. checkAt (wrongNumberAt h (codedRanges s h)) (pairsRight (h .depth) (codedRanges s h)) 7 refl (λ _. accepted _)))
 
 -- ---- bodies
 
-mode-n : (s : List ℕ) (at : ℕ) → Numbered (modeAt s at)
-unfolding modeAt
+mode-n : (s : List ℕ) (at : ℕ) → Numbered (modeByte s at)
+unfolding modeByte
 mode-n s at = andThen (wordAt 1 s at) (word-n 1 s at) (λ mode. check (ltb mode 3) 8 refl (λ _. check (eqb mode 0) 10 refl (λ _. accepted _)))
+
+sweep-n : (s : List ℕ) (at : ℕ) → Numbered (sweepByte s at)
+unfolding sweepByte
+sweep-n s at = andThen (wordAt 1 s at) (word-n 1 s at) (λ sweep. check (ltb sweep 2) 8 refl (λ _. accepted sweep))
 
 swept-n : (s : List ℕ) (kind error at : ℕ) → Numbered (swept s kind error at)
 unfolding swept moded
 swept-n s kind error at =
-    andThen (wordAt 1 s at) (word-n 1 s at) (λ sweep.
-    check (ltb sweep 2) 8 refl (λ _. either (eqb sweep 1) (accepted _) (either (hasModeByte kind error) (mode-n s (at + 1)) (accepted _))))
+    andThen (marked at (sweepByte s at)) (at-place at (sweepByte s at) (sweep-n s at)) (λ sweep.
+    either (eqb sweep 1) (accepted _) (either (hasModeByte kind error) (at-place (at + 1) (modeByte s (at + 1)) (mode-n s (at + 1))) (accepted _)))
 
 bodyFrom-n : (s : List ℕ) (h : Header) (r : Ranges) (m : List ℕ) (w : Way) → Numbered (bodyFrom s h r m w)
 unfolding rawBody blockBody
-bodyFrom-n s h r m (rawFrom at) = andThen (rawWords s at (h .kind) (h .valid * h .depth)) (raw-n s at (h .kind) (h .valid * h .depth)) (λ b. accepted _)
+bodyFrom-n s h r m (rawFrom at) =
+    let place = missingWordAt (length s) at (h .kind) in
+    let words = rawWords s at (h .kind) (h .valid * h .depth) in
+    andThen (marked place words) (at-place place words (raw-n s at (h .kind) (h .valid * h .depth))) (λ b. accepted _)
 bodyFrom-n s h r m (blocksFrom at) = andThen (allBlocks s h (r .max) m at) (chain-n s h (r .max) m (blockCount (shapeOf h)) 0 at) (λ c. accepted _)
 
 body-n : (s : List ℕ) (h : Header) (m : List ℕ) → Numbered (bodySays s h m)
@@ -229,10 +251,10 @@ body-n s h m =
     either (r .constant) (andThen (constantWords (h .depth) (h .kind) (r .min)) (each-n (stored (h .kind)) (take (h .depth) (r .min)) (stored-n (h .kind))) (λ words. accepted _))
     (andThen (swept s (h .kind) (h .error) (r .at)) (swept-n s (h .kind) (h .error) (r .at)) (bodyFrom-n s h r m))))
 
-walked-n : (s : List ℕ) (h : Header) (maxima m : List ℕ) (w : Way) → Numbered (wayWalked s h maxima m w)
+walked-n : (s : List ℕ) (h : Header) (maxima m : List ℕ) (sweep : ℕ) (w : Way) → Numbered (wayWalked s h maxima m sweep w)
 unfolding wayWalked
-walked-n s h maxima m (rawFrom at) = refused 10 refl
-walked-n s h maxima m (blocksFrom at) = chain-n s h maxima m (blockCount (shapeOf h)) 0 at
+walked-n s h maxima m sweep (rawFrom at) = at-place sweep (fail (refuse 10)) (refused 10 refl)
+walked-n s h maxima m sweep (blocksFrom at) = chain-n s h maxima m (blockCount (shapeOf h)) 0 at
 
 -- ---- the reader
 
@@ -252,7 +274,7 @@ walk-n b h r m n =
     check (leb (e .mask) (length m) && leb (e .blocks) n) 5 refl
     (λ _. check (pairsRight (h .depth) r) 7 refl
     (λ _. check (ltb 0 (h .valid) && not (r .constant)) 10 refl
-    (λ _. andThen (swept (take (h .size) b) (h .kind) (h .error) (r .at)) (swept-n (take (h .size) b) (h .kind) (h .error) (r .at)) (walked-n (take (h .size) b) h (r .max) m)))))
+    (λ _. andThen (swept (take (h .size) b) (h .kind) (h .error) (r .at)) (swept-n (take (h .size) b) (h .kind) (h .error) (r .at)) (walked-n (take (h .size) b) h (r .max) m (r .at))))))
 
 fill-n : (b : List ℕ) (h : Header) (r : Ranges) (m list : List ℕ) (n room : ℕ) → Numbered (fillSays b h r m list n room)
 unfolding fillSays

@@ -1,12 +1,13 @@
 -- The entries of the C interface. Each definition refuses, or gives what is then written to the lent slices.
--- A record slice that is too short is refused first (5), then a number that its field cannot hold (3), then what the reader refuses.
+-- A slice too short for the place is refused first (5), then a record slice that is too short (5), then a number that its field cannot hold (3), then what the reader refuses.
 -- Assumes nothing.
 use Prim.Native.Nat.{ℕ, _+_}
 use mathlib.Core.Path.{_≡_}
 use mathlib.Core.Bool.{Bool, _&&_}
 use mathlib.Core.List.{List, [], _∷_, _++_}
-use lib.ListN.{length}
+use lib.ListN.{length, set}
 use lib.Dec.{leb}
+use Rattle.lerc_words.specs.declared.Refusal.{Refusal}
 use Rattle.lerc_words.specs.Res.{Res, ok, _>>=_, require, after}
 use Rattle.lerc_words.specs.Lists.{over}
 use Rattle.lerc_samples.specs.Samples.{stored}
@@ -24,7 +25,22 @@ use Rattle.lerc_image.specs.Walk.{walkSays}
 use Rattle.lerc_image.specs.Fill.{fillSays}
 use Rattle.lerc.specs.Meaning.{Meaning, endOf, startsOf}
 use Rattle.lerc.specs.Read.{Lent, Masked, masked, readSays, readAfter}
-use Rattle.lerc_c.specs.Records.{numberOf, headerRoom, headerNumbers, headerFrom, rangesRoom, rangesNumbers, rangesFrom}
+use Rattle.lerc_c.specs.Records.{whyOf, headerRoom, headerNumbers, headerFrom, rangesRoom, rangesNumbers, rangesFrom}
+
+-- ---- the place: every entry that can refuse is lent a last slice for it
+
+-- a slice without room for the place is refused before all else (5)
+abbrev pub placing : {A : Type 0} → List ℕ → Res A → Res A
+placing place m = do
+  _ ← require (leb 1 (length place)) 5
+  m
+
+-- the number is returned, and the place written, 0 where the entry accepts; the rest of the slice stays
+pub record Returned (Done : Refusal → Type 0) (r : ℕ) (place₀ place₁ : List ℕ) : Type 0 where
+  pub why : Refusal
+  pub done : Done why
+  pub number : r ≡ why .number
+  pub place : place₁ ≡ set place₀ 0 (why .at)
 
 -- ---- read header: blob, header
 
@@ -34,8 +50,8 @@ headerEntry b header = do
   headerSays b
 
 -- what an answer m does to the record
-pub record HeaderDone (m : Res Header) (r : ℕ) (header₀ header₁ : List ℕ) : Type 0 where
-  pub number : r ≡ numberOf m
+pub record HeaderDone (m : Res Header) (r : Refusal) (header₀ header₁ : List ℕ) : Type 0 where
+  pub why : r ≡ whyOf m
   pub header : header₁ ≡ after m header₀ (λ h. over (headerNumbers h) header₀)
 
 -- ---- prepare a mask: blob, header, reuse, kept, spare, said
@@ -51,8 +67,8 @@ abbrev pub maskNumbers : MaskInForce → List ℕ
 maskNumbers (reused m) = 1 ∷ length m ∷ []
 maskNumbers (new m) = 2 ∷ length m ∷ []
 
-pub record PrepareDone (m : Res MaskInForce) (r : ℕ) (spare₀ spare₁ said₀ said₁ : List ℕ) : Type 0 where
-  pub number : r ≡ numberOf m
+pub record PrepareDone (m : Res MaskInForce) (r : Refusal) (spare₀ spare₁ said₀ said₁ : List ℕ) : Type 0 where
+  pub why : r ≡ whyOf m
   pub spare : spare₁ ≡ after m spare₀ (λ f. spareWith f spare₀)
   pub said : said₁ ≡ after m said₀ (λ f. over (maskNumbers f) said₀)
 
@@ -64,8 +80,8 @@ rangesEntry b header ranges = do
   h ← headerFrom header
   readRangesSays b h
 
-pub record RangesDone (m : Res Ranges) (r : ℕ) (ranges₀ ranges₁ : List ℕ) : Type 0 where
-  pub number : r ≡ numberOf m
+pub record RangesDone (m : Res Ranges) (r : Refusal) (ranges₀ ranges₁ : List ℕ) : Type 0 where
+  pub why : r ≡ whyOf m
   pub ranges : ranges₁ ≡ after m ranges₀ (λ k. over (rangesNumbers k) ranges₀)
 
 -- ---- walk: blob, header, ranges, mask, list, said
@@ -87,8 +103,8 @@ walkEntry b header ranges m list said = do
 abbrev pub walkNumbers : Walking → List ℕ
 walkNumbers w = blockCount (shapeOf (w .header)) ∷ w .chain .end ∷ []
 
-pub record WalkDone (m : Res Walking) (r : ℕ) (list₀ list₁ said₀ said₁ : List ℕ) : Type 0 where
-  pub number : r ≡ numberOf m
+pub record WalkDone (m : Res Walking) (r : Refusal) (list₀ list₁ said₀ said₁ : List ℕ) : Type 0 where
+  pub why : r ≡ whyOf m
   pub list : list₁ ≡ after m list₀ (λ w. over (w .chain .starts) list₀)
   pub said : said₁ ≡ after m said₀ (λ w. over (walkNumbers w) said₀)
 
@@ -115,8 +131,8 @@ fillNumbers m n f = validInTile (shapeOf (f .header)) m (tileOf (shapeOf (f .hea
 abbrev pub fillPaints : List ℕ → ℕ → List ℕ → Filling → List ℕ
 fillPaints m n image f = scattered (shapeOf (f .header)) m n (f .block .words) image
 
-pub record FillDone (k : Res Filling) (m : List ℕ) (n r : ℕ) (image₀ image₁ said₀ said₁ : List ℕ) : Type 0 where
-  pub number : r ≡ numberOf k
+pub record FillDone (k : Res Filling) (m : List ℕ) (n : ℕ) (r : Refusal) (image₀ image₁ said₀ said₁ : List ℕ) : Type 0 where
+  pub why : r ≡ whyOf k
   pub image : image₁ ≡ after k image₀ (fillPaints m n image₀)
   pub said : said₁ ≡ after k said₀ (λ f. over (fillNumbers m n f) said₀)
 
@@ -140,14 +156,11 @@ maskedEntry b reuse l said = do
   _ ← require (leb readRoom (length said)) 5
   masked b reuse l
 
--- the four slices afterwards
-unfoldable pub lentAfter : List ℕ → Bool → Lent → List ℕ → Lent
-lentAfter b reuse l said = readAfter (readEntry b reuse l said) (maskedEntry b reuse l said) l
-
-pub record ReadDone (b : List ℕ) (reuse : Bool) (r : ℕ) (old new : Lent) (said₀ said₁ : List ℕ) : Type 0 where
-  pub number : r ≡ numberOf (readEntry b reuse old said₀)
-  pub lent : new ≡ lentAfter b reuse old said₀
-  pub said : said₁ ≡ after (readEntry b reuse old said₀) said₀ (λ m. over (readNumbers m) said₀)
+-- m is the whole read, k as far as the mask
+pub record ReadDone (m : Res Meaning) (k : Res Masked) (r : Refusal) (old new : Lent) (said₀ said₁ : List ℕ) : Type 0 where
+  pub why : r ≡ whyOf m
+  pub lent : new ≡ readAfter m k old
+  pub said : said₁ ≡ after m said₀ (λ m. over (readNumbers m) said₀)
 
 -- ---- a value as a stored word: kind, value, said
 
@@ -156,6 +169,6 @@ storedEntry kind v said = do
   _ ← require (leb 1 (length said)) 5
   stored kind v
 
-pub record StoredDone (m : Res ℕ) (r : ℕ) (said₀ said₁ : List ℕ) : Type 0 where
-  pub number : r ≡ numberOf m
+pub record StoredDone (m : Res ℕ) (r : Refusal) (said₀ said₁ : List ℕ) : Type 0 where
+  pub why : r ≡ whyOf m
   pub said : said₁ ≡ after m said₀ (λ w. over (w ∷ []) said₀)

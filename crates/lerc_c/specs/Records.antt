@@ -5,15 +5,20 @@ use mathlib.Core.Bool.{Bool, cond, _&&_}
 use mathlib.Core.List.{List, [], _∷_, _++_}
 use lib.ListN.{getD, take, drop}
 use lib.Dec.{ltb, eqb}
-use Rattle.lerc_words.specs.Res.{Res, ok, fail, _>>=_, require}
+use Rattle.lerc_words.specs.declared.Refusal.{Refusal}
+use Rattle.lerc_words.specs.Res.{Res, ok, fail, _>>=_, refuse, require}
 use Rattle.lerc_header.specs.declared.Header.{Header}
 use Rattle.lerc_header.specs.Limits.{depthLimit}
 use Rattle.lerc_ranges.specs.declared.Ranges.{Ranges}
 
--- what an entry returns: 0 where it accepts, else the number of the refusal
+-- why an entry refuses: number 0, at 0, where it accepts
+abbrev pub whyOf : {A : Type 0} → Res A → Refusal
+whyOf (ok a) = refuse 0
+whyOf (fail r) = r
+
+-- what it returns: 0 where it accepts, else the number of the refusal
 abbrev pub numberOf : {A : Type 0} → Res A → ℕ
-numberOf (ok a) = 0
-numberOf (fail r) = r .number
+numberOf m = whyOf m .number
 
 -- ---- a header: eleven numbers
 

@@ -1,39 +1,27 @@
 // The reader for C: slices are a pointer and a length, records are arrays of 64-bit numbers.
-// Each entry that can refuse returns 0, or the number of the refusal; after a refusal the records are as they were.
+// Each entry that can refuse returns 0, or the number of the refusal, and writes its place to its last slice, 0 where it accepts.
+// A slice without room for the place is refused before all else. After a refusal the records are as they were.
 ghost use mathlib.Core.Path.{_≡_};
 ghost use mathlib.Core.Bool.{true};
 ghost use Rattle.lerc_numeric.specs.Numeric.{sum, scaled};
 ghost use Rattle.lerc_numeric.specs.Kinds.{valueOf, narrowed};
 ghost use Rattle.lerc_c.specs.Entries as Entry;
-use lerc::ReadAnswer;
-use lerc_header::HeaderAnswer;
-use lerc_image::FillAnswer;
-use lerc_image::WalkAnswer;
-use lerc_ranges::RangesAnswer;
-use lerc_samples::StoredAnswer;
-use lerc_validity::MaskAnswer;
 
+mod calls;
 mod ranges;
 mod records;
 
-// how many numbers a whole read says
-const READ: usize = records::HEADER + 2;
-
 // The header of a blob.
 #[no_mangle]
-pub extern "C" fn lerc2_read_header(blob: &[u8], header: &mut [u64]) -> u32
-    ensures { λ r. ⌜ Entry.HeaderDone (Entry.headerEntry (now (blob .entry)) (now (header .entry))) r (now (header .entry)) (now (header .exit)) ⌝ }
+pub extern "C" fn lerc2_read_header(blob: &[u8], header: &mut [u64], place: &mut [u64]) -> u32
+    ensures { λ r. ⌜ Entry.Returned (λ why. Entry.HeaderDone (Entry.placing (now (place .entry)) (Entry.headerEntry (now (blob .entry)) (now (header .entry)))) why (now (header .entry)) (now (header .exit))) r (now (place .entry)) (now (place .exit)) ⌝ }
 {
-    if header.len() < records::HEADER {
+    if place.len() < 1 {
         return 5;
     }
-    let found = lerc_header::read_header(blob);
-    let HeaderAnswer::Read(h) = found else {
-        let why = found.refusal();
-        return why.number;
-    };
-    records::put_header(h, &mut header[..]);
-    0
+    let header_why = calls::read_header(blob, &mut header[..]);
+    place[0] = header_why.at as u64;
+    header_why.number
 }
 
 // A whole blob: `said` is the header, the count of blocks and the body's end.
@@ -46,33 +34,24 @@ pub extern "C" fn lerc2_read(
     list: &mut [usize],
     image: &mut [u64],
     said: &mut [u64],
+    place: &mut [u64],
 ) -> u32
-    ensures { λ r. ⌜ Entry.ReadDone (now (blob .entry)) reuse r (record { kept = now (kept .entry); spare = now (spare .entry); list = now (list .entry); image = now (image .entry) }) (record { kept = now (kept .exit); spare = now (spare .exit); list = now (list .exit); image = now (image .exit) }) (now (said .entry)) (now (said .exit)) ⌝ }
+    ensures { λ r. ⌜ Entry.Returned (λ why. Entry.ReadDone (Entry.placing (now (place .entry)) (Entry.readEntry (now (blob .entry)) reuse (record { kept = now (kept .entry); spare = now (spare .entry); list = now (list .entry); image = now (image .entry) }) (now (said .entry)))) (Entry.placing (now (place .entry)) (Entry.maskedEntry (now (blob .entry)) reuse (record { kept = now (kept .entry); spare = now (spare .entry); list = now (list .entry); image = now (image .entry) }) (now (said .entry)))) why (record { kept = now (kept .entry); spare = now (spare .entry); list = now (list .entry); image = now (image .entry) }) (record { kept = now (kept .exit); spare = now (spare .exit); list = now (list .exit); image = now (image .exit) }) (now (said .entry)) (now (said .exit))) r (now (place .entry)) (now (place .exit)) ⌝ }
 {
-    if said.len() < READ {
+    if place.len() < 1 {
         return 5;
     }
-    let answer = lerc::read(
+    let read_why = calls::read(
         blob,
         reuse,
         &mut kept[..],
         &mut spare[..],
         &mut list[..],
         &mut image[..],
+        &mut said[..],
     );
-    let ReadAnswer::Whole {
-        header,
-        blocks,
-        end,
-    } = answer
-    else {
-        let why = answer.refusal();
-        return why.number;
-    };
-    records::put_header(header, &mut said[..]);
-    let counts = [blocks as u64, end as u64];
-    records::put(&counts, records::HEADER, &mut said[..]);
-    0
+    place[0] = read_why.at as u64;
+    read_why.number
 }
 
 // The mask of a blob: `said` is 1 where the kept mask is in force and 2 where the spare is, and its length.
@@ -84,49 +63,34 @@ pub extern "C" fn lerc2_prepare_mask(
     kept: &[u8],
     spare: &mut [u8],
     said: &mut [u64],
+    place: &mut [u64],
 ) -> u32
-    ensures { λ r. ⌜ Entry.PrepareDone (Entry.prepareEntry (now (blob .entry)) (now (header .entry)) reuse (now (kept .entry)) (now (spare .entry)) (now (said .entry))) r (now (spare .entry)) (now (spare .exit)) (now (said .entry)) (now (said .exit)) ⌝ }
+    ensures { λ r. ⌜ Entry.Returned (λ why. Entry.PrepareDone (Entry.placing (now (place .entry)) (Entry.prepareEntry (now (blob .entry)) (now (header .entry)) reuse (now (kept .entry)) (now (spare .entry)) (now (said .entry)))) why (now (spare .entry)) (now (spare .exit)) (now (said .entry)) (now (said .exit))) r (now (place .entry)) (now (place .exit)) ⌝ }
 {
-    let room = (records::HEADER <= header.len()) & (2 <= said.len());
-    if !room {
+    if place.len() < 1 {
         return 5;
     }
-    let found = records::header_from(header);
-    let HeaderAnswer::Read(h) = found else {
-        let why = found.refusal();
-        return why.number;
-    };
-    let answer = lerc_validity::prepare_mask(blob, h, reuse, kept, &mut spare[..]);
-    match answer {
-        MaskAnswer::Kept(n) => records::say(1, n, &mut said[..]),
-        MaskAnswer::Spare(n) => records::say(2, n, &mut said[..]),
-        MaskAnswer::Refused(why) => why.number,
-    }
+    let mask_why = calls::prepare_mask(blob, header, reuse, kept, &mut spare[..], &mut said[..]);
+    place[0] = mask_why.at as u64;
+    mask_why.number
 }
 
 // The ranges of a blob.
 #[no_mangle]
-pub extern "C" fn lerc2_read_ranges(blob: &[u8], header: &[u64], ranges: &mut [u64]) -> u32
-    ensures { λ r. ⌜ Entry.RangesDone (Entry.rangesEntry (now (blob .entry)) (now (header .entry)) (now (ranges .entry))) r (now (ranges .entry)) (now (ranges .exit)) ⌝ }
+pub extern "C" fn lerc2_read_ranges(
+    blob: &[u8],
+    header: &[u64],
+    ranges: &mut [u64],
+    place: &mut [u64],
+) -> u32
+    ensures { λ r. ⌜ Entry.Returned (λ why. Entry.RangesDone (Entry.placing (now (place .entry)) (Entry.rangesEntry (now (blob .entry)) (now (header .entry)) (now (ranges .entry)))) why (now (ranges .entry)) (now (ranges .exit))) r (now (place .entry)) (now (place .exit)) ⌝ }
 {
-    let room = (records::HEADER <= header.len()) & (ranges::RANGES <= ranges.len());
-    if !room {
+    if place.len() < 1 {
         return 5;
     }
-    let found = records::header_from(header);
-    let HeaderAnswer::Read(h) = found else {
-        let why = found.refusal();
-        return why.number;
-    };
-    let got = lerc_ranges::read_ranges(blob, h);
-    let answer = got.answer;
-    let RangesAnswer::Read = answer else {
-        let why = answer.refusal();
-        return why.number;
-    };
-    let r = got.ranges;
-    ranges::put_ranges(r, &mut ranges[..]);
-    0
+    let ranges_why = calls::read_ranges(blob, header, &mut ranges[..]);
+    place[0] = ranges_why.at as u64;
+    ranges_why.number
 }
 
 // Every block checked, then the list of their starts: `said` is the count of blocks and the end of the last.
@@ -138,33 +102,16 @@ pub extern "C" fn lerc2_walk(
     mask: &[u8],
     list: &mut [usize],
     said: &mut [u64],
+    place: &mut [u64],
 ) -> u32
-    ensures { λ r. ⌜ Entry.WalkDone (Entry.walkEntry (now (blob .entry)) (now (header .entry)) (now (ranges .entry)) (now (mask .entry)) (now (list .entry)) (now (said .entry))) r (now (list .entry)) (now (list .exit)) (now (said .entry)) (now (said .exit)) ⌝ }
+    ensures { λ r. ⌜ Entry.Returned (λ why. Entry.WalkDone (Entry.placing (now (place .entry)) (Entry.walkEntry (now (blob .entry)) (now (header .entry)) (now (ranges .entry)) (now (mask .entry)) (now (list .entry)) (now (said .entry)))) why (now (list .entry)) (now (list .exit)) (now (said .entry)) (now (said .exit))) r (now (place .entry)) (now (place .exit)) ⌝ }
 {
-    let room = (records::HEADER <= header.len())
-        & (ranges::RANGES <= ranges.len())
-        & (2 <= said.len());
-    if !room {
+    if place.len() < 1 {
         return 5;
     }
-    let found = records::header_from(header);
-    let HeaderAnswer::Read(h) = found else {
-        let why = found.refusal();
-        return why.number;
-    };
-    let got = ranges::ranges_from(ranges);
-    let given = got.answer;
-    let RangesAnswer::Read = given else {
-        let why = given.refusal();
-        return why.number;
-    };
-    let r = got.ranges;
-    let answer = lerc_image::walk(blob, h, r, mask, &mut list[..]);
-    let WalkAnswer::Walked { blocks, end } = answer else {
-        let why = answer.refusal();
-        return why.number;
-    };
-    records::say(blocks, end, &mut said[..])
+    let walk_why = calls::walk(blob, header, ranges, mask, &mut list[..], &mut said[..]);
+    place[0] = walk_why.at as u64;
+    walk_why.number
 }
 
 // One block by its number: `said` is the count of words written.
@@ -178,34 +125,38 @@ pub extern "C" fn lerc2_fill(
     number: usize,
     image: &mut [u64],
     said: &mut [u64],
+    place: &mut [u64],
 ) -> u32
-    ensures { λ r. ⌜ Entry.FillDone (Entry.fillEntry (now (blob .entry)) (now (header .entry)) (now (ranges .entry)) (now (mask .entry)) (now (list .entry)) number (now (image .entry)) (now (said .entry))) (now (mask .entry)) number r (now (image .entry)) (now (image .exit)) (now (said .entry)) (now (said .exit)) ⌝ }
+    ensures { λ r. ⌜ Entry.Returned (λ why. Entry.FillDone (Entry.placing (now (place .entry)) (Entry.fillEntry (now (blob .entry)) (now (header .entry)) (now (ranges .entry)) (now (mask .entry)) (now (list .entry)) number (now (image .entry)) (now (said .entry)))) (now (mask .entry)) number why (now (image .entry)) (now (image .exit)) (now (said .entry)) (now (said .exit))) r (now (place .entry)) (now (place .exit)) ⌝ }
 {
-    let room = (records::HEADER <= header.len())
-        & (ranges::RANGES <= ranges.len())
-        & (1 <= said.len());
-    if !room {
+    if place.len() < 1 {
         return 5;
     }
-    let found = records::header_from(header);
-    let HeaderAnswer::Read(h) = found else {
-        let why = found.refusal();
-        return why.number;
-    };
-    let got = ranges::ranges_from(ranges);
-    let given = got.answer;
-    let RangesAnswer::Read = given else {
-        let why = given.refusal();
-        return why.number;
-    };
-    let r = got.ranges;
-    let answer = lerc_image::fill(blob, h, r, mask, list, number, &mut image[..]);
-    let FillAnswer::Filled(words) = answer else {
-        let why = answer.refusal();
-        return why.number;
-    };
-    said[0] = words as u64;
-    0
+    let fill_why = calls::fill(
+        blob,
+        header,
+        ranges,
+        mask,
+        list,
+        number,
+        &mut image[..],
+        &mut said[..],
+    );
+    place[0] = fill_why.at as u64;
+    fill_why.number
+}
+
+// a binary64 word as a stored word of a kind, which is what `said` is
+#[no_mangle]
+pub extern "C" fn lerc2_stored(v: u64, kind: u32, said: &mut [u64], place: &mut [u64]) -> u32
+    ensures { λ r. ⌜ Entry.Returned (λ why. Entry.StoredDone (Entry.placing (now (place .entry)) (Entry.storedEntry kind v (now (said .entry)))) why (now (said .entry)) (now (said .exit))) r (now (place .entry)) (now (place .exit)) ⌝ }
+{
+    if place.len() < 1 {
+        return 5;
+    }
+    let stored_why = calls::stored(v, kind, &mut said[..]);
+    place[0] = stored_why.at as u64;
+    stored_why.number
 }
 
 // Whether this thread's float unit is as the language asks; `mix` is 0, or any word to try other operands.
@@ -246,21 +197,4 @@ pub extern "C" fn lerc2_number(word: u64, kind: u32) -> u64
     ensures { λ r. ⌜ r ≡ valueOf kind word ⌝ }
 {
     lerc_numeric::number(word, kind)
-}
-
-// a binary64 word as a stored word of a kind, which is what `said` is
-#[no_mangle]
-pub extern "C" fn lerc2_stored(v: u64, kind: u32, said: &mut [u64]) -> u32
-    ensures { λ r. ⌜ Entry.StoredDone (Entry.storedEntry kind v (now (said .entry))) r (now (said .entry)) (now (said .exit)) ⌝ }
-{
-    if said.len() < 1 {
-        return 5;
-    }
-    let answer = lerc_samples::stored(v, kind);
-    let StoredAnswer::Word(word) = answer else {
-        let why = answer.refusal();
-        return why.number;
-    };
-    said[0] = word;
-    0
 }

@@ -36,7 +36,7 @@ pub(crate) fn ranges_from(l: &[u64]) -> RangesRead
     let mut max = [0u64; DEPTHS];
     if 1 < l[1] {
         return RangesRead {
-            answer: RangesAnswer::Refused(Refusal { number: 3 }),
+            answer: RangesAnswer::Refused(Refusal { number: 3, at: 0 }),
             ranges: Ranges {
                 at: 0,
                 constant: false,

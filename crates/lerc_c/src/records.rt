@@ -4,6 +4,7 @@ ghost use Prim.Native.Nat.{ℕ, _+_, _≤_};
 ghost use mathlib.Core.List.{[], _∷_};
 ghost use lib.ListN.{length};
 ghost use lib.Seq.{paste};
+ghost use Rattle.lerc_words.specs.Res.{refuse};
 ghost use Rattle.lerc_words.specs.Lists.{over};
 ghost use Rattle.lerc_header.specs.Header.{headerSaid};
 ghost use Rattle.lerc_c.specs.Records as Record;
@@ -23,14 +24,14 @@ pub(crate) fn put(words: &[u64], at: usize, out: &mut [u64])
     lerc_slices::copy_words(words, &mut out[at..end]);
 }
 
-// two numbers that an accepting entry says; hands back its 0
-pub(crate) fn say(first: usize, second: usize, out: &mut [u64]) -> u32
+// two numbers that an accepting entry says; hands back that nothing is refused
+pub(crate) fn say(first: usize, second: usize, out: &mut [u64]) -> Refusal
     requires { ⌜ 2 ≤ length (now out) ⌝ }
-    ensures { λ r. ⌜ (r ≡ 0) × (now (out .exit) ≡ over (first ∷ second ∷ []) (now (out .entry))) ⌝ }
+    ensures { λ r. ⌜ (r ≡ refuse 0) × (now (out .exit) ≡ over (first ∷ second ∷ []) (now (out .entry))) ⌝ }
 {
     let words = [first as u64, second as u64];
     put(&words, 0, &mut out[..]);
-    0
+    Refusal { number: 0, at: 0 }
 }
 
 pub(crate) fn put_header(h: Header, out: &mut [u64])
@@ -80,7 +81,7 @@ pub(crate) fn header_from(l: &[u64]) -> HeaderAnswer
     ensures { λ r. ⌜ headerSaid r ≡ Record.headerFrom (now (l .entry)) ⌝ }
 {
     if !fields_fit(l) {
-        return HeaderAnswer::Refused(Refusal { number: 3 });
+        return HeaderAnswer::Refused(Refusal { number: 3, at: 0 });
     }
     HeaderAnswer::Read(Header {
         rows: l[0] as u32,

@@ -1,14 +1,15 @@
 -- Demand 3 for C, proved.
 -- Assumes nothing.
 use mathlib.Core.Path.{_≡_, _∙_, sym, ap, refl, subst}
-use mathlib.Core.Bool.{Bool, true, false, _&&_}
+use mathlib.Core.Bool.{Bool, true, false, cond, _&&_}
 use mathlib.Core.List.{List, [], _∷_, map}
 use Prim.Native.Nat.{ℕ, _≤_}
 use native.Mathlib.Omega.{arith}
-use lib.ListN.{length, getD, take, drop, length-append}
+use lib.ListN.{length, getD, set, take, drop, length-append}
 use lib.Dec.{leb, ltb}
 use lib.Seq.{take-append-seam}
 use borrow.Author.Tests.{leb-true, le-leb, lt-ltb, le-ltb}
+use Rattle.lerc_words.specs.declared.Refusal.{Refusal}
 use Rattle.lerc_words.specs.Res.{Res, ok, fail, _>>=_, accepts, refuse, require}
 use Rattle.lerc_words.specs.Lists.{over}
 use Rattle.lerc_words.proofs.Binding.{bind-is, bind-counts, and-is, ok-is, accepts-is}
@@ -16,7 +17,7 @@ use Rattle.lerc_header.specs.declared.Header.{Header}
 use Rattle.lerc_header.specs.declared.HeaderAnswer.the-variants as header-answer
 use Rattle.lerc_header.specs.declared.Shape.{Shape}
 use Rattle.lerc_header.specs.Header.{shapeOf, headerSays, headerSaid}
-use Rattle.lerc_header.specs.Shape.{maskLength}
+use Rattle.lerc_header.specs.Shape.{maskLength, blockCount}
 use Rattle.lerc_validity.specs.Validity.{MaskInForce, reused, new as made, bytesOf, spareWith, which, prepareSays, inForce}
 use Rattle.lerc_validity.proofs.Prepared.{Part, prepared-right, mask-length, in-force}
 use Rattle.lerc_ranges.specs.declared.Ranges.{Ranges}
@@ -25,6 +26,7 @@ use Rattle.lerc_ranges.proofs.Judged.{read-ranges-kept, ranges-held}
 use Rattle.lerc_image.specs.declared.WalkAnswer.{WalkAnswer}
 use Rattle.lerc_image.specs.declared.WalkAnswer.the-variants as walk-answer
 use Rattle.lerc_image.specs.declared.FillAnswer.{FillAnswer}
+use Rattle.lerc_image.specs.declared.FillAnswer.the-variants as fill-answer
 use Rattle.lerc_image.specs.Geometry.{tileOf, validInTile}
 use Rattle.lerc_image.specs.Blocks.{Chain}
 use Rattle.lerc_image.specs.Walk.{walkSays, walkSaid}
@@ -33,8 +35,8 @@ use Rattle.lerc.specs.declared.ReadAnswer.{ReadAnswer}
 use Rattle.lerc.specs.declared.ReadAnswer.the-variants as read-answer
 use Rattle.lerc.specs.Meaning.{Meaning, blocks, meaningFrom, bodySays, meaning}
 use Rattle.lerc.specs.Read.{Lent, ReadTold, room, masked, readSays, readSaid}
-use Rattle.lerc_c.specs.Records.{numberOf, headerRoom, headerNumbers, fieldsFit, headerAt, headerFrom, rangesRoom, rangesNumbers, rangesIn, rangesFrom}
-use Rattle.lerc_c.specs.Entries.{headerEntry, prepareEntry, maskNumbers, rangesEntry, walkEntry, readRoom, readEntry}
+use Rattle.lerc_c.specs.Records.{whyOf, numberOf, headerRoom, headerNumbers, fieldsFit, headerAt, headerFrom, rangesRoom, rangesNumbers, rangesIn, rangesFrom}
+use Rattle.lerc_c.specs.Entries.{placing, headerEntry, prepareEntry, maskNumbers, rangesEntry, walkEntry, readRoom, readEntry}
 use Rattle.lerc_c.proofs.Back.{header-kept, ranges-back}
 use Rattle.lerc_c.proofs.Numbers.{prepare-numbered, zero-accepts}
 use Rattle.lerc_theorems.specs.Calls.{HeaderCall, ReadRanges, RangesCall, WalkCall, FillCalls, none as no-call, more as one-call, ReadCall}
@@ -48,57 +50,78 @@ use Rattle.lerc_theorems.proofs.Bodies.{coded-is}
 use Rattle.lerc_theorems.proofs.Longer.{alike-take, walk-same as longer-walk}
 use Rattle.lerc_theorems.proofs.Fills.{means-walking, walking-says}
 use Rattle.lerc_theorems.proofs.DemandThree.{demand-three}
-use Rattle.lerc_c_theorems.specs.Calls.{HoldsHeader, HoldsRanges, HeaderInC, PrepareInC, RangesInC, WalkInC, ReadInC}
+use Rattle.lerc_c_theorems.specs.Calls.{HoldsHeader, HoldsRanges, Told, HasPlace, Accepted, HeaderInC, PrepareInC, RangesInC, WalkInC, ReadInC}
 use Rattle.lerc_c_theorems.specs.SameReader.{Tells, rangesTold, wholeNumbers, alone}
 use Rattle.lerc_c_theorems.specs.DemandThree.{Bytes, InHandInC, inHand, shapeIn, toldSlice, ByWalkInC, ByReadInC, StepsAccept, SurveyedInC, by-walk, by-read, Outcome, FillsInC, none, more, Answered, AllAnswered, no-more, one-more, ReadAlikeInC, AnyOrderInC, DemandThreeInC}
-use Rattle.lerc_c_theorems.proofs.Calls.{header-done, prepare-done, ranges-done, walk-done, read-done}
-use Rattle.lerc_c_theorems.proofs.SameReader.{ranges-are, prepare-reads}
+use Rattle.lerc_c_theorems.proofs.Calls.{Entered, header-done, prepare-done, ranges-done, walk-done, read-done}
+use Rattle.lerc_c_theorems.proofs.SameReader.{ranges-are, prepare-reads, placed-entry}
 use Rattle.lerc_theorems.proofs.Made.{handed-made}
 use Rattle.lerc_c_theorems.proofs.Made.{header-as, prepare-as, ranges-as, walk-as, fill-as, read-as}
 
--- ---- 0 tells that the records were long enough
+-- ---- 0 tells that the records were long enough, and the slice of the place
 
 roomy : {A : Type 0} (t : Bool) (k : Bool → Res A) → 0 ≡ numberOf (require t 5 >>= k) → t ≡ true
 roomy true k e = refl
 roomy false k e = absurd (omega (arith, e))
 
-header-long : {b header₀ header₁ : List ℕ} → HeaderInC b 0 header₀ header₁ → headerRoom ≤ length header₀
+-- an entry that returned 0 had room for its place, and did not refuse
+entered : {A : Type 0} {Done : Refusal → Type 0} {t : Told} (m : Res A) (r : Entered Done t) → r .why ≡ whyOf (placing (t .place₀) m) → t .number ≡ 0 → HasPlace t × (0 ≡ numberOf m)
+entered {t = t} m r k z =
+    let e : 0 ≡ numberOf (placing (t .place₀) m) = sym z ∙ r .number ∙ ap (λ (q : Refusal). q .number) k in
+    let i = leb-true _ _ (roomy (leb 1 (length (t .place₀))) _ e) in
+    (i, e ∙ ap numberOf (placed-entry (t .place₀) m i))
+
+header-long : {b : List ℕ} {t : Told} {header₀ header₁ : List ℕ} → HeaderInC b t header₀ header₁ → t .number ≡ 0 → HasPlace t × (headerRoom ≤ length header₀)
 unfolding headerEntry
-header-long {b} {header₀} c = leb-true _ _ (roomy (leb headerRoom (length header₀)) _ (header-done c .number))
+header-long {b} {t} {header₀} c z = let r = header-done c in let (i, e) = entered {t = t} (headerEntry b header₀) r (r .done .why) z in (i, leb-true _ _ (roomy (leb headerRoom (length header₀)) _ e))
 
-prepare-long : {b header : List ℕ} {reuse : Bool} {kept spare₀ spare₁ said₀ said₁ : List ℕ} → PrepareInC b header reuse kept 0 spare₀ spare₁ said₀ said₁ → 2 ≤ length said₀
+prepare-long : {b header : List ℕ} {reuse : Bool} {kept : List ℕ} {t : Told} {spare₀ spare₁ said₀ said₁ : List ℕ} → PrepareInC b header reuse kept t spare₀ spare₁ said₀ said₁ → t .number ≡ 0
+    → HasPlace t × (2 ≤ length said₀)
 unfolding prepareEntry
-prepare-long {header = header} {said₀ = said₀} c = leb-true _ _ (and-is (leb headerRoom (length header)) _ (roomy (leb headerRoom (length header) && leb 2 (length said₀)) _ (prepare-done c .number)) .1)
+prepare-long {b} {header} {reuse} {kept} {t} {spare₀} {spare₁} {said₀} c z =
+    let r = prepare-done c in
+    let (i, e) = entered {t = t} (prepareEntry b header reuse kept spare₀ said₀) r (r .done .why) z in
+    (i, leb-true _ _ (and-is (leb headerRoom (length header)) _ (roomy (leb headerRoom (length header) && leb 2 (length said₀)) _ e) .1))
 
-ranges-long : {b header ranges₀ ranges₁ : List ℕ} → RangesInC b header 0 ranges₀ ranges₁ → rangesRoom ≤ length ranges₀
+ranges-long : {b header : List ℕ} {t : Told} {ranges₀ ranges₁ : List ℕ} → RangesInC b header t ranges₀ ranges₁ → t .number ≡ 0 → HasPlace t × (rangesRoom ≤ length ranges₀)
 unfolding rangesEntry
-ranges-long {header = header} {ranges₀ = ranges₀} c = leb-true _ _ (and-is (leb headerRoom (length header)) _ (roomy (leb headerRoom (length header) && leb rangesRoom (length ranges₀)) _ (ranges-done c .number)) .1)
+ranges-long {b} {header} {t} {ranges₀} c z =
+    let r = ranges-done c in
+    let (i, e) = entered {t = t} (rangesEntry b header ranges₀) r (r .done .why) z in
+    (i, leb-true _ _ (and-is (leb headerRoom (length header)) _ (roomy (leb headerRoom (length header) && leb rangesRoom (length ranges₀)) _ e) .1))
 
-walk-long : {b header ranges mask list₀ list₁ said₀ said₁ : List ℕ} → WalkInC b header ranges mask 0 list₀ list₁ said₀ said₁ → 2 ≤ length said₀
+walk-long : {b header ranges mask : List ℕ} {t : Told} {list₀ list₁ said₀ said₁ : List ℕ} → WalkInC b header ranges mask t list₀ list₁ said₀ said₁ → t .number ≡ 0 → HasPlace t × (2 ≤ length said₀)
 unfolding walkEntry
-walk-long {header = header} {ranges = ranges} {said₀ = said₀} c =
-    leb-true _ _ (and-is (leb headerRoom (length header) && leb rangesRoom (length ranges)) _ (roomy (leb headerRoom (length header) && leb rangesRoom (length ranges) && leb 2 (length said₀)) _ (walk-done c .number)) .1)
+walk-long {b} {header} {ranges} {mask} {t} {list₀} {list₁} {said₀} c z =
+    let r = walk-done c in
+    let (i, e) = entered {t = t} (walkEntry b header ranges mask list₀ said₀) r (r .done .why) z in
+    (i, leb-true _ _ (and-is (leb headerRoom (length header) && leb rangesRoom (length ranges)) _ (roomy (leb headerRoom (length header) && leb rangesRoom (length ranges) && leb 2 (length said₀)) _ e) .1))
 
-read-long : {b : List ℕ} {reuse : Bool} {old new : Lent} {said₀ said₁ : List ℕ} → ReadInC b reuse 0 old new said₀ said₁ → readRoom ≤ length said₀
+read-long : {b : List ℕ} {reuse : Bool} {t : Told} {old new : Lent} {said₀ said₁ : List ℕ} → ReadInC b reuse t old new said₀ said₁ → t .number ≡ 0 → HasPlace t × (readRoom ≤ length said₀)
 unfolding readEntry
-read-long {said₀ = said₀} c = leb-true _ _ (roomy (leb readRoom (length said₀)) _ (read-done c .number))
+read-long {b} {reuse} {t} {old} {new} {said₀} c z =
+    let r = read-done c in
+    let (i, e) = entered {t = t} (readEntry b reuse old said₀) r (r .done .why) z in
+    (i, leb-true _ _ (roomy (leb readRoom (length said₀)) _ e))
 
 -- ---- a record holds what it was written from
 
 over-long : (front old : List ℕ) → length front ≤ length (over front old)
 over-long front old = rw (length-append) (omega arith)
 
-header-in-hand : (b header₀ header₁ : List ℕ) → Bytes b → HeaderInC b 0 header₀ header₁ → (h : Header) × (headerSays b ≡ ok h) × HoldsHeader header₁ h
-header-in-hand b header₀ header₁ bytes c =
-    let (r, d, t) = header-as c (header-long c) in
+header-in-hand : (b header₀ header₁ : List ℕ) → Bytes b → Accepted (λ t. HeaderInC b t header₀ header₁) → (h : Header) × (headerSays b ≡ ok h) × HoldsHeader header₁ h
+header-in-hand b header₀ header₁ bytes (_, _, c) =
+    let (i, l) = header-long c refl in
+    let (r, d, t) = header-as c i l in
     let (h, e) = accepts-is (headerSaid r) (t .zero .0 refl) in
     let says : headerSays b ≡ ok h = sym (header-call d) ∙ e in
     (h, says, subst (λ (l : List ℕ). HoldsHeader l h) (sym (t .written h e)) (record { long = over-long (headerNumbers h) header₀; is = header-kept b header₀ bytes says }))
 
-ranges-in-hand : (b header : List ℕ) (h : Header) (ranges₀ ranges₁ : List ℕ) → HoldsHeader header h → RangesInC b header 0 ranges₀ ranges₁
+ranges-in-hand : (b header : List ℕ) (h : Header) (ranges₀ ranges₁ : List ℕ) → HoldsHeader header h → Accepted (λ t. RangesInC b header t ranges₀ ranges₁)
     → (r : Ranges) × (readRangesSays b h ≡ ok r) × HoldsRanges ranges₁ r
-ranges-in-hand b header h ranges₀ ranges₁ p c =
-    let (r, d, t) = ranges-as c p (ranges-long c) in
+ranges-in-hand b header h ranges₀ ranges₁ p (_, _, c) =
+    let (i, l) = ranges-long c refl in
+    let (r, d, t) = ranges-as c p i l in
     let (g, e) = accepts-is (rangesTold r) (t .zero .0 refl) in
     let says : readRangesSays b h ≡ ok g = sym (ap rangesTold (ranges-call d) ∙ ranges-are (readRangesSays b h)) ∙ e in
     let k = read-ranges-kept b h g says in
@@ -134,10 +157,11 @@ said-is b w old bytes e = record {
   end = refl;
 }
 
-read-in-hand : {b : List ℕ} {reuse : Bool} {old new : Lent} {said₀ said₁ : List ℕ} → Bytes b → ReadInC b reuse 0 old new said₀ said₁
+read-in-hand : {b : List ℕ} {reuse : Bool} {old new : Lent} {said₀ said₁ : List ℕ} → Bytes b → Accepted (λ t. ReadInC b reuse t old new said₀ said₁)
     → (w : ReadTold) × ReadCall b reuse (read-answer.Whole (w .header) (w .blocks) (w .end)) old new × Said said₁ w
-read-in-hand {b} {reuse} {old} {new} {said₀} bytes c =
-    let (r, d, t) = read-as c (read-long c) in
+read-in-hand {b} {reuse} {old} {new} {said₀} bytes (_, _, c) =
+    let (i, l) = read-long c refl in
+    let (r, d, t) = read-as c i l in
     let (w, e) = accepts-is (readSaid r) (t .zero .0 refl) in
     let d = subst (λ (q : ReadAnswer). ReadCall b reuse q old new) (read-same r (read-answer.Whole (w .header) (w .blocks) (w .end)) e) d in
     (w, d, subst (λ (l : List ℕ). Said l w) (sym (t .written w e)) (said-is b w said₀ bytes (whole-read d .says)))
@@ -160,14 +184,15 @@ record Held (x : InHandInC) : Type 0 where
   ranges : HoldsRanges (x .ranges) (rangesIn (x .ranges))
   read : ReadRanges (x .blob) (headerAt (x .header)) (rangesIn (x .ranges))
 
-held-by : (x : InHandInC) (h : Header) → headerSays (x .blob) ≡ ok h → HoldsHeader (x .header) h → {ranges₀ : List ℕ} → RangesInC (x .blob) (x .header) 0 ranges₀ (x .ranges) → Held x
+held-by : (x : InHandInC) (h : Header) → headerSays (x .blob) ≡ ok h → HoldsHeader (x .header) h → {ranges₀ : List ℕ} → Accepted (λ t. RangesInC (x .blob) (x .header) t ranges₀ (x .ranges)) → Held x
 held-by x h e p {ranges₀} c = go h (at-header p) e p
   where
     go : (h : Header) → h ≡ headerAt (x .header) → headerSays (x .blob) ≡ ok h → HoldsHeader (x .header) h → Held x
     go h z e p =
         let p = subst (HoldsHeader (x .header)) z p in
         let (g, s, q) = ranges-in-hand (x .blob) (x .header) (headerAt (x .header)) ranges₀ (x .ranges) p c in
-        let (r, d, t) = ranges-as c p (ranges-long c) in
+        let (v, l) = ranges-long (c .2) refl in
+        let (r, d, t) = ranges-as (c .2) p v l in
         let i : g ≡ rangesIn (x .ranges) = at-ranges q in
         let y : r ≡ rangesSaid (ok (rangesIn (x .ranges))) = ranges-call d ∙ ap rangesSaid (s ∙ ap ok i) in
         record {
@@ -192,14 +217,20 @@ module _ (x : InHandInC) (w : ByWalkInC x) where
 
   header-called : HeaderCall (x .blob) (header-answer.Read h)
   header-called =
-      let (r, d, t) = header-as (w .header) (header-long (w .header)) in
+      let (i, l) = header-long (w .header .2) refl in
+      let (r, d, t) = header-as (w .header .2) i l in
       subst (HeaderCall (x .blob)) (header-same r (header-answer.Read h) (header-call d ∙ hold .says)) d
 
   prepared : (f : MaskInForce) × (prepareSays (x .blob) h (x .reuse) (x .kept) (length (w .spare₀)) ≡ ok f) × (w .spare₁ ≡ spareWith f (w .spare₀)) × (w .part₁ ≡ over (maskNumbers f) (w .part₀))
   prepared =
-      let d = prepare-done (w .prepare) in
-      let (f, e) = zero-accepts (prepare-numbered (x .blob) (x .header) (x .reuse) (x .kept) (w .spare₀) (w .part₀)) (sym (d .number)) in
-      (f, sym (prepare-reads (x .blob) (hold .header) (x .reuse) (x .kept) (w .spare₀) (w .part₀) (prepare-long (w .prepare))) ∙ e, rw (e) at (d .spare), rw (e) at (d .said))
+      let d = prepare-done (w .prepare .2) in
+      let (i, l) = prepare-long (w .prepare .2) refl in
+      let m = prepareEntry (x .blob) (x .header) (x .reuse) (x .kept) (w .spare₀) (w .part₀) in
+      let k = placed-entry (w .prepare .0) m i in
+      let n : numberOf m ≡ 0 = sym (d .number ∙ ap (λ (q : Refusal). q .number) (d .done .why) ∙ ap numberOf k) in
+      let (f, e) = zero-accepts (prepare-numbered (x .blob) (x .header) (x .reuse) (x .kept) (w .spare₀) (w .part₀)) n in
+      let y = k ∙ e in
+      (f, sym (prepare-reads (x .blob) (hold .header) (x .reuse) (x .kept) (w .spare₀) (w .part₀) l) ∙ e, rw (y) at (d .done .spare), rw (y) at (d .done .said))
 
   mask-in-front : (f : MaskInForce) → prepareSays (x .blob) h (x .reuse) (x .kept) (length (w .spare₀)) ≡ ok f → w .spare₁ ≡ spareWith f (w .spare₀) → w .part₁ ≡ over (maskNumbers f) (w .part₀)
       → (mask : List ℕ) → take (getD (w .part₁) 1 0) mask ≡ take (getD (w .part₁) 1 0) (toldSlice (w .part₁) (x .kept) (w .spare₁)) → take (maskLength (shapeOf h)) mask ≡ bytesOf f
@@ -209,7 +240,8 @@ module _ (x : InHandInC) (w : ByWalkInC x) where
 
   walk-called : WalkCall (x .blob) h (rangesIn (x .ranges)) (w .longer) (walk-answer.Walked (x .count) (x .end)) (w .list₀) (w .list₁)
   walk-called =
-      let (r, d, t) = walk-as (w .walk) (hold .header) (hold .ranges) (walk-long (w .walk)) in
+      let (i, l) = walk-long (w .walk .2) refl in
+      let (r, d, t) = walk-as (w .walk .2) (hold .header) (hold .ranges) i l in
       let (v, e) = accepts-is (walkSaid r) (t .zero .0 refl) in
       let s = t .written v e in
       let n : v .blocks ≡ x .count = sym (w .count ∙ ap (λ (l : List ℕ). getD l 0 0) s) in
@@ -222,7 +254,8 @@ module _ (x : InHandInC) (w : ByWalkInC x) where
 
   walked : ByWalk (inHand x)
   walked =
-      let (r, d, t) = prepare-as (w .prepare) (hold .header) (prepare-long (w .prepare)) in
+      let (room, l) = prepare-long (w .prepare .2) refl in
+      let (r, d, t) = prepare-as (w .prepare .2) (hold .header) room l in
       let (f, e, i, j) = prepared in
       let m = prepareSays (x .blob) h (x .reuse) (x .kept) (length (w .spare₀)) in
       let part = sym (in-force f m r (x .kept) (w .spare₀) (w .spare₁) e (prepared-right (x .blob) h (x .reuse) (x .kept) (length (w .spare₀)) f e .part) (prepare-call d)) in
@@ -309,11 +342,11 @@ module _ (b : List ℕ) (reuse : Bool) (old : Lent) (h : Header) (f : MaskInForc
 
   steps : StepsAccept b reuse old h f
   steps = record {
-    header = λ n header₀ header₁ q l. let (s, d, t) = header-as q l in t .zero .1 (ap accepts (header-call d ∙ parts .header));
-    prepare = λ n header spare said₀ said₁ q p l. let (s, d, t) = prepare-as q p l in t .zero .1 (ap accepts (prepare-call d .says) ∙ rw (mask-found) (told-of f));
-    ranges = λ n header ranges₀ ranges₁ q p l. let (s, d, t) = ranges-as q p l in
+    header = λ v header₀ header₁ q i l. let (s, d, t) = header-as q i l in t .zero .1 (ap accepts (header-call d ∙ parts .header));
+    prepare = λ v header spare said₀ said₁ q p i l. let (s, d, t) = prepare-as q p i l in t .zero .1 (ap accepts (prepare-call d .says) ∙ rw (mask-found) (told-of f));
+    ranges = λ v header ranges₀ ranges₁ q p i l. let (s, d, t) = ranges-as q p i l in
         t .zero .1 (ap accepts (ap rangesTold (ranges-call d) ∙ ranges-are (readRangesSays b h) ∙ ranges-found .1));
-    walk = λ n header ranges mask list said₀ said₁ g q p i says m l. let (s, d, t) = walk-as q p i l in
+    walk = λ v header ranges mask list said₀ said₁ g q p i says m k l. let (s, d, t) = walk-as q p i k l in
         t .zero .1 (ap accepts (walk-call d .says) ∙ rw (walk-found g says mask m));
   }
 
@@ -324,21 +357,26 @@ abbrev AllTell : List FillAnswer → List Outcome → Type 0
 AllTell [] [] = Unit {0}
 AllTell [] (o ∷ others) = ⊥
 AllTell (a ∷ answers) [] = ⊥
-AllTell (a ∷ answers) (o ∷ others) = Tells (fillSaid a) alone (o .number) (o .said₀) (o .said₁) × AllTell answers others
+AllTell (a ∷ answers) (o ∷ others) = Tells (fillSaid a) alone (o .told) (o .said₀) (o .said₁) × AllTell answers others
 
 module _ {b header ranges mask list : List ℕ} {h : Header} {r : Ranges} (p : HoldsHeader header h) (q : HoldsRanges ranges r) where
   filled : (ns : List ℕ) (said : List Outcome) (old new : List ℕ) → FillsInC b header ranges mask list ns said old new → (answers : List FillAnswer) × FillCalls b h r mask list ns answers old new × AllTell answers said
   filled ns said old new (none image) = ([], no-call image, tt)
-  filled ns said old new (more n rest one others old' mid new' l c f) =
-      let (a, d, t) = fill-as c p q l in
+  filled ns said old new (more n rest one others old' mid new' i l c f) =
+      let (a, d, t) = fill-as c p q i l in
       let (answers, calls, tells) = filled rest others mid new' f in
       (a ∷ answers, one-call n rest a answers old' mid new' d calls, (t, tells))
 
-answered : (s : Shape) (mask : List ℕ) (n : ℕ) (o : Outcome) → Tells (fillSaid (answerTo s mask n)) alone (o .number) (o .said₀) (o .said₁) → Answered s mask n o
+answered : (s : Shape) (mask : List ℕ) (n : ℕ) (o : Outcome) → Tells (fillSaid (answerTo s mask n)) alone (o .told) (o .said₀) (o .said₁) → Answered s mask n o
 answered s mask n o t = record {
+  place = t .place ∙ ap (set (o .told .place₀) 0) (go (ltb n (blockCount s)));
   below = λ l. let e : fillSaid (answerTo s mask n) ≡ ok (validInTile s mask (tileOf s n)) = rw (lt-ltb _ _ l) in (t .zero .1 (ap accepts e), t .written _ e);
   above = λ l. let e : fillSaid (answerTo s mask n) ≡ fail (refuse 11) = rw (le-ltb _ _ l) in (t .refused _ e, t .kept _ e);
 }
+  where
+    go : (b : Bool) → whyOf (fillSaid (cond b (fill-answer.Filled (validInTile s mask (tileOf s n))) (fill-answer.Refused (refuse 11)))) .at ≡ 0
+    go true = refl
+    go false = refl
 
 all-answered : (s : Shape) (mask ns : List ℕ) (said : List Outcome) → AllTell (map (answerTo s mask) ns) said → AllAnswered s mask ns said
 all-answered s mask [] [] t = no-more
@@ -349,11 +387,12 @@ all-answered s mask (n ∷ ns) (o ∷ os) t = one-more n ns o os (answered s mas
 -- an accepted read had room for all
 alike : (x : InHandInC) → headerSays (x .blob) ≡ ok (headerAt (x .header)) → (left : Lent) → ReadAlikeInC x left → ReadAlike (x .blob) (x .reuse) (x .kept) (headerAt (x .header)) (x .image) left
 alike x e left a =
-    let (r, d, t) = read-as (a .read) (read-long (a .read)) in
+    let (i, l) = read-long (a .read .2) refl in
+    let (r, d, t) = read-as (a .read .2) i l in
     let (v, s) = accepts-is (readSaid r) (t .zero .0 refl) in
     let y = whole-read (subst (λ (q : ReadAnswer). ReadCall (x .blob) (x .reuse) q (a .lent) left) (read-same r (read-answer.Whole (v .header) (v .blocks) (v .end)) s) d) in
-    let i : v .header ≡ headerAt (x .header) = ok-is (sym (y .says) ∙ e) in
-    record { answer = r; lent = a .lent; read = d; room = subst (λ (h : Header). room h (a .lent) ≡ true) i (y .room); same-mask = a .same-mask; same-start = a .same-start }
+    let z : v .header ≡ headerAt (x .header) = ok-is (sym (y .says) ∙ e) in
+    record { answer = r; lent = a .lent; read = d; room = subst (λ (h : Header). room h (a .lent) ≡ true) z (y .room); same-mask = a .same-mask; same-start = a .same-start }
 
 in-any-order : (x : InHandInC) → SurveyedInC x → (ns : List ℕ) (said : List Outcome) (new : List ℕ) → FillsInC (x .blob) (x .header) (x .ranges) (x .mask) (x .list) ns said (x .image) new
     → AnyOrderInC x ns said new

@@ -1,25 +1,35 @@
 -- No promise of an entry for C leaves room: two outcomes that it allows for one input coincide.
 -- Assumes nothing.
-use mathlib.Core.Path.{_≡_, _∙_, sym, refl}
+use mathlib.Core.Path.{_≡_, _∙_, sym, ap, refl}
+use mathlib.Core.List.{List}
+use Prim.Native.Nat.{ℕ}
+use lib.ListN.{set}
+use Rattle.lerc_words.specs.declared.Refusal.{Refusal}
+use Rattle.lerc_c.specs.Entries.{Returned}
 use Rattle.lerc_theorems.specs.Promises.{Answers}
 use Rattle.lerc_c_theorems.specs.Promises.{NoRoomInC}
+use Rattle.lerc_c_theorems.proofs.Calls.{header-alike, prepare-alike, ranges-alike, walk-alike, fill-alike, read-alike, stored-alike}
 
 -- an answer that is given by the inputs
 given : {K A R O : Type 0} {Pre : K → A → Type 0} {Post : K → A → R → O → Type 0} → ((k : K) (a : A) → Pre k a) → (f : K → A → R) → ((k : K) (a : A) (r : R) (x : O) → Post k a r x → r ≡ f k a) → Answers Pre Post
 given asks f h = record { asks-nothing = asks; same = λ k a r q x y p s. (h k a r x p ∙ sym (h k a q y s), refl) }
 
+-- an entry's number and place are given by why it refuses
+told : {Done Left : Refusal → Type 0} {r q : ℕ} {place₀ place₁ place₂ : List ℕ} (p : Returned Done r place₀ place₁) (s : Returned Left q place₀ place₂) → p .why ≡ s .why → (r ≡ q) × (place₁ ≡ place₂)
+told {place₀ = place₀} p s e = (p .number ∙ ap (λ (w : Refusal). w .number) e ∙ sym (s .number), p .place ∙ ap (λ (w : Refusal). set place₀ 0 (w .at)) e ∙ sym (s .place))
+
 pub no-room-in-c : NoRoomInC
 no-room-in-c = record {
-  read-header = record { asks-nothing = λ k a. tt; same = λ k a r q x y p s. (p .number ∙ sym (s .number), p .header ∙ sym (s .header)) };
-  prepare-mask = record { asks-nothing = λ k a. tt; same = λ k a r q x y p s. (p .number ∙ sym (s .number), rw (p .spare ∙ sym (s .spare), p .said ∙ sym (s .said))) };
-  read-ranges = record { asks-nothing = λ k a. tt; same = λ k a r q x y p s. (p .number ∙ sym (s .number), p .ranges ∙ sym (s .ranges)) };
-  walk = record { asks-nothing = λ k a. tt; same = λ k a r q x y p s. (p .number ∙ sym (s .number), rw (p .list ∙ sym (s .list), p .said ∙ sym (s .said))) };
-  fill = record { asks-nothing = λ k a. tt; same = λ k a r q x y p s. (p .number ∙ sym (s .number), rw (p .image ∙ sym (s .image), p .said ∙ sym (s .said))) };
-  read = record { asks-nothing = λ k a. tt; same = λ k a r q x y p s. (p .number ∙ sym (s .number), rw (p .lent ∙ sym (s .lent), p .said ∙ sym (s .said))) };
+  read-header = record { asks-nothing = λ k a. tt; same = λ k a r q x y p s. let (e, f) = header-alike refl (p .done) (s .done) in let (n, i) = told p s e in (n, rw (f, i)) };
+  prepare-mask = record { asks-nothing = λ k a. tt; same = λ k a r q x y p s. let (e, f, g) = prepare-alike refl (p .done) (s .done) in let (n, i) = told p s e in (n, rw (f, g, i)) };
+  read-ranges = record { asks-nothing = λ k a. tt; same = λ k a r q x y p s. let (e, f) = ranges-alike refl (p .done) (s .done) in let (n, i) = told p s e in (n, rw (f, i)) };
+  walk = record { asks-nothing = λ k a. tt; same = λ k a r q x y p s. let (e, f, g) = walk-alike refl (p .done) (s .done) in let (n, i) = told p s e in (n, rw (f, g, i)) };
+  fill = record { asks-nothing = λ k a. tt; same = λ k a r q x y p s. let (e, f, g) = fill-alike refl (p .done) (s .done) in let (n, i) = told p s e in (n, rw (f, g, i)) };
+  read = record { asks-nothing = λ k a. tt; same = λ k a r q x y p s. let (e, f, g) = read-alike refl refl (p .done) (s .done) in let (n, i) = told p s e in (n, rw (f, g, i)) };
   float-ready = given (λ k a. tt) _ (λ k a r x p. p);
   sum = given (λ k a. tt) _ (λ k a r x p. p);
   scaled = given (λ k a. tt) _ (λ k a r x p. p);
   narrow = given (λ k a. tt) _ (λ k a r x p. p);
   number = given (λ k a. tt) _ (λ k a r x p. p);
-  stored = record { asks-nothing = λ k a. tt; same = λ k a r q x y p s. (p .number ∙ sym (s .number), p .said ∙ sym (s .said)) };
+  stored = record { asks-nothing = λ k a. tt; same = λ k a r q x y p s. let (e, f) = stored-alike refl (p .done) (s .done) in let (n, i) = told p s e in (n, rw (f, i)) };
 }

@@ -4,7 +4,7 @@ use Rattle.lerc_c_theorems.specs.InC.{DemandsInC}
 use Rattle.lerc_c_theorems.proofs.Determined.{no-room-in-c}
 use Rattle.lerc_c_theorems.proofs.Refusals.{refusals-keep-in-c}
 use Rattle.lerc_c_theorems.proofs.SameReader.{same-reader}
-use Rattle.lerc_c_theorems.proofs.Numbers.{numbers-exactly-in-c, numbers-only-in-c}
+use Rattle.lerc_c_theorems.proofs.Numbers.{numbers-exactly-in-c, places-exactly-in-c, numbers-only-in-c}
 use Rattle.lerc_c_theorems.proofs.DemandTwo.{demand-two-in-c}
 use Rattle.lerc_c_theorems.proofs.DemandThree.{demand-three-in-c}
 use Rattle.lerc_c_theorems.proofs.Unread.{unread-in-c}
@@ -15,6 +15,7 @@ demands-in-c = record {
   keeps-in-c = refusals-keep-in-c;
   same-reader = same-reader;
   numbers-exactly-in-c = numbers-exactly-in-c;
+  places-exactly-in-c = places-exactly-in-c;
   numbers-only-in-c = numbers-only-in-c;
   two-in-c = demand-two-in-c;
   three-in-c = demand-three-in-c;

@@ -28,7 +28,7 @@ use Rattle.lerc_c.specs.Records.{headerRoom, headerNumbers, rangesRoom, rangesN
 use Rattle.lerc_c.specs.Entries.{readRoom}
 use Rattle.lerc_theorems.specs.Calls.{HeaderCall, PrepareCall, RangesCall, WalkCall, FillCall, ReadCall}
 use Rattle.lerc_theorems.proofs.Made.{header-made, prepare-made, ranges-made, walk-made, fill-made, read-made}
-use Rattle.lerc_c_theorems.specs.Calls.{HoldsHeader, HoldsRanges, HeaderInC, PrepareInC, RangesInC, WalkInC, FillInC, ReadInC}
+use Rattle.lerc_c_theorems.specs.Calls.{HoldsHeader, HoldsRanges, Told, HasPlace, HeaderInC, PrepareInC, RangesInC, WalkInC, FillInC, ReadInC}
 use Rattle.lerc_c_theorems.specs.SameReader.{Tells, partNumbers, rangesTold, walkedNumbers, wholeNumbers, alone}
 use Rattle.lerc_c_theorems.proofs.SameReader.{same-reader}
 
@@ -81,40 +81,40 @@ read-call b reuse l = let (r, e) = read-saying (readSays b reuse l >>= readCount
 
 -- ---- behind a call of C
 
-pub header-as : {b : List ℕ} {n : ℕ} {header₀ header₁ : List ℕ} → HeaderInC b n header₀ header₁ → headerRoom ≤ length header₀
-    → (r : HeaderAnswer) × HeaderCall b r × Tells (headerSaid r) headerNumbers n header₀ header₁
-header-as {b} c l = let (r, d) = header-call b in (r, d, same-reader .read-header _ _ _ _ c l r d)
+pub header-as : {b : List ℕ} {t : Told} {header₀ header₁ : List ℕ} → HeaderInC b t header₀ header₁ → HasPlace t → headerRoom ≤ length header₀
+    → (r : HeaderAnswer) × HeaderCall b r × Tells (headerSaid r) headerNumbers t header₀ header₁
+header-as {b} c i l = let (r, d) = header-call b in (r, d, same-reader .read-header _ _ _ _ c i l r d)
 
-pub prepare-as : {b header : List ℕ} {reuse : Bool} {kept : List ℕ} {n : ℕ} {spare₀ spare₁ said₀ said₁ : List ℕ} → PrepareInC b header reuse kept n spare₀ spare₁ said₀ said₁
-    → {h : Header} → HoldsHeader header h → 2 ≤ length said₀ → (r : MaskAnswer) × PrepareCall b h reuse kept r spare₀ spare₁ × Tells (maskSaid r) partNumbers n said₀ said₁
-prepare-as {b} {header} {reuse} {kept} {n} {spare₀} c {h} p l =
+pub prepare-as : {b header : List ℕ} {reuse : Bool} {kept : List ℕ} {t : Told} {spare₀ spare₁ said₀ said₁ : List ℕ} → PrepareInC b header reuse kept t spare₀ spare₁ said₀ said₁
+    → {h : Header} → HoldsHeader header h → HasPlace t → 2 ≤ length said₀ → (r : MaskAnswer) × PrepareCall b h reuse kept r spare₀ spare₁ × Tells (maskSaid r) partNumbers t said₀ said₁
+prepare-as {b} {header} {reuse} {kept} {t} {spare₀} c {h} p i l =
     let (r, left, d) = prepare-call b h reuse kept spare₀ in
-    let (t, e) = same-reader .prepare-mask _ _ _ _ _ _ _ _ _ c h p l r left d in
+    let (t, e) = same-reader .prepare-mask _ _ _ _ _ _ _ _ _ c h p i l r left d in
     (r, subst (λ (x : List ℕ). PrepareCall b h reuse kept r spare₀ x) (sym e) d, t)
 
-pub ranges-as : {b header : List ℕ} {n : ℕ} {ranges₀ ranges₁ : List ℕ} → RangesInC b header n ranges₀ ranges₁ → {h : Header} → HoldsHeader header h → rangesRoom ≤ length ranges₀
-    → (r : RangesRead) × RangesCall b h r × Tells (rangesTold r) rangesNumbers n ranges₀ ranges₁
-ranges-as {b} c {h} p l = let (r, d) = ranges-call b h in (r, d, same-reader .read-ranges _ _ _ _ _ c h p l r d)
+pub ranges-as : {b header : List ℕ} {t : Told} {ranges₀ ranges₁ : List ℕ} → RangesInC b header t ranges₀ ranges₁ → {h : Header} → HoldsHeader header h → HasPlace t → rangesRoom ≤ length ranges₀
+    → (r : RangesRead) × RangesCall b h r × Tells (rangesTold r) rangesNumbers t ranges₀ ranges₁
+ranges-as {b} c {h} p i l = let (r, d) = ranges-call b h in (r, d, same-reader .read-ranges _ _ _ _ _ c h p i l r d)
 
-pub walk-as : {b header ranges mask : List ℕ} {n : ℕ} {list₀ list₁ said₀ said₁ : List ℕ} → WalkInC b header ranges mask n list₀ list₁ said₀ said₁
-    → {h : Header} {g : Ranges} → HoldsHeader header h → HoldsRanges ranges g → 2 ≤ length said₀
-    → (r : WalkAnswer) × WalkCall b h g mask r list₀ list₁ × Tells (walkSaid r) walkedNumbers n said₀ said₁
-walk-as {b} {header} {ranges} {mask} {n} {list₀} c {h} {g} p q l =
+pub walk-as : {b header ranges mask : List ℕ} {t : Told} {list₀ list₁ said₀ said₁ : List ℕ} → WalkInC b header ranges mask t list₀ list₁ said₀ said₁
+    → {h : Header} {g : Ranges} → HoldsHeader header h → HoldsRanges ranges g → HasPlace t → 2 ≤ length said₀
+    → (r : WalkAnswer) × WalkCall b h g mask r list₀ list₁ × Tells (walkSaid r) walkedNumbers t said₀ said₁
+walk-as {b} {header} {ranges} {mask} {t} {list₀} c {h} {g} p q i l =
     let (r, left, d) = walk-call b h g mask list₀ in
-    let (t, e) = same-reader .walk _ _ _ _ _ _ _ _ _ c h g p q l r left d in
+    let (t, e) = same-reader .walk _ _ _ _ _ _ _ _ _ c h g p q i l r left d in
     (r, subst (λ (x : List ℕ). WalkCall b h g mask r list₀ x) (sym e) d, t)
 
-pub fill-as : {b header ranges mask list : List ℕ} {block n : ℕ} {image₀ image₁ said₀ said₁ : List ℕ} → FillInC b header ranges mask list block n image₀ image₁ said₀ said₁
-    → {h : Header} {g : Ranges} → HoldsHeader header h → HoldsRanges ranges g → 1 ≤ length said₀
-    → (r : FillAnswer) × FillCall b h g mask list block r image₀ image₁ × Tells (fillSaid r) alone n said₀ said₁
-fill-as {b} {header} {ranges} {mask} {list} {block} {n} {image₀} c {h} {g} p q l =
+pub fill-as : {b header ranges mask list : List ℕ} {block : ℕ} {t : Told} {image₀ image₁ said₀ said₁ : List ℕ} → FillInC b header ranges mask list block t image₀ image₁ said₀ said₁
+    → {h : Header} {g : Ranges} → HoldsHeader header h → HoldsRanges ranges g → HasPlace t → 1 ≤ length said₀
+    → (r : FillAnswer) × FillCall b h g mask list block r image₀ image₁ × Tells (fillSaid r) alone t said₀ said₁
+fill-as {b} {header} {ranges} {mask} {list} {block} {t} {image₀} c {h} {g} p q i l =
     let (r, left, d) = fill-call b h g mask list block image₀ in
-    let (t, e) = same-reader .fill _ _ _ _ _ _ _ _ _ _ _ c h g p q l r left d in
+    let (t, e) = same-reader .fill _ _ _ _ _ _ _ _ _ _ _ c h g p q i l r left d in
     (r, subst (λ (x : List ℕ). FillCall b h g mask list block r image₀ x) (sym e) d, t)
 
-pub read-as : {b : List ℕ} {reuse : Bool} {n : ℕ} {old new : Lent} {said₀ said₁ : List ℕ} → ReadInC b reuse n old new said₀ said₁ → readRoom ≤ length said₀
-    → (r : ReadAnswer) × ReadCall b reuse r old new × Tells (readSaid r) wholeNumbers n said₀ said₁
-read-as {b} {reuse} {n} {old} c l =
+pub read-as : {b : List ℕ} {reuse : Bool} {t : Told} {old new : Lent} {said₀ said₁ : List ℕ} → ReadInC b reuse t old new said₀ said₁ → HasPlace t → readRoom ≤ length said₀
+    → (r : ReadAnswer) × ReadCall b reuse r old new × Tells (readSaid r) wholeNumbers t said₀ said₁
+read-as {b} {reuse} {t} {old} c i l =
     let (r, left, d) = read-call b reuse old in
-    let (t, e) = same-reader .read _ _ _ _ _ _ _ c l r left d in
+    let (t, e) = same-reader .read _ _ _ _ _ _ _ c i l r left d in
     (r, subst (λ (x : Lent). ReadCall b reuse r old x) (sym e) d, t)

@@ -4,9 +4,9 @@ use mathlib.Core.Path.{_≡_, _∙_, sym, ap, refl, subst}
 use mathlib.Core.Logic.{_↔_, _≢_, _⊎_, inl, inr}
 use mathlib.Core.Bool.{Bool, true, false, _&&_}
 use mathlib.Core.List.{List, [], _∷_}
-use Prim.Native.Nat.{ℕ}
+use Prim.Native.Nat.{ℕ, zero, suc}
 use native.Mathlib.Omega.{arith}
-use lib.ListN.{length, getD}
+use lib.ListN.{length, getD, set}
 use lib.Dec.{leb, ltb}
 use borrow.Author.Tests.{ltb-true, ltb-false, leb-true, leb-false}
 use Rattle.lerc_words.specs.declared.Refusal.{Refusal}
@@ -22,18 +22,22 @@ use Rattle.lerc_image.specs.Paint.{among}
 use Rattle.lerc_image.specs.Walk.{walkSays}
 use Rattle.lerc_image.specs.Fill.{fillSays}
 use Rattle.lerc.specs.Read.{Lent, readSays}
-use Rattle.lerc_c.specs.Records.{numberOf, headerRoom, fieldsFit, headerAt, headerFrom, rangesRoom, rangesIn, rangesFrom}
-use Rattle.lerc_c.specs.Entries.{headerEntry, prepareEntry, rangesEntry, walkEntry, fillEntry, readRoom, readEntry, storedEntry}
+use Rattle.lerc_c.specs.Records.{whyOf, headerRoom, fieldsFit, headerAt, headerFrom, rangesRoom, rangesIn, rangesFrom}
+use Rattle.lerc_c.specs.Entries.{placing, Returned, headerEntry, prepareEntry, rangesEntry, walkEntry, fillEntry, readRoom, readEntry, storedEntry}
 use Rattle.lerc_c.proofs.RecordParts.{Fit, fit}
 use Rattle.lerc_c.proofs.Numbers.{Numbered, header-numbered, prepare-numbered, ranges-numbered, walk-numbered, fill-numbered, read-numbered, stored-numbered, zero-accepts}
+use Rattle.lerc_theorems.specs.Numbers.{Exactly, ExactlyNumbered}
 use Rattle.lerc_theorems.specs.BlockTable.{StoredRefused}
 use Rattle.lerc_theorems.specs.Table.{HeaderRefused, PrepareRefused, ReadRangesRefused, WalkRefused, FillRefused, WholeRefused}
 use Rattle.lerc_theorems.proofs.Demands.{fail-is, not-refused}
+use Rattle.lerc_theorems.proofs.Numbers.{by-number}
 use Rattle.lerc_theorems.proofs.Given.{header-in, prepare-in, read-ranges-in, walk-in, fill-in, whole-in, stored-in}
 use Rattle.lerc_theorems.proofs.Headers.{header-exactly, prepare-exactly, read-ranges-exactly}
 use Rattle.lerc_theorems.proofs.Entries.{walk-exactly, fill-exactly, whole-exactly}
 use Rattle.lerc_theorems.proofs.Blocks.{stored-exactly}
-use Rattle.lerc_c_theorems.specs.Numbers.{EntryRefused, record-short, number-wide, reader-refuses, NothingWide, Shorter, HeaderWide, rows-wide, columns-wide, depth-wide, valid-wide, side-wide, size-wide, kind-wide, mask-wide, MarkWide, NumbersExactlyInC, NumbersOnlyInC}
+use Rattle.lerc_c_theorems.specs.Promises.{c-lent}
+use Rattle.lerc_c_theorems.proofs.SameReader.{placing-numbered}
+use Rattle.lerc_c_theorems.specs.Numbers.{ToldInC, PromisedInC, EntryRefused, slice-short, number-wide, reader-refuses, NothingWide, Shorter, HeaderWide, rows-wide, columns-wide, depth-wide, valid-wide, side-wide, size-wide, kind-wide, mask-wide, MarkWide, NumbersExactlyInC, PlacesExactlyInC, OnlyInC, NumbersOnlyInC}
 
 -- ---- tests, and what fails where one fails
 
@@ -90,16 +94,16 @@ module _ {A : Type 0} {m : Res A} {Short Wide : Type 0} {Refused : Refusal → T
   refused-by : (t u : Bool) → Decides t Short → Decides u Wide → {why : Refusal} → Entry t u m ≡ fail why → EntryRefused Short Wide Refused why
   refused-by true true s w {why} e = reader-refuses (s .good refl) (w .good refl) (rest why .0 e)
   refused-by true false s w e = subst (EntryRefused Short Wide Refused) (fail-is e) (number-wide (s .good refl) (w .bad refl))
-  refused-by false u s w e = subst (EntryRefused Short Wide Refused) (fail-is e) (record-short (s .bad refl))
+  refused-by false u s w e = subst (EntryRefused Short Wide Refused) (fail-is e) (slice-short (s .bad refl))
 
   by-refused : (t u : Bool) → Decides t Short → Decides u Wide → {why : Refusal} → EntryRefused Short Wide Refused why → Entry t u m ≡ fail why
-  by-refused true true s w (record-short x) = absurd (s .good refl x)
+  by-refused true true s w (slice-short x) = absurd (s .good refl x)
   by-refused true true s w (number-wide x y) = absurd (w .good refl y)
   by-refused true true s w {why} (reader-refuses x y r) = rest why .1 r
-  by-refused true false s w (record-short x) = absurd (s .good refl x)
+  by-refused true false s w (slice-short x) = absurd (s .good refl x)
   by-refused true false s w (number-wide x y) = refl
   by-refused true false s w (reader-refuses x y r) = absurd (y (w .bad refl))
-  by-refused false u s w (record-short x) = refl
+  by-refused false u s w (slice-short x) = refl
   by-refused false u s w (number-wide x y) = absurd (x (s .bad refl))
   by-refused false u s w (reader-refuses x y r) = absurd (x (s .bad refl))
 
@@ -167,6 +171,11 @@ stored-form : (kind v : ℕ) (said : List ℕ) → storedEntry kind v said ≡ E
 unfolding storedEntry
 stored-form kind v said = refl
 
+-- room for the place comes before all of it
+placed-form : {A : Type 0} (p t u : Bool) (m : Res A) → (require p 5 >>= λ _. Entry t u m) ≡ Entry (p && t) u m
+placed-form true t u m = refl
+placed-form false t u m = refl
+
 -- ---- their tables
 
 abbrev TableOf : {A : Type 0} → Res A → (Refusal → Type 0) → Type 0
@@ -176,86 +185,136 @@ TableOf entry When = (why : Refusal) → (entry ≡ fail why) ↔ When why
 behind : {A B : Type 0} {m : Res A} (f : A → B) {When : Refusal → Type 0} → TableOf m When → TableOf (m >>= λ a. ok (f a)) When
 behind {m = m} f p why = (λ e. p why .0 (bind-fail m f e), λ r. bind-no _ (p why .1 r))
 
--- where an entry's number is 0, and where it is another
-module _ {A : Type 0} {When : Refusal → Type 0} {n : ℕ} where
-  zero-where : (entry : Res A) → Numbered entry → TableOf entry When → n ≡ numberOf entry → (n ≡ 0) ↔ ((why : Refusal) → When why → ⊥)
-  zero-where (ok a) p f k = (λ _ why r. not-refused (f why .1 r), λ _. k)
-  zero-where (fail q) p f k = (λ z. let (_, d) = zero-accepts p (sym k ∙ z) in not-refused (sym d), λ none. absurd (none q (f q .0 refl)))
+-- a refusal by its number and its place
+refusal-is : (q : Refusal) {n p : ℕ} → n ≡ q .number → q .at ≡ p → q ≡ record { number = n; at = p }
+refusal-is q d e = rw (d, ← e)
 
-  other-where : (entry : Res A) → TableOf entry When → n ≡ numberOf entry → (j : ℕ) → j ≢ 0 → (n ≡ j) ↔ When (refuse j)
-  other-where (ok a) f k j z = (λ e. absurd (z (sym e ∙ k)), λ r. not-refused (f (refuse j) .1 r))
-  other-where (fail q) f k j z = (λ e. subst (λ (v : ℕ). When (refuse v)) (sym k ∙ e) (f q .0 refl), λ r. k ∙ ap (λ (v : Refusal). v .number) (fail-is (f (refuse j) .1 r)))
+-- where an entry returns 0, and what it tells where it does not
+module _ {A : Type 0} {When : Refusal → Type 0} {Done : Refusal → Type 0} {n : ℕ} {place₀ place₁ : List ℕ} (r : Returned Done n place₀ place₁) where
+  zero-where : (entry : Res A) → Numbered entry → TableOf entry When → r .why ≡ whyOf entry → (n ≡ 0) ↔ ((why : Refusal) → When why → ⊥)
+  zero-where (ok a) p f k = (λ _ why w. not-refused (f why .1 w), λ _. r .number ∙ ap (λ (q : Refusal). q .number) k)
+  zero-where (fail q) p f k = (λ z. let (_, d) = zero-accepts p (sym (r .number ∙ ap (λ (q : Refusal). q .number) k) ∙ z) in not-refused (sym d), λ none. absurd (none q (f q .0 refl)))
 
-module _ (b header : List ℕ) where
-  header-table : TableOf (headerEntry b header) (EntryRefused (Shorter header headerRoom) NothingWide (HeaderRefused b))
-  header-table = table (header-exactly b) (long headerRoom header) no-test (header-form b header)
+  exactly-where : (entry : Res A) → Numbered entry → TableOf entry When → r .why ≡ whyOf entry → r .why .at ≡ getD place₁ 0 0 → Exactly (ToldInC n place₁) When
+  exactly-where (ok a) p f k e why = (λ t. absurd (t .0 (r .number ∙ ap (λ (q : Refusal). q .number) k)), λ w. not-refused (f why .1 w))
+  exactly-where (fail q) p f k e why = (
+    λ t. f why .0 (ap fail (sym k ∙ refusal-is (r .why) (r .number) e ∙ sym (t .1))),
+    λ w. let d = fail-is (f why .1 w) in (λ z. let (_, c) = zero-accepts p (sym (r .number ∙ ap (λ (q : Refusal). q .number) k) ∙ z) in not-refused (sym c), sym (k ∙ d) ∙ refusal-is (r .why) (r .number) e),
+  )
 
-  prepare-table : (reuse : Bool) (kept spare said : List ℕ) → TableOf (prepareEntry b header reuse kept spare said)
-      (EntryRefused (Shorter header headerRoom ⊎ Shorter said 2) (HeaderWide header) (PrepareRefused b (headerAt header) reuse kept (length spare)))
+-- the first number of the slice is the place; where there is none, 5 is refused at 0
+first-place : {A : Type 0} (place₀ : List ℕ) (m : Res A) (why : Refusal) (place₁ : List ℕ) → why ≡ whyOf (placing place₀ m) → place₁ ≡ set place₀ 0 (why .at) → why .at ≡ getD place₁ 0 0
+first-place [] m why place₁ k e = ap (λ (q : Refusal). q .at) k ∙ sym (ap (λ (l : List ℕ). getD l 0 0) e)
+first-place (p ∷ ps) m why place₁ k e = sym (ap (λ (l : List ℕ). getD l 0 0) e)
+
+-- what an entry tells, by its table; `entry` is what it does beside the place
+by-table : {K A O B : Type 0} {Post : K → A → ℕ → O → Type 0} {place : A → List ℕ} {left : O → List ℕ} {When : A → Refusal → Type 0} {Done : K → A → O → Refusal → Type 0} (entry : A → Res B)
+    → ((a : A) → Numbered (entry a)) → ((a : A) → TableOf (placing (place a) (entry a)) (When a))
+    → ((k : K) (a : A) (n : ℕ) (x : O) → Post k a n x → (r : Returned (Done k a x) n (place a) (left x)) × (r .why ≡ whyOf (placing (place a) (entry a)))) → PromisedInC Exactly Post place left When
+by-table {place = place} {left = left} entry p f done = record {
+  zero = λ k a n x q. let (r, e) = done k a n x q in zero-where r (placing (place a) (entry a)) (placing-numbered (place a) (p a)) (f a) e;
+  other = λ k a n x q. let (r, e) = done k a n x q in
+      exactly-where r (placing (place a) (entry a)) (placing-numbered (place a) (p a)) (f a) e (first-place (place a) (entry a) (r .why) (left x) e (r .place));
+  written = λ k a n x q. let (r, e) = done k a n x q in let i = first-place (place a) (entry a) (r .why) (left x) e (r .place) in (
+    r .place ∙ ap (set (place a) 0) i,
+    λ z. let (b, d) = zero-accepts (placing-numbered (place a) (p a)) (sym (r .number ∙ ap (λ (q : Refusal). q .number) e) ∙ z) in sym i ∙ ap (λ (q : Refusal). q .at) (e ∙ ap whyOf d),
+  );
+}
+
+-- an entry whose form is known, with room for its place in front
+placed-table : {A : Type 0} {m : Res A} {Short Wide : Type 0} {Refused : Refusal → Type 0} {t u : Bool} (place : List ℕ) → TableOf m Refused → Decides t Short → Decides u Wide → {entry : Res A} → entry ≡ Entry t u m
+    → TableOf (placing place entry) (EntryRefused (Shorter place 1 ⊎ Short) Wide Refused)
+placed-table {A} {m} {t = t} {u = u} place f s w {entry} d =
+    table f (both (long 1 place) s) w (ap (λ (x : Res A). require (leb 1 (length place)) 5 >>= λ _. x) d ∙ placed-form (leb 1 (length place)) t u m)
+
+module _ (place b header : List ℕ) where
+  header-table : TableOf (placing place (headerEntry b header)) (EntryRefused (Shorter place 1 ⊎ Shorter header headerRoom) NothingWide (HeaderRefused b))
+  header-table = placed-table place (header-exactly b) (long headerRoom header) no-test (header-form b header)
+
+  prepare-table : (reuse : Bool) (kept spare said : List ℕ) → TableOf (placing place (prepareEntry b header reuse kept spare said))
+      (EntryRefused (Shorter place 1 ⊎ (Shorter header headerRoom ⊎ Shorter said 2)) (HeaderWide header) (PrepareRefused b (headerAt header) reuse kept (length spare)))
   prepare-table reuse kept spare said =
-      table (prepare-exactly b (headerAt header) reuse kept (length spare)) (both (long headerRoom header) (long 2 said)) (fields header) (prepare-form b header reuse kept spare said)
+      placed-table place (prepare-exactly b (headerAt header) reuse kept (length spare)) (both (long headerRoom header) (long 2 said)) (fields header) (prepare-form b header reuse kept spare said)
 
-  ranges-table : (ranges : List ℕ) → TableOf (rangesEntry b header ranges)
-      (EntryRefused (Shorter header headerRoom ⊎ Shorter ranges rangesRoom) (HeaderWide header) (ReadRangesRefused b (headerAt header)))
-  ranges-table ranges = table (read-ranges-exactly b (headerAt header)) (both (long headerRoom header) (long rangesRoom ranges)) (fields header) (ranges-form b header ranges)
+  ranges-table : (ranges : List ℕ) → TableOf (placing place (rangesEntry b header ranges))
+      (EntryRefused (Shorter place 1 ⊎ (Shorter header headerRoom ⊎ Shorter ranges rangesRoom)) (HeaderWide header) (ReadRangesRefused b (headerAt header)))
+  ranges-table ranges = placed-table place (read-ranges-exactly b (headerAt header)) (both (long headerRoom header) (long rangesRoom ranges)) (fields header) (ranges-form b header ranges)
 
   module _ (ranges m list : List ℕ) where
-    walk-table : (said : List ℕ) → TableOf (walkEntry b header ranges m list said)
-        (EntryRefused ((Shorter header headerRoom ⊎ Shorter ranges rangesRoom) ⊎ Shorter said 2) (HeaderWide header ⊎ MarkWide ranges) (WalkRefused b (headerAt header) (rangesIn ranges) m (length list)))
+    walk-table : (said : List ℕ) → TableOf (placing place (walkEntry b header ranges m list said))
+        (EntryRefused (Shorter place 1 ⊎ ((Shorter header headerRoom ⊎ Shorter ranges rangesRoom) ⊎ Shorter said 2)) (HeaderWide header ⊎ MarkWide ranges) (WalkRefused b (headerAt header) (rangesIn ranges) m (length list)))
     walk-table said =
-        table (behind (λ c. record { header = headerAt header; chain = c }) (walk-exactly b (headerAt header) (rangesIn ranges) m (length list))) (both (both (long headerRoom header) (long rangesRoom ranges)) (long 2 said)) (both (fields header) (mark ranges))
+        placed-table place (behind (λ c. record { header = headerAt header; chain = c }) (walk-exactly b (headerAt header) (rangesIn ranges) m (length list))) (both (both (long headerRoom header) (long rangesRoom ranges)) (long 2 said)) (both (fields header) (mark ranges))
         (walk-form b header ranges m list said)
 
-    fill-table : (n : ℕ) (image said : List ℕ) → TableOf (fillEntry b header ranges m list n image said)
-        (EntryRefused ((Shorter header headerRoom ⊎ Shorter ranges rangesRoom) ⊎ Shorter said 1) (HeaderWide header ⊎ MarkWide ranges) (FillRefused b (headerAt header) (rangesIn ranges) m list n (length image)))
+    fill-table : (n : ℕ) (image said : List ℕ) → TableOf (placing place (fillEntry b header ranges m list n image said))
+        (EntryRefused (Shorter place 1 ⊎ ((Shorter header headerRoom ⊎ Shorter ranges rangesRoom) ⊎ Shorter said 1)) (HeaderWide header ⊎ MarkWide ranges) (FillRefused b (headerAt header) (rangesIn ranges) m list n (length image)))
     fill-table n image said =
-        table (behind (λ k. record { header = headerAt header; block = k }) (fill-exactly b (headerAt header) (rangesIn ranges) m list n (length image))) (both (both (long headerRoom header) (long rangesRoom ranges)) (long 1 said))
+        placed-table place (behind (λ k. record { header = headerAt header; block = k }) (fill-exactly b (headerAt header) (rangesIn ranges) m list n (length image))) (both (both (long headerRoom header) (long rangesRoom ranges)) (long 1 said))
         (both (fields header) (mark ranges)) (fill-form b header ranges m list n image said)
 
-read-table : (b : List ℕ) (reuse : Bool) (l : Lent) (said : List ℕ) → TableOf (readEntry b reuse l said) (EntryRefused (Shorter said readRoom) NothingWide (WholeRefused b reuse l))
-read-table b reuse l said = table (whole-exactly b reuse l) (long readRoom said) no-test (read-form b reuse l said)
+read-table : (place b : List ℕ) (reuse : Bool) (l : Lent) (said : List ℕ) → TableOf (placing place (readEntry b reuse l said)) (EntryRefused (Shorter place 1 ⊎ Shorter said readRoom) NothingWide (WholeRefused b reuse l))
+read-table place b reuse l said = placed-table place (whole-exactly b reuse l) (long readRoom said) no-test (read-form b reuse l said)
 
-stored-table : (kind v : ℕ) (said : List ℕ) → TableOf (storedEntry kind v said) (EntryRefused (Shorter said 1) NothingWide (StoredRefused kind v))
-stored-table kind v said = table (stored-exactly kind v) (long 1 said) no-test (stored-form kind v said)
+stored-table : (place : List ℕ) (kind v : ℕ) (said : List ℕ) → TableOf (placing place (storedEntry kind v said)) (EntryRefused (Shorter place 1 ⊎ Shorter said 1) NothingWide (StoredRefused kind v))
+stored-table place kind v said = placed-table place (stored-exactly kind v) (long 1 said) no-test (stored-form kind v said)
 
--- ---- each number of each entry
+-- ---- each number of each entry, and its place
+
+pub places-exactly-in-c : PlacesExactlyInC
+places-exactly-in-c = record {
+  read-header = by-table (λ a. headerEntry (a .0 .now) (a .1 .0 .now)) (λ a. header-numbered (a .0 .now) (a .1 .0 .now)) (λ a. header-table (a .1 .1 .0 .now) (a .0 .now) (a .1 .0 .now)) (λ k a n x p. (p, p .done .why));
+  prepare-mask = by-table (λ a. prepareEntry (a .0 .now) (a .1 .0 .now) (a .1 .1 .0) (a .1 .1 .1 .0 .now) (a .1 .1 .1 .1 .0 .now) (a .1 .1 .1 .1 .1 .0 .now)) (λ a. prepare-numbered (a .0 .now) (a .1 .0 .now) (a .1 .1 .0) (a .1 .1 .1 .0 .now) (a .1 .1 .1 .1 .0 .now) (a .1 .1 .1 .1 .1 .0 .now)) (λ a. prepare-table (a .1 .1 .1 .1 .1 .1 .0 .now) (a .0 .now) (a .1 .0 .now) (a .1 .1 .0) (a .1 .1 .1 .0 .now) (a .1 .1 .1 .1 .0 .now) (a .1 .1 .1 .1 .1 .0 .now)) (λ k a n x p. (p, p .done .why));
+  read-ranges = by-table (λ a. rangesEntry (a .0 .now) (a .1 .0 .now) (a .1 .1 .0 .now)) (λ a. ranges-numbered (a .0 .now) (a .1 .0 .now) (a .1 .1 .0 .now)) (λ a. ranges-table (a .1 .1 .1 .0 .now) (a .0 .now) (a .1 .0 .now) (a .1 .1 .0 .now)) (λ k a n x p. (p, p .done .why));
+  walk = by-table (λ a. walkEntry (a .0 .now) (a .1 .0 .now) (a .1 .1 .0 .now) (a .1 .1 .1 .0 .now) (a .1 .1 .1 .1 .0 .now) (a .1 .1 .1 .1 .1 .0 .now)) (λ a. walk-numbered (a .0 .now) (a .1 .0 .now) (a .1 .1 .0 .now) (a .1 .1 .1 .0 .now) (a .1 .1 .1 .1 .0 .now) (a .1 .1 .1 .1 .1 .0 .now)) (λ a. walk-table (a .1 .1 .1 .1 .1 .1 .0 .now) (a .0 .now) (a .1 .0 .now) (a .1 .1 .0 .now) (a .1 .1 .1 .0 .now) (a .1 .1 .1 .1 .0 .now) (a .1 .1 .1 .1 .1 .0 .now)) (λ k a n x p. (p, p .done .why));
+  fill = by-table (λ a. fillEntry (a .0 .now) (a .1 .0 .now) (a .1 .1 .0 .now) (a .1 .1 .1 .0 .now) (a .1 .1 .1 .1 .0 .now) (a .1 .1 .1 .1 .1 .0) (a .1 .1 .1 .1 .1 .1 .0 .now) (a .1 .1 .1 .1 .1 .1 .1 .0 .now)) (λ a. fill-numbered (a .0 .now) (a .1 .0 .now) (a .1 .1 .0 .now) (a .1 .1 .1 .0 .now) (a .1 .1 .1 .1 .0 .now) (a .1 .1 .1 .1 .1 .0) (a .1 .1 .1 .1 .1 .1 .0 .now) (a .1 .1 .1 .1 .1 .1 .1 .0 .now)) (λ a. fill-table (a .1 .1 .1 .1 .1 .1 .1 .1 .0 .now) (a .0 .now) (a .1 .0 .now) (a .1 .1 .0 .now) (a .1 .1 .1 .0 .now) (a .1 .1 .1 .1 .0 .now) (a .1 .1 .1 .1 .1 .0) (a .1 .1 .1 .1 .1 .1 .0 .now) (a .1 .1 .1 .1 .1 .1 .1 .0 .now)) (λ k a n x p. (p, p .done .why));
+  read = by-table (λ a. readEntry (a .0 .now) (a .1 .0) (c-lent a .0) (c-lent a .1)) (λ a. read-numbered (a .0 .now) (a .1 .0) (c-lent a .0) (c-lent a .1)) (λ a. read-table (c-lent a .2) (a .0 .now) (a .1 .0) (c-lent a .0) (c-lent a .1)) (λ k a n x p. (p, p .done .why));
+  stored = by-table (λ a. storedEntry (a .1 .0) (a .0) (a .1 .1 .0 .now)) (λ a. stored-numbered (a .1 .0) (a .0) (a .1 .1 .0 .now)) (λ a. stored-table (a .1 .1 .1 .0 .now) (a .1 .0) (a .0) (a .1 .1 .0 .now)) (λ k a n x p. (p, p .done .why));
+}
+
+-- the same of numbers alone
+numbers-of : {K A O : Type 0} {Post : K → A → ℕ → O → Type 0} {place : A → List ℕ} {left : O → List ℕ} {When : A → Refusal → Type 0} → PromisedInC Exactly Post place left When → PromisedInC ExactlyNumbered Post place left When
+numbers-of p = record { zero = p .zero; other = λ k a n x q. by-number (p .other k a n x q); written = p .written }
 
 pub numbers-exactly-in-c : NumbersExactlyInC
 numbers-exactly-in-c = record {
-  read-header = record { zero = λ k a n x p. zero-where _ (header-numbered _ _) (header-table _ _) (p .number); other = λ k a n x p. other-where _ (header-table _ _) (p .number) };
-  prepare-mask = record { zero = λ k a n x p. zero-where _ (prepare-numbered _ _ _ _ _ _) (prepare-table _ _ _ _ _ _) (p .number); other = λ k a n x p. other-where _ (prepare-table _ _ _ _ _ _) (p .number) };
-  read-ranges = record { zero = λ k a n x p. zero-where _ (ranges-numbered _ _ _) (ranges-table _ _ _) (p .number); other = λ k a n x p. other-where _ (ranges-table _ _ _) (p .number) };
-  walk = record { zero = λ k a n x p. zero-where _ (walk-numbered _ _ _ _ _ _) (walk-table _ _ _ _ _ _) (p .number); other = λ k a n x p. other-where _ (walk-table _ _ _ _ _ _) (p .number) };
-  fill = record { zero = λ k a n x p. zero-where _ (fill-numbered _ _ _ _ _ _ _ _) (fill-table _ _ _ _ _ _ _ _) (p .number); other = λ k a n x p. other-where _ (fill-table _ _ _ _ _ _ _ _) (p .number) };
-  read = record { zero = λ k a n x p. zero-where _ (read-numbered _ _ _ _) (read-table _ _ _ _) (p .number); other = λ k a n x p. other-where _ (read-table _ _ _ _) (p .number) };
-  stored = record { zero = λ k a n x p. zero-where _ (stored-numbered _ _ _) (stored-table _ _ _) (p .number); other = λ k a n x p. other-where _ (stored-table _ _ _) (p .number) };
+  read-header = numbers-of (places-exactly-in-c .read-header);
+  prepare-mask = numbers-of (places-exactly-in-c .prepare-mask);
+  read-ranges = numbers-of (places-exactly-in-c .read-ranges);
+  walk = numbers-of (places-exactly-in-c .walk);
+  fill = numbers-of (places-exactly-in-c .fill);
+  read = numbers-of (places-exactly-in-c .read);
+  stored = numbers-of (places-exactly-in-c .stored);
 }
 
 -- ---- no other numbers
 
-abbrev In : List ℕ → Refusal → Type 0
-In numbers why = among numbers (why .number) ≡ true
+abbrev In : List ℕ → ℕ → Type 0
+In numbers n = among numbers n ≡ true
 
 -- the numbers of an entry's table: 5, 3 where a number can be too wide, and the reader's
-entry-in : (l : List ℕ) {Short Wide : Type 0} {Refused : Refusal → Type 0} → among l 5 ≡ true → (Wide → among l 3 ≡ true) → ((why : Refusal) → Refused why → In l why) → (why : Refusal)
-    → EntryRefused Short Wide Refused why → In l why
-entry-in l five three rest why (record-short s) = five
+entry-in : (l : List ℕ) {Short Wide : Type 0} {Refused : Refusal → Type 0} → among l 5 ≡ true → (Wide → among l 3 ≡ true) → ((why : Refusal) → Refused why → In l (why .number)) → (why : Refusal)
+    → EntryRefused Short Wide Refused why → In l (why .number)
+entry-in l five three rest why (slice-short s) = five
 entry-in l five three rest why (number-wide s w) = three w
 entry-in l five three rest why (reader-refuses s w r) = rest why r
 
 -- 0, or one of them
-only : {A : Type 0} (l : List ℕ) (entry : Res A) {Short Wide : Type 0} {Refused : Refusal → Type 0} → TableOf entry (EntryRefused Short Wide Refused) → {n : ℕ} → n ≡ numberOf entry
-    → among l 0 ≡ true → among l 5 ≡ true → (Wide → among l 3 ≡ true) → ((why : Refusal) → Refused why → In l why) → among l n ≡ true
-only l (ok a) f k zero five three rest = rw (k) zero
-only l (fail why) f k zero five three rest = rw (k) (entry-in l five three rest why (f why .0 refl))
+only : {K A O : Type 0} {Post : K → A → ℕ → O → Type 0} {place : A → List ℕ} {left : O → List ℕ} {Short Wide : A → Type 0} {Refused : A → Refusal → Type 0} (l : List ℕ)
+    → PromisedInC Exactly Post place left (λ a. EntryRefused (Short a) (Wide a) (Refused a)) → among l 0 ≡ true → among l 5 ≡ true → ((a : A) → Wide a → among l 3 ≡ true)
+    → ((a : A) (why : Refusal) → Refused a why → In l (why .number)) → OnlyInC Post l
+only l p none five three rest k a zero x q = none
+only {left = left} l p none five three rest k a (suc n) x q =
+    let w : Refusal = record { number = suc n; at = getD (left x) 0 0 } in
+    entry-in l five (three a) (rest a) w (p .other k a (suc n) x q w .0 (λ e. omega (arith, e), refl))
 
 pub numbers-only-in-c : NumbersOnlyInC
 numbers-only-in-c = record {
-  read-header = λ k a n x p. let l : List ℕ = 0 ∷ 1 ∷ 2 ∷ 3 ∷ 4 ∷ 5 ∷ [] in only l _ (header-table _ _) (p .number) refl refl (λ w. refl) (λ why. header-in (In l) refl refl refl refl);
-  prepare-mask = λ k a n x p. let l : List ℕ = 0 ∷ 1 ∷ 3 ∷ 4 ∷ 5 ∷ 6 ∷ [] in only l _ (prepare-table _ _ _ _ _ _) (p .number) refl refl (λ w. refl) (λ why. prepare-in (In l) refl refl refl refl refl);
-  read-ranges = λ k a n x p. let l : List ℕ = 0 ∷ 1 ∷ 3 ∷ 4 ∷ 5 ∷ 7 ∷ [] in only l _ (ranges-table _ _ _) (p .number) refl refl (λ w. refl) (λ why. read-ranges-in (In l) refl refl refl refl);
-  walk = λ k a n x p. let l : List ℕ = 0 ∷ 1 ∷ 3 ∷ 4 ∷ 5 ∷ 7 ∷ 8 ∷ 9 ∷ 10 ∷ [] in only l _ (walk-table _ _ _ _ _ _) (p .number) refl refl (λ w. refl) (λ why. walk-in (In l) refl refl refl refl refl refl refl refl);
-  fill = λ k a n x p. let l : List ℕ = 0 ∷ 1 ∷ 3 ∷ 4 ∷ 5 ∷ 7 ∷ 8 ∷ 9 ∷ 11 ∷ [] in only l _ (fill-table _ _ _ _ _ _ _ _) (p .number) refl refl (λ w. refl) (λ why. fill-in (In l) refl refl refl refl refl refl refl refl);
-  read = λ k a n x p. let l : List ℕ = 0 ∷ 1 ∷ 2 ∷ 3 ∷ 4 ∷ 5 ∷ 6 ∷ 7 ∷ 8 ∷ 9 ∷ 10 ∷ [] in only l _ (read-table _ _ _ _) (p .number) refl refl (λ w. refl) (λ why. whole-in (In l) refl refl refl refl refl refl refl refl refl refl);
-  stored = λ k a n x p. let l : List ℕ = 0 ∷ 5 ∷ 9 ∷ [] in only l _ (stored-table _ _ _) (p .number) refl refl (λ w. absurd w) (λ why. stored-in (In l) refl);
+  read-header = let l : List ℕ = 0 ∷ 1 ∷ 2 ∷ 3 ∷ 4 ∷ 5 ∷ [] in only l (places-exactly-in-c .read-header) refl refl (λ a w. refl) (λ a why. header-in (In l) refl refl refl refl);
+  prepare-mask = let l : List ℕ = 0 ∷ 1 ∷ 3 ∷ 4 ∷ 5 ∷ 6 ∷ [] in only l (places-exactly-in-c .prepare-mask) refl refl (λ a w. refl) (λ a why. prepare-in (In l) refl refl refl refl refl);
+  read-ranges = let l : List ℕ = 0 ∷ 1 ∷ 3 ∷ 4 ∷ 5 ∷ 7 ∷ [] in only l (places-exactly-in-c .read-ranges) refl refl (λ a w. refl) (λ a why. read-ranges-in (In l) refl refl refl refl);
+  walk = let l : List ℕ = 0 ∷ 1 ∷ 3 ∷ 4 ∷ 5 ∷ 7 ∷ 8 ∷ 9 ∷ 10 ∷ [] in only l (places-exactly-in-c .walk) refl refl (λ a w. refl) (λ a why. walk-in (In l) refl refl refl refl refl refl refl refl);
+  fill = let l : List ℕ = 0 ∷ 1 ∷ 3 ∷ 4 ∷ 5 ∷ 7 ∷ 8 ∷ 9 ∷ 11 ∷ [] in only l (places-exactly-in-c .fill) refl refl (λ a w. refl) (λ a why. fill-in (In l) refl refl refl refl refl refl refl refl);
+  read = let l : List ℕ = 0 ∷ 1 ∷ 2 ∷ 3 ∷ 4 ∷ 5 ∷ 6 ∷ 7 ∷ 8 ∷ 9 ∷ 10 ∷ [] in only l (places-exactly-in-c .read) refl refl (λ a w. refl) (λ a why. whole-in (In l) refl refl refl refl refl refl refl refl refl refl);
+  stored = let l : List ℕ = 0 ∷ 5 ∷ 9 ∷ [] in only l (places-exactly-in-c .stored) refl refl (λ a w. absurd w) (λ a why. stored-in (In l) refl);
 }

@@ -1,80 +1,101 @@
 -- What a refusal leaves in the C interface.
 -- Assumes nothing.
-use mathlib.Core.Path.{_≡_, _∙_, refl}
+use mathlib.Core.Path.{_≡_, _∙_, ap, refl}
 use mathlib.Core.Logic.{_≢_}
-use mathlib.Core.Bool.{Bool, true, false}
+use mathlib.Core.Bool.{Bool, true, false, _&&_}
 use mathlib.Core.List.{List}
 use Prim.Native.Nat.{ℕ}
+use native.Mathlib.Omega.{arith}
 use lib.ListN.{length}
 use lib.Dec.{leb}
-use Rattle.lerc_words.specs.Res.{Res, ok, fail, after}
-use Rattle.lerc_words.specs.Lists.{over}
+use Rattle.lerc_words.specs.declared.Refusal.{Refusal}
+use Rattle.lerc_words.specs.Res.{Res, ok, fail, _>>=_, require}
+use Rattle.lerc_words.proofs.Binding.{and-is}
 use Rattle.lerc_header.specs.declared.Header.{Header}
 use Rattle.lerc_ranges.specs.declared.Ranges.{Ranges}
 use Rattle.lerc_validity.specs.Validity.{MaskInForce}
 use Rattle.lerc.specs.Meaning.{Meaning}
-use Rattle.lerc.specs.Read.{Lent, readSays, masked, refusedAfter, readAfter}
-use Rattle.lerc_c.specs.Records.{numberOf}
-use Rattle.lerc_c.specs.Entries.{HeaderDone, RangesDone, StoredDone, PrepareDone, Walking, WalkDone, Filling, FillDone, readRoom, readNumbers, readEntry, maskedEntry, lentAfter, ReadDone}
+use Rattle.lerc.specs.Read.{Lent, readSays, Masked, masked, refusedAfter, readAfter}
+use Rattle.lerc_c.specs.Records.{whyOf}
+use Rattle.lerc_c.specs.Entries.{placing, Returned, HeaderDone, RangesDone, StoredDone, PrepareDone, Walking, WalkDone, Filling, FillDone, readRoom, readEntry, maskedEntry, ReadDone}
 use Rattle.lerc_theorems.specs.Refusals.{WholeKeeps}
+use Rattle.lerc_c_theorems.specs.Promises.{c-lent}
 use Rattle.lerc_c_theorems.specs.Refusals.{RefusalsKeepInC}
 use Rattle.lerc_theorems.proofs.Refusals.{whole-keeps}
 
 -- a number other than 0 is a refusal's, and a refusal leaves what was there
-header-left : (m : Res Header) {n : ℕ} {header header' : List ℕ} → HeaderDone m n header header' → n ≢ 0 → header' ≡ header
-header-left (ok h) d z = absurd (z (d .number))
-header-left (fail w) d z = d .header
+module _ {Done : Refusal → Type 0} {n : ℕ} {place₀ place₁ : List ℕ} (p : Returned Done n place₀ place₁) (z : n ≢ 0) where
+  refusal : {A : Type 0} (m : Res A) → p .why ≡ whyOf m → (w : Refusal) × (m ≡ fail w)
+  refusal (ok a) e = absurd (z (p .number ∙ ap (λ (w : Refusal). w .number) e))
+  refusal (fail w) e = (w, refl)
 
-ranges-left : (m : Res Ranges) {n : ℕ} {ranges ranges' : List ℕ} → RangesDone m n ranges ranges' → n ≢ 0 → ranges' ≡ ranges
-ranges-left (ok r) d z = absurd (z (d .number))
-ranges-left (fail w) d z = d .ranges
+header-left : (m : Res Header) {w : Refusal} {header header' : List ℕ} → (q : Refusal) × (m ≡ fail q) → HeaderDone m w header header' → header' ≡ header
+header-left m (q, e) d = rw (e) at (d .header)
 
-stored-left : (m : Res ℕ) {n : ℕ} {said said' : List ℕ} → StoredDone m n said said' → n ≢ 0 → said' ≡ said
-stored-left (ok v) d z = absurd (z (d .number))
-stored-left (fail w) d z = d .said
+ranges-left : (m : Res Ranges) {w : Refusal} {ranges ranges' : List ℕ} → (q : Refusal) × (m ≡ fail q) → RangesDone m w ranges ranges' → ranges' ≡ ranges
+ranges-left m (q, e) d = rw (e) at (d .ranges)
 
-prepare-left : (m : Res MaskInForce) {n : ℕ} {spare spare' said said' : List ℕ} → PrepareDone m n spare spare' said said' → n ≢ 0 → _≡_ {A = List ℕ × List ℕ} (spare', said') (spare, said)
-prepare-left (ok f) d z = absurd (z (d .number))
-prepare-left (fail w) d z = rw (d .spare, d .said)
+stored-left : (m : Res ℕ) {w : Refusal} {said said' : List ℕ} → (q : Refusal) × (m ≡ fail q) → StoredDone m w said said' → said' ≡ said
+stored-left m (q, e) d = rw (e) at (d .said)
 
-walk-left : (m : Res Walking) {n : ℕ} {list list' said said' : List ℕ} → WalkDone m n list list' said said' → n ≢ 0 → _≡_ {A = List ℕ × List ℕ} (list', said') (list, said)
-walk-left (ok c) d z = absurd (z (d .number))
-walk-left (fail w) d z = rw (d .list, d .said)
+prepare-left : (m : Res MaskInForce) {w : Refusal} {spare spare' said said' : List ℕ} → (q : Refusal) × (m ≡ fail q) → PrepareDone m w spare spare' said said' → _≡_ {A = List ℕ × List ℕ} (spare', said') (spare, said)
+prepare-left m (q, e) d = let a = rw (e) at (d .spare) in let b = rw (e) at (d .said) in rw (a, b)
 
-fill-left : (m : Res Filling) (mask : List ℕ) (k : ℕ) {n : ℕ} {image image' said said' : List ℕ} → FillDone m mask k n image image' said said' → n ≢ 0 → _≡_ {A = List ℕ × List ℕ} (image', said') (image, said)
-fill-left (ok f) mask k d z = absurd (z (d .number))
-fill-left (fail w) mask k d z = rw (d .image, d .said)
+walk-left : (m : Res Walking) {w : Refusal} {list list' said said' : List ℕ} → (q : Refusal) × (m ≡ fail q) → WalkDone m w list list' said said' → _≡_ {A = List ℕ × List ℕ} (list', said') (list, said)
+walk-left m (q, e) d = let a = rw (e) at (d .list) in let b = rw (e) at (d .said) in rw (a, b)
+
+fill-left : (m : Res Filling) (mask : List ℕ) (k : ℕ) {w : Refusal} {image image' said said' : List ℕ} → (q : Refusal) × (m ≡ fail q) → FillDone m mask k w image image' said said'
+    → _≡_ {A = List ℕ × List ℕ} (image', said') (image, said)
+fill-left m mask k (q, e) d = let a = rw (e) at (d .image) in let b = rw (e) at (d .said) in rw (a, b)
 
 -- ---- whole read
 
-module _ (b : List ℕ) (reuse : Bool) (old : Lent) (said : List ℕ) where
-  pub read-said : {n : ℕ} {new : Lent} {said' : List ℕ} → ReadDone b reuse n old new said said' → n ≢ 0 → said' ≡ said
-  read-said {n} {new} {said'} d z = go (readEntry b reuse old said) (d .number) (d .said)
-    where
-      go : (m : Res Meaning) → n ≡ numberOf m → said' ≡ after m said (λ k. over (readNumbers k) said) → said' ≡ said
-      go (ok m) k p = absurd (z k)
-      go (fail w) k p = p
+module _ (b : List ℕ) (reuse : Bool) (old : Lent) (said place : List ℕ) where
+  abbrev entry : Res Meaning
+  entry = placing place (readEntry b reuse old said)
 
-  -- with room for its record it is the reader's own, without it nothing is touched
-  pub read-left : {n : ℕ} {new : Lent} {said' : List ℕ} → ReadDone b reuse n old new said said' → n ≢ 0 → leb readRoom (length said) ≡ true → WholeKeeps b reuse old new
-  unfolding readEntry maskedEntry lentAfter
-  read-left {n} {new} d z t = go (readSays b reuse old) refl (rw (t) at (d .number)) (rw (t) at (d .lent))
-    where
-      go : (m : Res Meaning) → readSays b reuse old ≡ m → n ≡ numberOf m → new ≡ readAfter m (masked b reuse old) old → WholeKeeps b reuse old new
-      go (ok m) e k p = absurd (z k)
-      go (fail w) e k p = whole-keeps b reuse old new w (record { says = rw (e); lent = p ∙ rw (e) })
+  abbrev marking : Res Masked
+  marking = placing place (maskedEntry b reuse old said)
 
-  pub read-short : {n : ℕ} {new : Lent} {said' : List ℕ} → ReadDone b reuse n old new said said' → leb readRoom (length said) ≡ false → new ≡ old
-  unfolding readEntry maskedEntry lentAfter refusedAfter
-  read-short d t = rw (t) at (d .lent)
+  abbrev Refused : Type 0
+  Refused = (q : Refusal) × (entry ≡ fail q)
+
+  read-said : {w : Refusal} {new : Lent} {said' : List ℕ} → Refused → ReadDone entry marking w old new said said' → said' ≡ said
+  read-said (q, e) d = rw (e) at (d .said)
+
+  -- with room it is the reader's own, without it nothing is touched
+  read-left : {w : Refusal} {new : Lent} {said' : List ℕ} → Refused → ReadDone entry marking w old new said said' → (leb 1 (length place) && leb readRoom (length said)) ≡ true → WholeKeeps b reuse old new
+  unfolding readEntry maskedEntry
+  read-left {w} {new} (q, e) d t =
+      let (u, v) = and-is (leb 1 (length place)) (leb readRoom (length said)) t in
+      let i = rw (u, v) at e in
+      let p = rw (u, v) at (d .lent) in
+      whole-keeps b reuse old new q (record { says = rw (i); lent = p })
+
+  read-short : {w : Refusal} {new : Lent} {said' : List ℕ} → ReadDone entry marking w old new said said' → (leb 1 (length place) && leb readRoom (length said)) ≡ false → new ≡ old
+  unfolding readEntry maskedEntry refusedAfter
+  read-short {w} {new} d t = go (leb 1 (length place)) (leb readRoom (length said)) t (d .lent)
+    where
+      go : (u v : Bool) → (u && v) ≡ false
+          → new ≡ readAfter (require u 5 >>= λ _. require v 5 >>= λ _. readSays b reuse old) (require u 5 >>= λ _. require v 5 >>= λ _. masked b reuse old) old → new ≡ old
+      go true true t p = absurd (let z : _≡_ {A = ℕ} 0 1 = cc in omega arith)
+      go true false t p = p
+      go false v t p = p
 
 pub refusals-keep-in-c : RefusalsKeepInC
 refusals-keep-in-c = record {
-  read-header = λ k a n x p d. header-left _ p d;
-  prepare-mask = λ k a n x p d. prepare-left _ p d;
-  read-ranges = λ k a n x p d. ranges-left _ p d;
-  walk = λ k a n x p d. walk-left _ p d;
-  fill = λ k a n x p d. fill-left _ _ _ p d;
-  read = λ k a x n p d. record { said = read-said _ _ _ _ p d; room = read-left _ _ _ _ p d; short = read-short _ _ _ _ p };
-  stored = λ k a n x p d. stored-left _ p d;
+  read-header = λ k a n x p z. header-left _ (refusal p z _ (p .done .why)) (p .done);
+  prepare-mask = λ k a n x p z. prepare-left _ (refusal p z _ (p .done .why)) (p .done);
+  read-ranges = λ k a n x p z. ranges-left _ (refusal p z _ (p .done .why)) (p .done);
+  walk = λ k a n x p z. walk-left _ (refusal p z _ (p .done .why)) (p .done);
+  fill = λ k a n x p z. fill-left _ _ _ (refusal p z _ (p .done .why)) (p .done);
+  read = λ k a x n p z.
+      let l = c-lent a in
+      let r = refusal p z (entry (a .0 .now) (a .1 .0) (l .0) (l .1) (l .2)) (p .done .why) in
+      record {
+        said = read-said (a .0 .now) (a .1 .0) (l .0) (l .1) (l .2) r (p .done);
+        room = read-left (a .0 .now) (a .1 .0) (l .0) (l .1) (l .2) r (p .done);
+        short = read-short (a .0 .now) (a .1 .0) (l .0) (l .1) (l .2) (p .done);
+      };
+  stored = λ k a n x p z. stored-left _ (refusal p z _ (p .done .why)) (p .done);
 }

@@ -1,14 +1,15 @@
 -- Each entry for C is the reader's function, on what its records hold.
 -- Assumes nothing.
 use mathlib.Core.Path.{_≡_, _∙_, sym, ap, refl}
-use mathlib.Core.Bool.{Bool}
+use mathlib.Core.Bool.{Bool, true, false}
 use mathlib.Core.List.{List}
 use Prim.Native.Nat.{ℕ, _≤_}
 use native.Mathlib.Omega.{arith}
 use lib.ListN.{length}
+use lib.Dec.{leb}
 use borrow.Author.Tests.{le-leb}
 use Rattle.lerc_words.specs.declared.Refusal.{Refusal}
-use Rattle.lerc_words.specs.Res.{Res, ok, fail, _>>=_, accepts, after}
+use Rattle.lerc_words.specs.Res.{Res, ok, fail, _>>=_, require, accepts, after}
 use Rattle.lerc_words.specs.Lists.{over}
 use Rattle.lerc_words.proofs.Binding.{ok-is}
 use Rattle.lerc_samples.specs.declared.StoredAnswer.{StoredAnswer}
@@ -33,16 +34,16 @@ use Rattle.lerc_image.specs.Walk.{Walk, walkSays, walkSaid, walkCount, walkList
 use Rattle.lerc_image.specs.Fill.{fillSays, fillSaid, fillCount, fillImage}
 use Rattle.lerc.specs.declared.ReadAnswer.{ReadAnswer}
 use Rattle.lerc.specs.Meaning.{Meaning, startsOf, endOf}
-use Rattle.lerc.specs.Read.{Lent, readSays, masked, readAfter, readCount, readSaid}
-use Rattle.lerc_c.specs.Records.{numberOf, headerRoom, headerNumbers, rangesRoom, rangesNumbers}
-use Rattle.lerc_c.specs.Entries.{headerEntry, prepareEntry, maskNumbers, rangesEntry, Walking, walkNumbers, walkEntry, Filling, fillNumbers, fillPaints, fillEntry, readRoom, readNumbers, readEntry, maskedEntry, lentAfter, storedEntry}
+use Rattle.lerc.specs.Read.{Lent, readSays, Masked, masked, readAfter, readCount, readSaid}
+use Rattle.lerc_c.specs.Records.{whyOf, headerRoom, headerNumbers, rangesRoom, rangesNumbers}
+use Rattle.lerc_c.specs.Entries.{placing, headerEntry, prepareEntry, maskNumbers, rangesEntry, Walking, walkNumbers, walkEntry, Filling, fillNumbers, fillPaints, fillEntry, readRoom, readNumbers, readEntry, maskedEntry, storedEntry}
 use Rattle.lerc_c.proofs.Numbers.{Numbered, header-numbered, prepare-numbered, ranges-numbered, walk-numbered, fill-numbered, read-numbered, stored-numbered, zero-accepts}
 use Rattle.lerc_theorems.specs.Calls.{HeaderCall, PrepareCall, RangesCall, WalkCall, FillCall, ReadCall}
 use Rattle.lerc_theorems.proofs.Calls.{header-call, prepare-call, ranges-call, walk-call, fill-call, read-call}
 use Rattle.lerc_theorems.proofs.Demands.{fail-is, not-refused}
-use Rattle.lerc_c_theorems.specs.Calls.{HoldsHeader, HoldsRanges, HeaderInC, PrepareInC, RangesInC, WalkInC, FillInC, ReadInC, StoredInC, StoredCall}
+use Rattle.lerc_c_theorems.specs.Calls.{HoldsHeader, HoldsRanges, Told, HasPlace, HeaderInC, PrepareInC, RangesInC, WalkInC, FillInC, ReadInC, StoredInC, StoredCall}
 use Rattle.lerc_c_theorems.specs.SameReader.{Tells, partNumbers, rangesTold, walkedNumbers, wholeNumbers, alone, SameReader}
-use Rattle.lerc_c_theorems.proofs.Calls.{header-done, prepare-done, ranges-done, walk-done, fill-done, read-done, stored-done, stored-call}
+use Rattle.lerc_c_theorems.proofs.Calls.{Entered, header-done, prepare-done, ranges-done, walk-done, fill-done, read-done, stored-done, stored-call}
 
 -- ---- an entry, and the answer that it numbers-tell
 
@@ -52,22 +53,26 @@ record NumbersOf {A B : Type 0} (numbers : A → List ℕ) (told : A → Res B) 
   is : told a ≡ ok answer
   same : numbers a ≡ names answer
 
-module _ {A B : Type 0} (numbers : A → List ℕ) (told : A → Res B) (names : B → List ℕ) (each : (a : A) → NumbersOf numbers told names a) {said : Res B} {n : ℕ} {old new : List ℕ} where
-  numbers-tell : (entry : Res A) → Numbered entry → said ≡ (entry >>= told) → n ≡ numberOf entry → new ≡ after entry old (λ a. over (numbers a) old) → Tells said names n old new
-  numbers-tell (ok a) p s k w =
+module _ {A B : Type 0} (numbers : A → List ℕ) (told : A → Res B) (names : B → List ℕ) (each : (a : A) → NumbersOf numbers told names a) {said : Res B} {Done : Refusal → Type 0} {t : Told} {old new : List ℕ} where
+  numbers-tell : (entry : Res A) → Numbered entry → said ≡ (entry >>= told) → (r : Entered Done t) → r .why ≡ whyOf entry → new ≡ after entry old (λ a. over (numbers a) old) → Tells said names t old new
+  numbers-tell (ok a) p s r k w =
       let v = s ∙ each a .is in
       record {
-        zero = (λ _. ap accepts v, λ _. k);
+        zero = (λ _. ap accepts v, λ _. r .number ∙ ap (λ (q : Refusal). q .number) k);
         refused = λ why e. not-refused (sym v ∙ e);
+        place = r .place ∙ rw (k, v);
         written = λ b e. w ∙ rw (each a .same, ok-is (sym v ∙ e));
         kept = λ why e. not-refused (sym v ∙ e);
       }
-  numbers-tell (fail r) p s k w = record {
-    zero = (λ z. let (_, d) = zero-accepts p (sym k ∙ z) in not-refused (sym d), λ e. absurd (let y = ap accepts s in let z : _≡_ {A = ℕ} 0 1 = cc in omega arith));
-    refused = λ why e. k ∙ ap (λ (q : Refusal). q .number) (fail-is (sym s ∙ e));
-    written = λ b e. not-refused (sym e ∙ s);
-    kept = λ why e. w;
-  }
+  numbers-tell (fail q) p s r k w =
+      let n : t .number ≡ q .number = r .number ∙ ap (λ (q : Refusal). q .number) k in
+      record {
+        zero = (λ z. let (_, d) = zero-accepts p (sym n ∙ z) in not-refused (sym d), λ e. absurd (let y = ap accepts s in let z : _≡_ {A = ℕ} 0 1 = cc in omega arith));
+        refused = λ why e. n ∙ ap (λ (q : Refusal). q .number) (fail-is (sym s ∙ e));
+        place = r .place ∙ rw (k, s);
+        written = λ b e. not-refused (sym e ∙ s);
+        kept = λ why e. w;
+      }
 
 -- a value that is told as it is
 itself : {A : Type 0} (numbers : A → List ℕ) (a : A) → NumbersOf numbers ok numbers a
@@ -76,6 +81,18 @@ itself numbers a = record { answer = a; is = refl; same = refl }
 unit : {A : Type 0} (m : Res A) → m ≡ (m >>= ok)
 unit (ok a) = refl
 unit (fail r) = refl
+
+-- ---- room for the place
+
+pub placed-entry : {A : Type 0} (place : List ℕ) (m : Res A) → 1 ≤ length place → placing place m ≡ m
+placed-entry place m l = rw (le-leb 1 (length place) l)
+
+pub placing-numbered : {A : Type 0} (place : List ℕ) {m : Res A} → Numbered m → Numbered (placing place m)
+placing-numbered {A} place {m} p = go (leb 1 (length place))
+  where
+    go : (t : Bool) → Numbered (require t 5 >>= λ _. m)
+    go true = p
+    go false = record { number = λ r e. let d : r .number ≡ 5 = cc in rw (d) }
 
 -- ---- entries whose records have room and hold what their fields can: what is left is the reader's
 
@@ -111,9 +128,9 @@ module _ (b : List ℕ) (reuse : Bool) (l : Lent) (said : List ℕ) (long : read
   unfolding readEntry
   read-reads = rw (le-leb readRoom (length said) long)
 
-  read-leaves : lentAfter b reuse l said ≡ readAfter (readSays b reuse l) (masked b reuse l) l
-  unfolding readEntry maskedEntry lentAfter
-  read-leaves = rw (le-leb readRoom (length said) long)
+  masked-reads : maskedEntry b reuse l said ≡ masked b reuse l
+  unfolding maskedEntry
+  masked-reads = rw (le-leb readRoom (length said) long)
 
 -- ---- the reader's answers, as the entries tell them
 
@@ -152,76 +169,86 @@ module _ (h : Header) where
 
 -- ---- entry by entry
 
-header-same : (b : List ℕ) (n : ℕ) (header₀ header₁ : List ℕ) → HeaderInC b n header₀ header₁ → headerRoom ≤ length header₀
-    → (answer : HeaderAnswer) → HeaderCall b answer → Tells (headerSaid answer) headerNumbers n header₀ header₁
-header-same b n header₀ header₁ c l answer d =
+header-same : (b : List ℕ) (t : Told) (header₀ header₁ : List ℕ) → HeaderInC b t header₀ header₁ → HasPlace t → headerRoom ≤ length header₀
+    → (answer : HeaderAnswer) → HeaderCall b answer → Tells (headerSaid answer) headerNumbers t header₀ header₁
+header-same b t header₀ header₁ c i l answer d =
     let p = header-done c in
-    numbers-tell headerNumbers ok headerNumbers (itself headerNumbers) (headerEntry b header₀) (header-numbered b header₀)
-    (header-call d ∙ sym (header-reads b header₀ l) ∙ unit (headerEntry b header₀)) (p .number) (p .header)
+    let m = placing (t .place₀) (headerEntry b header₀) in
+    numbers-tell headerNumbers ok headerNumbers (itself headerNumbers) m (placing-numbered (t .place₀) (header-numbered b header₀))
+    (header-call d ∙ sym (placed-entry (t .place₀) (headerEntry b header₀) i ∙ header-reads b header₀ l) ∙ unit m) p (p .done .why) (p .done .header)
 
-prepare-same : (b header : List ℕ) (reuse : Bool) (kept : List ℕ) (n : ℕ) (spare₀ spare₁ said₀ said₁ : List ℕ) → PrepareInC b header reuse kept n spare₀ spare₁ said₀ said₁
-    → (h : Header) → HoldsHeader header h → 2 ≤ length said₀
-    → (answer : MaskAnswer) (spare : List ℕ) → PrepareCall b h reuse kept answer spare₀ spare → Tells (maskSaid answer) partNumbers n said₀ said₁ × (spare₁ ≡ spare)
-prepare-same b header reuse kept n spare₀ spare₁ said₀ said₁ c h q l answer spare d =
+prepare-same : (b header : List ℕ) (reuse : Bool) (kept : List ℕ) (t : Told) (spare₀ spare₁ said₀ said₁ : List ℕ) → PrepareInC b header reuse kept t spare₀ spare₁ said₀ said₁
+    → (h : Header) → HoldsHeader header h → HasPlace t → 2 ≤ length said₀
+    → (answer : MaskAnswer) (spare : List ℕ) → PrepareCall b h reuse kept answer spare₀ spare → Tells (maskSaid answer) partNumbers t said₀ said₁ × (spare₁ ≡ spare)
+prepare-same b header reuse kept t spare₀ spare₁ said₀ said₁ c h q i l answer spare d =
     let p = prepare-done c in
-    let e = prepare-reads b q reuse kept spare₀ said₀ l in (
-      numbers-tell maskNumbers which partNumbers part-told (prepareEntry b header reuse kept spare₀ said₀) (prepare-numbered b header reuse kept spare₀ said₀)
-          (prepare-call d .says ∙ ap (λ (x : Res MaskInForce). x >>= which) (sym e)) (p .number) (p .said),
-      p .spare ∙ ap (λ (x : Res MaskInForce). after x spare₀ (λ f. spareWith f spare₀)) e ∙ sym (prepare-call d .spare),
+    let m = prepareEntry b header reuse kept spare₀ said₀ in
+    let e = placed-entry (t .place₀) m i ∙ prepare-reads b q reuse kept spare₀ said₀ l in (
+      numbers-tell maskNumbers which partNumbers part-told (placing (t .place₀) m) (placing-numbered (t .place₀) (prepare-numbered b header reuse kept spare₀ said₀))
+          (prepare-call d .says ∙ ap (λ (x : Res MaskInForce). x >>= which) (sym e)) p (p .done .why) (p .done .said),
+      p .done .spare ∙ ap (λ (x : Res MaskInForce). after x spare₀ (λ f. spareWith f spare₀)) e ∙ sym (prepare-call d .spare),
     )
 
-ranges-same : (b header : List ℕ) (n : ℕ) (ranges₀ ranges₁ : List ℕ) → RangesInC b header n ranges₀ ranges₁ → (h : Header) → HoldsHeader header h → rangesRoom ≤ length ranges₀
-    → (answer : RangesRead) → RangesCall b h answer → Tells (rangesTold answer) rangesNumbers n ranges₀ ranges₁
-ranges-same b header n ranges₀ ranges₁ c h q l answer d =
+ranges-same : (b header : List ℕ) (t : Told) (ranges₀ ranges₁ : List ℕ) → RangesInC b header t ranges₀ ranges₁ → (h : Header) → HoldsHeader header h → HasPlace t → rangesRoom ≤ length ranges₀
+    → (answer : RangesRead) → RangesCall b h answer → Tells (rangesTold answer) rangesNumbers t ranges₀ ranges₁
+ranges-same b header t ranges₀ ranges₁ c h q i l answer d =
     let p = ranges-done c in
-    numbers-tell rangesNumbers ok rangesNumbers (itself rangesNumbers) (rangesEntry b header ranges₀) (ranges-numbered b header ranges₀)
-    (ap rangesTold (ranges-call d) ∙ ranges-are (readRangesSays b h) ∙ sym (ranges-reads b q ranges₀ l) ∙ unit (rangesEntry b header ranges₀)) (p .number) (p .ranges)
+    let m = placing (t .place₀) (rangesEntry b header ranges₀) in
+    let e = placed-entry (t .place₀) (rangesEntry b header ranges₀) i ∙ ranges-reads b q ranges₀ l in
+    numbers-tell rangesNumbers ok rangesNumbers (itself rangesNumbers) m (placing-numbered (t .place₀) (ranges-numbered b header ranges₀))
+    (ap rangesTold (ranges-call d) ∙ ranges-are (readRangesSays b h) ∙ sym e ∙ unit m) p (p .done .why) (p .done .ranges)
 
-walk-same : (b header ranges mask : List ℕ) (n : ℕ) (list₀ list₁ said₀ said₁ : List ℕ) → WalkInC b header ranges mask n list₀ list₁ said₀ said₁
-    → (h : Header) (r : Ranges) → HoldsHeader header h → HoldsRanges ranges r → 2 ≤ length said₀
-    → (answer : WalkAnswer) (list : List ℕ) → WalkCall b h r mask answer list₀ list → Tells (walkSaid answer) walkedNumbers n said₀ said₁ × (list₁ ≡ list)
+walk-same : (b header ranges mask : List ℕ) (t : Told) (list₀ list₁ said₀ said₁ : List ℕ) → WalkInC b header ranges mask t list₀ list₁ said₀ said₁
+    → (h : Header) (r : Ranges) → HoldsHeader header h → HoldsRanges ranges r → HasPlace t → 2 ≤ length said₀
+    → (answer : WalkAnswer) (list : List ℕ) → WalkCall b h r mask answer list₀ list → Tells (walkSaid answer) walkedNumbers t said₀ said₁ × (list₁ ≡ list)
 unfolding walkList
-walk-same b header ranges mask n list₀ list₁ said₀ said₁ c h r q g l answer list d =
+walk-same b header ranges mask t list₀ list₁ said₀ said₁ c h r q g i l answer list d =
     let p = walk-done c in
-    let e = walk-reads b q g mask list₀ said₀ l in
+    let m = walkEntry b header ranges mask list₀ said₀ in
+    let e = placed-entry (t .place₀) m i ∙ walk-reads b q g mask list₀ said₀ l in
     let x = walkSays b h r mask (length list₀) in (
       numbers-tell walkNumbers walkTold walkedNumbers (λ w. record { answer = record { blocks = blockCount (shapeOf (w .header)); end = w .chain .end }; is = refl; same = refl })
-          (walkEntry b header ranges mask list₀ said₀) (walk-numbered b header ranges mask list₀ said₀)
-          (walk-call d .says ∙ walk-told h x ∙ ap (λ (y : Res Walking). y >>= walkTold) (sym e)) (p .number) (p .said),
-      p .list ∙ ap (λ (y : Res Walking). after y list₀ (λ w. over (w .chain .starts) list₀)) e ∙ walk-left h x list₀ ∙ sym (walk-call d .list),
+          (placing (t .place₀) m) (placing-numbered (t .place₀) (walk-numbered b header ranges mask list₀ said₀))
+          (walk-call d .says ∙ walk-told h x ∙ ap (λ (y : Res Walking). y >>= walkTold) (sym e)) p (p .done .why) (p .done .said),
+      p .done .list ∙ ap (λ (y : Res Walking). after y list₀ (λ w. over (w .chain .starts) list₀)) e ∙ walk-left h x list₀ ∙ sym (walk-call d .list),
     )
 
-fill-same : (b header ranges mask list : List ℕ) (block n : ℕ) (image₀ image₁ said₀ said₁ : List ℕ) → FillInC b header ranges mask list block n image₀ image₁ said₀ said₁
-    → (h : Header) (r : Ranges) → HoldsHeader header h → HoldsRanges ranges r → 1 ≤ length said₀
-    → (answer : FillAnswer) (image : List ℕ) → FillCall b h r mask list block answer image₀ image → Tells (fillSaid answer) alone n said₀ said₁ × (image₁ ≡ image)
+fill-same : (b header ranges mask list : List ℕ) (block : ℕ) (t : Told) (image₀ image₁ said₀ said₁ : List ℕ) → FillInC b header ranges mask list block t image₀ image₁ said₀ said₁
+    → (h : Header) (r : Ranges) → HoldsHeader header h → HoldsRanges ranges r → HasPlace t → 1 ≤ length said₀
+    → (answer : FillAnswer) (image : List ℕ) → FillCall b h r mask list block answer image₀ image → Tells (fillSaid answer) alone t said₀ said₁ × (image₁ ≡ image)
 unfolding fillImage
-fill-same b header ranges mask list block n image₀ image₁ said₀ said₁ c h r q g l answer image d =
+fill-same b header ranges mask list block t image₀ image₁ said₀ said₁ c h r q g i l answer image d =
     let p = fill-done c in
-    let e = fill-reads b q g mask list block image₀ said₀ l in
+    let m = fillEntry b header ranges mask list block image₀ said₀ in
+    let e = placed-entry (t .place₀) m i ∙ fill-reads b q g mask list block image₀ said₀ l in
     let x = fillSays b h r mask list block (length image₀) in (
       numbers-tell (fillNumbers mask block) (fillTold mask block) alone
           (λ f. record { answer = validInTile (shapeOf (f .header)) mask (tileOf (shapeOf (f .header)) block); is = refl; same = refl })
-          (fillEntry b header ranges mask list block image₀ said₀) (fill-numbered b header ranges mask list block image₀ said₀)
-          (fill-call d .says ∙ fill-told h mask block x ∙ ap (λ (y : Res Filling). y >>= fillTold mask block) (sym e)) (p .number) (p .said),
-      p .image ∙ ap (λ (y : Res Filling). after y image₀ (fillPaints mask block image₀)) e ∙ fill-left h mask block x image₀ ∙ sym (fill-call d .image),
+          (placing (t .place₀) m) (placing-numbered (t .place₀) (fill-numbered b header ranges mask list block image₀ said₀))
+          (fill-call d .says ∙ fill-told h mask block x ∙ ap (λ (y : Res Filling). y >>= fillTold mask block) (sym e)) p (p .done .why) (p .done .said),
+      p .done .image ∙ ap (λ (y : Res Filling). after y image₀ (fillPaints mask block image₀)) e ∙ fill-left h mask block x image₀ ∙ sym (fill-call d .image),
     )
 
-read-same : (b : List ℕ) (reuse : Bool) (n : ℕ) (old new : Lent) (said₀ said₁ : List ℕ) → ReadInC b reuse n old new said₀ said₁ → readRoom ≤ length said₀
-    → (answer : ReadAnswer) (left : Lent) → ReadCall b reuse answer old left → Tells (readSaid answer) wholeNumbers n said₀ said₁ × (new ≡ left)
-read-same b reuse n old new said₀ said₁ c l answer left d =
-    let p = read-done c in (
+read-same : (b : List ℕ) (reuse : Bool) (t : Told) (old new : Lent) (said₀ said₁ : List ℕ) → ReadInC b reuse t old new said₀ said₁ → HasPlace t → readRoom ≤ length said₀
+    → (answer : ReadAnswer) (left : Lent) → ReadCall b reuse answer old left → Tells (readSaid answer) wholeNumbers t said₀ said₁ × (new ≡ left)
+read-same b reuse t old new said₀ said₁ c i l answer left d =
+    let p = read-done c in
+    let m = readEntry b reuse old said₀ in
+    let e = placed-entry (t .place₀) m i ∙ read-reads b reuse old said₀ l in
+    let k = placed-entry (t .place₀) (maskedEntry b reuse old said₀) i ∙ masked-reads b reuse old said₀ l in (
       numbers-tell readNumbers readCount wholeNumbers (λ m. record { answer = record { header = m .header; blocks = length (startsOf (m .body)); end = endOf (m .body) }; is = refl; same = refl })
-          (readEntry b reuse old said₀) (read-numbered b reuse old said₀)
-          (read-call d .says ∙ ap (λ (y : Res Meaning). y >>= readCount) (sym (read-reads b reuse old said₀ l))) (p .number) (p .said),
-      p .lent ∙ read-leaves b reuse old said₀ l ∙ sym (read-call d .lent),
+          (placing (t .place₀) m) (placing-numbered (t .place₀) (read-numbered b reuse old said₀))
+          (read-call d .says ∙ ap (λ (y : Res Meaning). y >>= readCount) (sym e)) p (p .done .why) (p .done .said),
+      p .done .lent ∙ ap (λ (y : Res Meaning). readAfter y (placing (t .place₀) (maskedEntry b reuse old said₀)) old) e ∙ ap (λ (y : Res Masked). readAfter (readSays b reuse old) y old) k ∙ sym (read-call d .lent),
     )
 
-stored-same : (v kind n : ℕ) (said₀ said₁ : List ℕ) → StoredInC v kind n said₀ said₁ → 1 ≤ length said₀
-    → (answer : StoredAnswer) → StoredCall v kind answer → Tells (storedSaid answer) alone n said₀ said₁
-stored-same v kind n said₀ said₁ c l answer d =
+stored-same : (v kind : ℕ) (t : Told) (said₀ said₁ : List ℕ) → StoredInC v kind t said₀ said₁ → HasPlace t → 1 ≤ length said₀
+    → (answer : StoredAnswer) → StoredCall v kind answer → Tells (storedSaid answer) alone t said₀ said₁
+stored-same v kind t said₀ said₁ c i l answer d =
     let p = stored-done c in
-    numbers-tell alone ok alone (itself alone) (storedEntry kind v said₀) (stored-numbered kind v said₀)
-    (stored-call d ∙ sym (stored-reads kind v said₀ l) ∙ unit (storedEntry kind v said₀)) (p .number) (p .said)
+    let m = placing (t .place₀) (storedEntry kind v said₀) in
+    numbers-tell alone ok alone (itself alone) m (placing-numbered (t .place₀) (stored-numbered kind v said₀))
+    (stored-call d ∙ sym (placed-entry (t .place₀) (storedEntry kind v said₀) i ∙ stored-reads kind v said₀ l) ∙ unit m) p (p .done .why) (p .done .said)
 
 pub same-reader : SameReader
 same-reader = record {

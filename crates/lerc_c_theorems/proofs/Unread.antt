@@ -1,6 +1,6 @@
 -- What is not looked at, for C, proved: on blobs that agree below the size each entry is the same.
 -- Assumes nothing.
-use mathlib.Core.Path.{_≡_, _∙_, sym, refl}
+use mathlib.Core.Path.{_≡_, refl}
 use mathlib.Core.Bool.{Bool, true, false}
 use mathlib.Core.List.{List}
 use Prim.Native.Nat.{ℕ}
@@ -14,11 +14,11 @@ use Rattle.lerc_image.specs.Walk.{walkSays}
 use Rattle.lerc_image.specs.Fill.{fillSays}
 use Rattle.lerc.specs.Read.{Lent}
 use Rattle.lerc_c.specs.Records.{headerAt, fieldsFit, headerFrom, rangesFrom}
-use Rattle.lerc_c.specs.Entries.{headerEntry, prepareEntry, rangesEntry, Walking, walkEntry, Filling, fillEntry, readEntry, maskedEntry, lentAfter}
+use Rattle.lerc_c.specs.Entries.{placing, headerEntry, prepareEntry, rangesEntry, Walking, walkEntry, Filling, fillEntry, readEntry, maskedEntry}
 use Rattle.lerc_theorems.specs.Unread.{SameDeclared, SameBelow}
 use Rattle.lerc_theorems.proofs.Unread.{header-as, masked-as, read-as, prepare-as, ranges-as, walk-as, fill-as}
 use Rattle.lerc_c_theorems.specs.Unread.{UnreadInC}
-use Rattle.lerc_c_theorems.proofs.Calls.{header-done, prepare-done, ranges-done, walk-done, fill-done, read-done}
+use Rattle.lerc_c_theorems.proofs.Calls.{header-done, prepare-done, ranges-done, walk-done, fill-done, read-done, told-same, header-alike, prepare-alike, ranges-alike, walk-alike, fill-alike, read-alike}
 
 -- ---- behind the size that the blob declares
 
@@ -34,10 +34,6 @@ module _ (b c : List ℕ) (same : SameDeclared b c) where
   masked-entry : (reuse : Bool) (l : Lent) (said : List ℕ) → maskedEntry b reuse l said ≡ maskedEntry c reuse l said
   unfolding maskedEntry
   masked-entry reuse l said = rw (masked-as b c same reuse l)
-
-  lent-after : (reuse : Bool) (l : Lent) (said : List ℕ) → lentAfter b reuse l said ≡ lentAfter c reuse l said
-  unfolding lentAfter
-  lent-after reuse l said = rw (read-entry reuse l said, masked-entry reuse l said)
 
 -- ---- behind the size that the header's record holds
 
@@ -81,36 +77,40 @@ module _ (b c header : List ℕ) where
 
 -- ---- entry by entry
 
+-- the same entry, with slices of the place that began alike
+placed-same : {A : Type 0} {m k : Res A} {place other : List ℕ} → place ≡ other → m ≡ k → placing place m ≡ placing other k
+placed-same i e = rw (i, e)
+
 pub unread-in-c : UnreadInC
 unread-in-c = record {
-  read-header = λ b c n m header₀ header₁ header₂ s p q.
+  read-header = λ b c t u header₀ header₁ header₂ i s p q.
       let d = header-done p in
-      let d = rw (header-entry b c s header₀) at d in
       let e = header-done q in
-      (d .number ∙ sym (e .number), d .header ∙ sym (e .header));
-  read = λ b c reuse n m lent₀ lent₁ lent₂ said₀ said₁ said₂ s p q.
+      let (w, v) = header-alike (placed-same i (header-entry b c s header₀)) (d .done) (e .done) in
+      (told-same i d e w, v);
+  read = λ b c reuse t u lent₀ lent₁ lent₂ said₀ said₁ said₂ i s p q.
       let d = read-done p in
       let e = read-done q in
-      let i = read-entry b c s reuse lent₀ said₀ in
-      (d .number ∙ rw (i) (sym (e .number)), d .lent ∙ lent-after b c s reuse lent₀ said₀ ∙ sym (e .lent), d .said ∙ rw (i) (sym (e .said)));
-  prepare-mask = λ b c header reuse kept n m spare₀ spare₁ spare₂ said₀ said₁ said₂ s p q.
+      let (w, v, y) = read-alike (placed-same i (read-entry b c s reuse lent₀ said₀)) (placed-same i (masked-entry b c s reuse lent₀ said₀)) (d .done) (e .done) in
+      (told-same i d e w, v, y);
+  prepare-mask = λ b c header reuse kept t u spare₀ spare₁ spare₂ said₀ said₁ said₂ i s p q.
       let d = prepare-done p in
-      let d = rw (prepare-entry b c header s reuse kept spare₀ said₀) at d in
       let e = prepare-done q in
-      (d .number ∙ sym (e .number), d .spare ∙ sym (e .spare), d .said ∙ sym (e .said));
-  read-ranges = λ b c header n m ranges₀ ranges₁ ranges₂ s p q.
+      let (w, v, y) = prepare-alike (placed-same i (prepare-entry b c header s reuse kept spare₀ said₀)) (d .done) (e .done) in
+      (told-same i d e w, v, y);
+  read-ranges = λ b c header t u ranges₀ ranges₁ ranges₂ i s p q.
       let d = ranges-done p in
-      let d = rw (ranges-entry b c header s ranges₀) at d in
       let e = ranges-done q in
-      (d .number ∙ sym (e .number), d .ranges ∙ sym (e .ranges));
-  walk = λ b c header ranges mask n m list₀ list₁ list₂ said₀ said₁ said₂ s p q.
+      let (w, v) = ranges-alike (placed-same i (ranges-entry b c header s ranges₀)) (d .done) (e .done) in
+      (told-same i d e w, v);
+  walk = λ b c header ranges mask t u list₀ list₁ list₂ said₀ said₁ said₂ i s p q.
       let d = walk-done p in
-      let d = rw (walk-entry b c header s ranges mask list₀ said₀) at d in
       let e = walk-done q in
-      (d .number ∙ sym (e .number), d .list ∙ sym (e .list), d .said ∙ sym (e .said));
-  fill = λ b c header ranges mask list block n m image₀ image₁ image₂ said₀ said₁ said₂ s p q.
+      let (w, v, y) = walk-alike (placed-same i (walk-entry b c header s ranges mask list₀ said₀)) (d .done) (e .done) in
+      (told-same i d e w, v, y);
+  fill = λ b c header ranges mask list block t u image₀ image₁ image₂ said₀ said₁ said₂ i s p q.
       let d = fill-done p in
-      let d = rw (fill-entry b c header s ranges mask list block image₀ said₀) at d in
       let e = fill-done q in
-      (d .number ∙ sym (e .number), d .image ∙ sym (e .image), d .said ∙ sym (e .said));
+      let (w, v, y) = fill-alike (placed-same i (fill-entry b c header s ranges mask list block image₀ said₀)) (d .done) (e .done) in
+      (told-same i d e w, v, y);
 }

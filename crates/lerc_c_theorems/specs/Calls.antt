@@ -1,4 +1,4 @@
--- Calls of the entries for C: what is lent, the number that is returned and what is left, in any outcome that the promise allows.
+-- Calls of the entries for C: what is lent, the number that is returned, the place and what is left, in any outcome that the promise allows.
 -- Of a slice that is written, the first list is what it held, the second what it holds afterwards. `Post` is what the checker makes of the text of an entry's `ensures`;
 -- the inputs are a tuple in the order of its parameters, the outputs the same at exit.
 -- Assumes nothing.
@@ -38,44 +38,64 @@ pub record HoldsRanges (ranges : List ℕ) (r : Ranges) : Type 0 where
 
 -- ---- calls
 
--- blob; the number; the header's record
-abbrev pub HeaderInC : List ℕ → ℕ → List ℕ → List ℕ → Type 0
-HeaderInC b n header₀ header₁ = Call {S = List ℕ × List ℕ} read-header.Post (λ a. (a .0 .now, a .1 .0 .now)) (λ r. r) (λ o. o .1 .0 .now) (b, header₀) n header₁
+-- what a call tells beside its records: the number that it returns, and the slice of the place, which is the last one that is lent
+pub record Told : Type 0 where
+  pub number : ℕ
+  pub place₀ : List ℕ
+  pub place₁ : List ℕ
 
--- blob, the header's record, reuse, kept mask; the number; the spare, and what is said
-abbrev pub PrepareInC : List ℕ → List ℕ → Bool → List ℕ → ℕ → List ℕ → List ℕ → List ℕ → List ℕ → Type 0
-PrepareInC b header reuse kept n spare₀ spare₁ said₀ said₁ =
-    Call {S = List ℕ × List ℕ × Bool × List ℕ × List ℕ × List ℕ} {T = List ℕ × List ℕ} prepare-mask.Post
-    (λ a. (a .0 .now, a .1 .0 .now, a .1 .1 .0, a .1 .1 .1 .0 .now, a .1 .1 .1 .1 .0 .now, a .1 .1 .1 .1 .1 .0 .now)) (λ r. r)
-    (λ o. (o .1 .1 .1 .1 .0 .now, o .1 .1 .1 .1 .1 .0 .now)) (b, header, reuse, kept, spare₀, said₀) n (spare₁, said₁)
+-- there is room for the place
+abbrev pub HasPlace : Told → Type 0
+HasPlace t = 1 ≤ length (t .place₀)
 
--- blob, the header's record; the number; the ranges' record
-abbrev pub RangesInC : List ℕ → List ℕ → ℕ → List ℕ → List ℕ → Type 0
-RangesInC b header n ranges₀ ranges₁ =
-    Call {S = List ℕ × List ℕ × List ℕ} read-ranges.Post (λ a. (a .0 .now, a .1 .0 .now, a .1 .1 .0 .now)) (λ r. r) (λ o. o .1 .1 .0 .now) (b, header, ranges₀) n ranges₁
+-- a call that returned 0
+abbrev pub Accepted : (Told → Type 0) → Type 0
+Accepted InC = (place₀ : List ℕ) × (place₁ : List ℕ) × InC (record { number = 0; place₀ = place₀; place₁ = place₁ })
 
--- blob, the records of header and ranges, mask; the number; the list, and what is said
-abbrev pub WalkInC : List ℕ → List ℕ → List ℕ → List ℕ → ℕ → List ℕ → List ℕ → List ℕ → List ℕ → Type 0
-WalkInC b header ranges mask n list₀ list₁ said₀ said₁ =
-    Call {S = List ℕ × List ℕ × List ℕ × List ℕ × List ℕ × List ℕ} {T = List ℕ × List ℕ} walk.Post
-    (λ a. (a .0 .now, a .1 .0 .now, a .1 .1 .0 .now, a .1 .1 .1 .0 .now, a .1 .1 .1 .1 .0 .now, a .1 .1 .1 .1 .1 .0 .now)) (λ r. r)
-    (λ o. (o .1 .1 .1 .1 .0 .now, o .1 .1 .1 .1 .1 .0 .now)) (b, header, ranges, mask, list₀, said₀) n (list₁, said₁)
+-- blob; what is told; the header's record
+abbrev pub HeaderInC : List ℕ → Told → List ℕ → List ℕ → Type 0
+HeaderInC b t header₀ header₁ =
+    Call {S = List ℕ × List ℕ × List ℕ} {T = List ℕ × List ℕ} read-header.Post (λ a. (a .0 .now, a .1 .0 .now, a .1 .1 .0 .now)) (λ r. r) (λ o. (o .1 .0 .now, o .1 .1 .0 .now))
+    (b, header₀, t .place₀) (t .number) (header₁, t .place₁)
 
--- blob, the records of header and ranges, mask, list, the block's number; the number that is returned; the image, and what is said
-abbrev pub FillInC : List ℕ → List ℕ → List ℕ → List ℕ → List ℕ → ℕ → ℕ → List ℕ → List ℕ → List ℕ → List ℕ → Type 0
-FillInC b header ranges mask list block n image₀ image₁ said₀ said₁ =
-    Call {S = List ℕ × List ℕ × List ℕ × List ℕ × List ℕ × ℕ × List ℕ × List ℕ} {T = List ℕ × List ℕ} fill.Post
-    (λ a. (a .0 .now, a .1 .0 .now, a .1 .1 .0 .now, a .1 .1 .1 .0 .now, a .1 .1 .1 .1 .0 .now, a .1 .1 .1 .1 .1 .0, a .1 .1 .1 .1 .1 .1 .0 .now, a .1 .1 .1 .1 .1 .1 .1 .0 .now)) (λ r. r)
-    (λ o. (o .1 .1 .1 .1 .1 .1 .0 .now, o .1 .1 .1 .1 .1 .1 .1 .0 .now)) (b, header, ranges, mask, list, block, image₀, said₀) n (image₁, said₁)
+-- blob, the header's record, reuse, kept mask; what is told; the spare, and what is said
+abbrev pub PrepareInC : List ℕ → List ℕ → Bool → List ℕ → Told → List ℕ → List ℕ → List ℕ → List ℕ → Type 0
+PrepareInC b header reuse kept t spare₀ spare₁ said₀ said₁ =
+    Call {S = List ℕ × List ℕ × Bool × List ℕ × List ℕ × List ℕ × List ℕ} {T = List ℕ × List ℕ × List ℕ} prepare-mask.Post
+    (λ a. (a .0 .now, a .1 .0 .now, a .1 .1 .0, a .1 .1 .1 .0 .now, a .1 .1 .1 .1 .0 .now, a .1 .1 .1 .1 .1 .0 .now, a .1 .1 .1 .1 .1 .1 .0 .now)) (λ r. r)
+    (λ o. (o .1 .1 .1 .1 .0 .now, o .1 .1 .1 .1 .1 .0 .now, o .1 .1 .1 .1 .1 .1 .0 .now)) (b, header, reuse, kept, spare₀, said₀, t .place₀) (t .number) (spare₁, said₁, t .place₁)
 
--- blob, reuse; the number; kept mask, spare, list and image, and what is said
-abbrev pub ReadInC : List ℕ → Bool → ℕ → Lent → Lent → List ℕ → List ℕ → Type 0
-ReadInC b reuse n old new said₀ said₁ =
-    Call {S = List ℕ × Bool × Lent × List ℕ} {T = Lent × List ℕ} read.Post (λ a. (a .0 .now, a .1 .0, c-lent a .0, c-lent a .1)) (λ r. r) c-lent (b, reuse, old, said₀) n (new, said₁)
+-- blob, the header's record; what is told; the ranges' record
+abbrev pub RangesInC : List ℕ → List ℕ → Told → List ℕ → List ℕ → Type 0
+RangesInC b header t ranges₀ ranges₁ =
+    Call {S = List ℕ × List ℕ × List ℕ × List ℕ} {T = List ℕ × List ℕ} read-ranges.Post (λ a. (a .0 .now, a .1 .0 .now, a .1 .1 .0 .now, a .1 .1 .1 .0 .now)) (λ r. r)
+    (λ o. (o .1 .1 .0 .now, o .1 .1 .1 .0 .now)) (b, header, ranges₀, t .place₀) (t .number) (ranges₁, t .place₁)
 
--- value, kind; the number; what is said
-abbrev pub StoredInC : ℕ → ℕ → ℕ → List ℕ → List ℕ → Type 0
-StoredInC v kind n said₀ said₁ = Call {S = ℕ × ℕ × List ℕ} stored.Post (λ a. (a .0, a .1 .0, a .1 .1 .0 .now)) (λ r. r) (λ o. o .1 .1 .0 .now) (v, kind, said₀) n said₁
+-- blob, the records of header and ranges, mask; what is told; the list, and what is said
+abbrev pub WalkInC : List ℕ → List ℕ → List ℕ → List ℕ → Told → List ℕ → List ℕ → List ℕ → List ℕ → Type 0
+WalkInC b header ranges mask t list₀ list₁ said₀ said₁ =
+    Call {S = List ℕ × List ℕ × List ℕ × List ℕ × List ℕ × List ℕ × List ℕ} {T = List ℕ × List ℕ × List ℕ} walk.Post
+    (λ a. (a .0 .now, a .1 .0 .now, a .1 .1 .0 .now, a .1 .1 .1 .0 .now, a .1 .1 .1 .1 .0 .now, a .1 .1 .1 .1 .1 .0 .now, a .1 .1 .1 .1 .1 .1 .0 .now)) (λ r. r)
+    (λ o. (o .1 .1 .1 .1 .0 .now, o .1 .1 .1 .1 .1 .0 .now, o .1 .1 .1 .1 .1 .1 .0 .now)) (b, header, ranges, mask, list₀, said₀, t .place₀) (t .number) (list₁, said₁, t .place₁)
+
+-- blob, the records of header and ranges, mask, list, the block's number; what is told; the image, and what is said
+abbrev pub FillInC : List ℕ → List ℕ → List ℕ → List ℕ → List ℕ → ℕ → Told → List ℕ → List ℕ → List ℕ → List ℕ → Type 0
+FillInC b header ranges mask list block t image₀ image₁ said₀ said₁ =
+    Call {S = List ℕ × List ℕ × List ℕ × List ℕ × List ℕ × ℕ × List ℕ × List ℕ × List ℕ} {T = List ℕ × List ℕ × List ℕ} fill.Post
+    (λ a. (a .0 .now, a .1 .0 .now, a .1 .1 .0 .now, a .1 .1 .1 .0 .now, a .1 .1 .1 .1 .0 .now, a .1 .1 .1 .1 .1 .0, a .1 .1 .1 .1 .1 .1 .0 .now, a .1 .1 .1 .1 .1 .1 .1 .0 .now, a .1 .1 .1 .1 .1 .1 .1 .1 .0 .now)) (λ r. r)
+    (λ o. (o .1 .1 .1 .1 .1 .1 .0 .now, o .1 .1 .1 .1 .1 .1 .1 .0 .now, o .1 .1 .1 .1 .1 .1 .1 .1 .0 .now)) (b, header, ranges, mask, list, block, image₀, said₀, t .place₀) (t .number) (image₁, said₁, t .place₁)
+
+-- blob, reuse; what is told; kept mask, spare, list and image, and what is said
+abbrev pub ReadInC : List ℕ → Bool → Told → Lent → Lent → List ℕ → List ℕ → Type 0
+ReadInC b reuse t old new said₀ said₁ =
+    Call {S = List ℕ × Bool × Lent × List ℕ × List ℕ} {T = Lent × List ℕ × List ℕ} read.Post (λ a. (a .0 .now, a .1 .0, c-lent a .0, c-lent a .1, c-lent a .2)) (λ r. r) c-lent
+    (b, reuse, old, said₀, t .place₀) (t .number) (new, said₁, t .place₁)
+
+-- value, kind; what is told; what is said
+abbrev pub StoredInC : ℕ → ℕ → Told → List ℕ → List ℕ → Type 0
+StoredInC v kind t said₀ said₁ =
+    Call {S = ℕ × ℕ × List ℕ × List ℕ} {T = List ℕ × List ℕ} stored.Post (λ a. (a .0, a .1 .0, a .1 .1 .0 .now, a .1 .1 .1 .0 .now)) (λ r. r) (λ o. (o .1 .1 .0 .now, o .1 .1 .1 .0 .now))
+    (v, kind, said₀, t .place₀) (t .number) (said₁, t .place₁)
 
 -- the reader's own: value, kind; the answer
 abbrev pub StoredCall : ℕ → ℕ → StoredAnswer → Type 0

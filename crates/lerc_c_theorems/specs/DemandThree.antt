@@ -4,7 +4,7 @@ use Prim.Native.Nat.{ℕ, _≤_, _<_}
 use mathlib.Core.Path.{_≡_}
 use mathlib.Core.Bool.{Bool, true, cond, _&&_}
 use mathlib.Core.List.{List, [], _∷_}
-use lib.ListN.{length, getD, take}
+use lib.ListN.{length, getD, set, take}
 use lib.Dec.{eqb}
 use Rattle.lerc_words.specs.Res.{ok}
 use Rattle.lerc_words.specs.Lists.{over}
@@ -23,7 +23,7 @@ use Rattle.lerc.specs.Read.{Lent}
 use Rattle.lerc_c.specs.Records.{headerRoom, headerAt, rangesRoom, rangesIn}
 use Rattle.lerc_theorems.specs.DemandTwo.{Roomy}
 use Rattle.lerc_theorems.specs.DemandThree.{InHand, Found}
-use Rattle.lerc_c_theorems.specs.Calls.{HoldsHeader, HoldsRanges, HeaderInC, PrepareInC, RangesInC, WalkInC, FillInC, ReadInC}
+use Rattle.lerc_c_theorems.specs.Calls.{HoldsHeader, HoldsRanges, Told, HasPlace, Accepted, HeaderInC, PrepareInC, RangesInC, WalkInC, FillInC, ReadInC}
 
 -- every element is a byte, as those of C's `uint8_t` are
 abbrev pub Bytes : List ℕ → Type 0
@@ -83,11 +83,11 @@ pub record ByWalkInC (x : InHandInC) : Type 0 where
   pub counts₀ : List ℕ
   pub counts₁ : List ℕ
   pub bytes : Bytes (x .blob)
-  pub header : HeaderInC (x .blob) 0 header₀ (x .header)
-  pub prepare : PrepareInC (x .blob) (x .header) (x .reuse) (x .kept) 0 spare₀ spare₁ part₀ part₁
-  pub ranges : RangesInC (x .blob) (x .header) 0 ranges₀ (x .ranges)
+  pub header : Accepted (λ t. HeaderInC (x .blob) t header₀ (x .header))
+  pub prepare : Accepted (λ t. PrepareInC (x .blob) (x .header) (x .reuse) (x .kept) t spare₀ spare₁ part₀ part₁)
+  pub ranges : Accepted (λ t. RangesInC (x .blob) (x .header) t ranges₀ (x .ranges))
   pub begins : take (getD part₁ 1 0) longer ≡ take (getD part₁ 1 0) (toldSlice part₁ (x .kept) spare₁)
-  pub walk : WalkInC (x .blob) (x .header) (x .ranges) longer 0 list₀ list₁ counts₀ counts₁
+  pub walk : Accepted (λ t. WalkInC (x .blob) (x .header) (x .ranges) longer t list₀ list₁ counts₀ counts₁)
   pub count : x .count ≡ getD counts₁ 0 0
   pub end : x .end ≡ getD counts₁ 1 0
   pub mask : take (getD part₁ 1 0) (x .mask) ≡ take (getD part₁ 1 0) (toldSlice part₁ (x .kept) spare₁)
@@ -102,12 +102,12 @@ pub record ByReadInC (x : InHandInC) : Type 0 where
   pub said₀ : List ℕ
   pub ranges₀ : List ℕ
   pub bytes : Bytes (x .blob)
-  pub read : ReadInC (x .blob) (x .reuse) 0 old new said₀ (x .header)
+  pub read : Accepted (λ t. ReadInC (x .blob) (x .reuse) t old new said₀ (x .header))
   pub kept : old .kept ≡ x .kept
   pub count : x .count ≡ getD (x .header) 11 0
   pub end : x .end ≡ getD (x .header) 12 0
   pub some : 0 < x .count
-  pub ranges : RangesInC (x .blob) (x .header) 0 ranges₀ (x .ranges)
+  pub ranges : Accepted (λ t. RangesInC (x .blob) (x .header) t ranges₀ (x .ranges))
   pub mask : take (maskLength (shapeIn x)) (x .mask) ≡ take (maskLength (shapeIn x)) (new .kept)
   pub list : take (x .count) (x .list) ≡ take (x .count) (new .list)
   pub room : cells (shapeIn x) ≤ length (x .image)
@@ -116,34 +116,35 @@ pub data SurveyedInC (x : InHandInC) : Type 0 where
   by-walk : ByWalkInC x → SurveyedInC x
   by-read : ByReadInC x → SurveyedInC x
 
--- On a blob that has a meaning in blocks, and with the slices that a whole read could be lent, each of these calls returns 0 where its records are long enough.
+-- On a blob that has a meaning in blocks, and with the slices that a whole read could be lent, each of these calls returns 0 where its records and the slice of the place are long enough.
 pub record StepsAccept (b : List ℕ) (reuse : Bool) (old : Lent) (h : Header) (f : MaskInForce) : Type 0 where
-  pub header : (n : ℕ) (header₀ header₁ : List ℕ) → HeaderInC b n header₀ header₁ → headerRoom ≤ length header₀ → n ≡ 0
-  pub prepare : (n : ℕ) (header spare said₀ said₁ : List ℕ) → PrepareInC b header reuse (old .kept) n (old .spare) spare said₀ said₁ → HoldsHeader header h → 2 ≤ length said₀ → n ≡ 0
-  pub ranges : (n : ℕ) (header ranges₀ ranges₁ : List ℕ) → RangesInC b header n ranges₀ ranges₁ → HoldsHeader header h → rangesRoom ≤ length ranges₀ → n ≡ 0
+  pub header : (t : Told) (header₀ header₁ : List ℕ) → HeaderInC b t header₀ header₁ → HasPlace t → headerRoom ≤ length header₀ → t .number ≡ 0
+  pub prepare : (t : Told) (header spare said₀ said₁ : List ℕ) → PrepareInC b header reuse (old .kept) t (old .spare) spare said₀ said₁ → HoldsHeader header h → HasPlace t → 2 ≤ length said₀ → t .number ≡ 0
+  pub ranges : (t : Told) (header ranges₀ ranges₁ : List ℕ) → RangesInC b header t ranges₀ ranges₁ → HoldsHeader header h → HasPlace t → rangesRoom ≤ length ranges₀ → t .number ≡ 0
   -- lent the ranges that were read, and a mask that begins with the mask in force
-  pub walk : (n : ℕ) (header ranges mask list said₀ said₁ : List ℕ) (r : Ranges) → WalkInC b header ranges mask n (old .list) list said₀ said₁ → HoldsHeader header h → HoldsRanges ranges r
-      → readRangesSays b h ≡ ok r → take (maskLength (shapeOf h)) mask ≡ bytesOf f → 2 ≤ length said₀ → n ≡ 0
+  pub walk : (t : Told) (header ranges mask list said₀ said₁ : List ℕ) (r : Ranges) → WalkInC b header ranges mask t (old .list) list said₀ said₁ → HoldsHeader header h → HoldsRanges ranges r
+      → readRangesSays b h ≡ ok r → take (maskLength (shapeOf h)) mask ≡ bytesOf f → HasPlace t → 2 ≤ length said₀ → t .number ≡ 0
 
 -- ---- fills
 
--- what a call of `lerc2_fill` returned, and its record before and after
+-- what a call of `lerc2_fill` told, and its record before and after
 pub record Outcome : Type 0 where
-  pub number : ℕ
+  pub told : Told
   pub said₀ : List ℕ
   pub said₁ : List ℕ
 
 -- calls of `lerc2_fill`, one for each number, each on the image that the one before it left
 pub data FillsInC (b header ranges mask list : List ℕ) : List ℕ → List Outcome → List ℕ → List ℕ → Type 0 where
   none : (image : List ℕ) → FillsInC b header ranges mask list [] [] image image
-  more : (n : ℕ) (ns : List ℕ) (said : Outcome) (others : List Outcome) (old mid new : List ℕ) → 1 ≤ length (said .said₀)
-      → FillInC b header ranges mask list n (said .number) old mid (said .said₀) (said .said₁) → FillsInC b header ranges mask list ns others mid new
+  more : (n : ℕ) (ns : List ℕ) (said : Outcome) (others : List Outcome) (old mid new : List ℕ) → HasPlace (said .told) → 1 ≤ length (said .said₀)
+      → FillInC b header ranges mask list n (said .told) old mid (said .said₀) (said .said₁) → FillsInC b header ranges mask list ns others mid new
       → FillsInC b header ranges mask list (n ∷ ns) (said ∷ others) old new
 
--- a number below the count of blocks is filled: 0 is returned, and its tile's valid pixels are said; each other is refused 11, and its record is as it was
+-- a number below the count of blocks is filled: 0 is returned, and its tile's valid pixels are said; each other is refused 11, and its record is as it was. The place is 0 in both.
 pub record Answered (s : Shape) (mask : List ℕ) (n : ℕ) (said : Outcome) : Type 0 where
-  pub below : n < blockCount s → (said .number ≡ 0) × (said .said₁ ≡ over (validInTile s mask (tileOf s n) ∷ []) (said .said₀))
-  pub above : blockCount s ≤ n → (said .number ≡ 11) × (said .said₁ ≡ said .said₀)
+  pub place : said .told .place₁ ≡ set (said .told .place₀) 0 0
+  pub below : n < blockCount s → (said .told .number ≡ 0) × (said .said₁ ≡ over (validInTile s mask (tileOf s n) ∷ []) (said .said₀))
+  pub above : blockCount s ≤ n → (said .told .number ≡ 11) × (said .said₁ ≡ said .said₀)
 
 -- at every place of the list
 pub data AllAnswered (s : Shape) (mask : List ℕ) : List ℕ → List Outcome → Type 0 where
@@ -155,7 +156,7 @@ pub record ReadAlikeInC (x : InHandInC) (left : Lent) : Type 0 where
   pub lent : Lent
   pub said₀ : List ℕ
   pub said₁ : List ℕ
-  pub read : ReadInC (x .blob) (x .reuse) 0 lent left said₀ said₁
+  pub read : Accepted (λ t. ReadInC (x .blob) (x .reuse) t lent left said₀ said₁)
   pub same-mask : x .reuse ≡ true → take (maskLength (shapeIn x)) (lent .kept) ≡ take (maskLength (shapeIn x)) (x .kept)
   pub same-start : lent .image ≡ x .image
 
@@ -175,11 +176,11 @@ pub record AnyOrderInC (x : InHandInC) (ns : List ℕ) (said : List Outcome) (ne
 
 pub record DemandThreeInC : Type 0 where
   -- a record that one entry wrote is taken by the others as what it was written from
-  pub header-handed : (b header₀ header₁ : List ℕ) → Bytes b → HeaderInC b 0 header₀ header₁ → (h : Header) × (headerSays b ≡ ok h) × HoldsHeader header₁ h
-  pub ranges-handed : (b header : List ℕ) (h : Header) (ranges₀ ranges₁ : List ℕ) → HoldsHeader header h → RangesInC b header 0 ranges₀ ranges₁
+  pub header-handed : (b header₀ header₁ : List ℕ) → Bytes b → Accepted (λ t. HeaderInC b t header₀ header₁) → (h : Header) × (headerSays b ≡ ok h) × HoldsHeader header₁ h
+  pub ranges-handed : (b header : List ℕ) (h : Header) (ranges₀ ranges₁ : List ℕ) → HoldsHeader header h → Accepted (λ t. RangesInC b header t ranges₀ ranges₁)
       → (r : Ranges) × (readRangesSays b h ≡ ok r) × HoldsRanges ranges₁ r
   -- what a whole read said serves as the header's record
-  pub read-handed : (b : List ℕ) (reuse : Bool) (old new : Lent) (said₀ said₁ : List ℕ) → Bytes b → ReadInC b reuse 0 old new said₀ said₁ → (h : Header) × (headerSays b ≡ ok h) × HoldsHeader said₁ h
+  pub read-handed : (b : List ℕ) (reuse : Bool) (old new : Lent) (said₀ said₁ : List ℕ) → Bytes b → Accepted (λ t. ReadInC b reuse t old new said₀ said₁) → (h : Header) × (headerSays b ≡ ok h) × HoldsHeader said₁ h
   -- given room, a blob that has a meaning in blocks is accepted by each of the calls before a fill
   pub steps-accepted : (b : List ℕ) (reuse : Bool) (old : Lent) (h : Header) (f : MaskInForce) (c : Chain) → meaning b reuse (old .kept) ≡ ok (record { header = h; mask = f; body = blocks c })
       → Roomy b old → StepsAccept b reuse old h f

@@ -1,4 +1,4 @@
--- Which number an entry for C returns: "A record slice that is too short is refused first (5), then a number that its field cannot hold (3 ..), then what the function's own comment lists".
+-- Which number an entry for C returns, and at which place: "A slice that is too short for its place or its record is refused first (5), then a number that its field cannot hold (3 ..), then what the function's own comment lists".
 -- `Post` is what the checker makes of the text of an entry's `ensures`; the inputs are a tuple in the order of its parameters.
 -- Assumes nothing.
 use mathlib.Core.Path.{_≡_}
@@ -6,7 +6,7 @@ use mathlib.Core.Logic.{_↔_, _≢_, _⊎_}
 use mathlib.Core.Bool.{true}
 use mathlib.Core.List.{List, [], _∷_}
 use Prim.Native.Nat.{ℕ, _^_, _≤_, _<_}
-use lib.ListN.{length, getD}
+use lib.ListN.{length, getD, set}
 use Rattle.lerc_words.specs.declared.Refusal.{Refusal}
 use Rattle.lerc_words.specs.Res.{refuse}
 use Rattle.lerc_image.specs.Paint.{among}
@@ -19,15 +19,16 @@ use Rattle.lerc_c.proofs.lerc2_walk.Reads as walk
 use Rattle.lerc_c.proofs.lerc2_fill.Reads as fill
 use Rattle.lerc_c.proofs.lerc2_read.Reads as read
 use Rattle.lerc_c.proofs.lerc2_stored.Reads as stored
+use Rattle.lerc_theorems.specs.Numbers.{Exactly, ExactlyNumbered}
 use Rattle.lerc_theorems.specs.BlockTable.{StoredRefused}
 use Rattle.lerc_theorems.specs.Table.{HeaderRefused, PrepareRefused, ReadRangesRefused, WalkRefused, FillRefused, WholeRefused}
 use Rattle.lerc_c_theorems.specs.Promises.{c-lent}
 
 -- ---- the table
 
--- `Short`: a record is too short. `Wide`: one holds a number that its field cannot hold. `Refused`: the table of the reader's function, on what the records hold.
+-- `Short`: the slice of the place or a record is too short. `Wide`: one holds a number that its field cannot hold. `Refused`: the table of the reader's function, on what the records hold.
 pub data EntryRefused (Short Wide : Type 0) (Refused : Refusal → Type 0) : Refusal → Type 0 where
-  record-short : Short → EntryRefused Short Wide Refused (refuse 5)
+  slice-short : Short → EntryRefused Short Wide Refused (refuse 5)
   number-wide : (Short → ⊥) → Wide → EntryRefused Short Wide Refused (refuse 3)
   reader-refuses : {why : Refusal} → (Short → ⊥) → (Wide → ⊥) → Refused why → EntryRefused Short Wide Refused why
 
@@ -53,34 +54,59 @@ pub data HeaderWide (header : List ℕ) : Type 0 where
 abbrev pub MarkWide : List ℕ → Type 0
 MarkWide ranges = 2 ≤ getD ranges 1 0
 
--- ---- each number of each entry, exactly
+-- ---- each number and each place of each entry, exactly
 
-pub record ExactlyInC {K A O : Type 0} (Post : K → A → ℕ → O → Type 0) (When : A → Refusal → Type 0) : Type 0 where
+-- what a call told is this refusal: its number is returned, and its place is the first number of the slice
+abbrev pub ToldInC : ℕ → List ℕ → Refusal → Type 0
+ToldInC n place why = (n ≢ 0) × (why ≡ record { number = n; at = getD place 0 0 })
+
+-- `place` is the slice of the place among the inputs, `left` the same among the outputs
+pub record PromisedInC {K A O : Type 0} (Agree : (Refusal → Type 0) → (Refusal → Type 0) → Type 0) (Post : K → A → ℕ → O → Type 0) (place : A → List ℕ) (left : O → List ℕ) (When : A → Refusal → Type 0) : Type 0 where
   -- 0 exactly where no line of the table applies
   pub zero : (k : K) (a : A) (n : ℕ) (x : O) → Post k a n x → (n ≡ 0) ↔ ((why : Refusal) → When a why → ⊥)
   -- another number exactly where the table gives it
-  pub other : (k : K) (a : A) (n : ℕ) (x : O) → Post k a n x → (j : ℕ) → j ≢ 0 → (n ≡ j) ↔ When a (refuse j)
+  pub other : (k : K) (a : A) (n : ℕ) (x : O) → Post k a n x → Agree (ToldInC n (left x)) (When a)
+  -- the place is written in every outcome, 0 with 0, and nothing behind it
+  pub written : (k : K) (a : A) (n : ℕ) (x : O) → Post k a n x → (left x ≡ set (place a) 0 (getD (left x) 0 0)) × (n ≡ 0 → getD (left x) 0 0 ≡ 0)
 
-pub record NumbersExactlyInC : Type 0 where
-  pub read-header : ExactlyInC read-header.Post (λ a. EntryRefused (Shorter (a .1 .0 .now) headerRoom) NothingWide (HeaderRefused (a .0 .now)))
-  pub prepare-mask : ExactlyInC prepare-mask.Post (λ a. EntryRefused
-      (Shorter (a .1 .0 .now) headerRoom ⊎ Shorter (a .1 .1 .1 .1 .1 .0 .now) 2)
+-- each entry that refuses: its promise, the slice of its place, and its lines of the table
+pub record EachEntry (Agree : (Refusal → Type 0) → (Refusal → Type 0) → Type 0) : Type 0 where
+  pub read-header : PromisedInC Agree read-header.Post (λ a. a .1 .1 .0 .now) (λ o. o .1 .1 .0 .now) (λ a. EntryRefused
+      (Shorter (a .1 .1 .0 .now) 1 ⊎ Shorter (a .1 .0 .now) headerRoom)
+      NothingWide
+      (HeaderRefused (a .0 .now)))
+  pub prepare-mask : PromisedInC Agree prepare-mask.Post (λ a. a .1 .1 .1 .1 .1 .1 .0 .now) (λ o. o .1 .1 .1 .1 .1 .1 .0 .now) (λ a. EntryRefused
+      (Shorter (a .1 .1 .1 .1 .1 .1 .0 .now) 1 ⊎ (Shorter (a .1 .0 .now) headerRoom ⊎ Shorter (a .1 .1 .1 .1 .1 .0 .now) 2))
       (HeaderWide (a .1 .0 .now))
       (PrepareRefused (a .0 .now) (headerAt (a .1 .0 .now)) (a .1 .1 .0) (a .1 .1 .1 .0 .now) (length (a .1 .1 .1 .1 .0 .now))))
-  pub read-ranges : ExactlyInC read-ranges.Post (λ a. EntryRefused
-      (Shorter (a .1 .0 .now) headerRoom ⊎ Shorter (a .1 .1 .0 .now) rangesRoom)
+  pub read-ranges : PromisedInC Agree read-ranges.Post (λ a. a .1 .1 .1 .0 .now) (λ o. o .1 .1 .1 .0 .now) (λ a. EntryRefused
+      (Shorter (a .1 .1 .1 .0 .now) 1 ⊎ (Shorter (a .1 .0 .now) headerRoom ⊎ Shorter (a .1 .1 .0 .now) rangesRoom))
       (HeaderWide (a .1 .0 .now))
       (ReadRangesRefused (a .0 .now) (headerAt (a .1 .0 .now))))
-  pub walk : ExactlyInC walk.Post (λ a. EntryRefused
-      ((Shorter (a .1 .0 .now) headerRoom ⊎ Shorter (a .1 .1 .0 .now) rangesRoom) ⊎ Shorter (a .1 .1 .1 .1 .1 .0 .now) 2)
+  pub walk : PromisedInC Agree walk.Post (λ a. a .1 .1 .1 .1 .1 .1 .0 .now) (λ o. o .1 .1 .1 .1 .1 .1 .0 .now) (λ a. EntryRefused
+      (Shorter (a .1 .1 .1 .1 .1 .1 .0 .now) 1 ⊎ ((Shorter (a .1 .0 .now) headerRoom ⊎ Shorter (a .1 .1 .0 .now) rangesRoom) ⊎ Shorter (a .1 .1 .1 .1 .1 .0 .now) 2))
       (HeaderWide (a .1 .0 .now) ⊎ MarkWide (a .1 .1 .0 .now))
       (WalkRefused (a .0 .now) (headerAt (a .1 .0 .now)) (rangesIn (a .1 .1 .0 .now)) (a .1 .1 .1 .0 .now) (length (a .1 .1 .1 .1 .0 .now))))
-  pub fill : ExactlyInC fill.Post (λ a. EntryRefused
-      ((Shorter (a .1 .0 .now) headerRoom ⊎ Shorter (a .1 .1 .0 .now) rangesRoom) ⊎ Shorter (a .1 .1 .1 .1 .1 .1 .1 .0 .now) 1)
+  pub fill : PromisedInC Agree fill.Post (λ a. a .1 .1 .1 .1 .1 .1 .1 .1 .0 .now) (λ o. o .1 .1 .1 .1 .1 .1 .1 .1 .0 .now) (λ a. EntryRefused
+      (Shorter (a .1 .1 .1 .1 .1 .1 .1 .1 .0 .now) 1 ⊎ ((Shorter (a .1 .0 .now) headerRoom ⊎ Shorter (a .1 .1 .0 .now) rangesRoom) ⊎ Shorter (a .1 .1 .1 .1 .1 .1 .1 .0 .now) 1))
       (HeaderWide (a .1 .0 .now) ⊎ MarkWide (a .1 .1 .0 .now))
       (FillRefused (a .0 .now) (headerAt (a .1 .0 .now)) (rangesIn (a .1 .1 .0 .now)) (a .1 .1 .1 .0 .now) (a .1 .1 .1 .1 .0 .now) (a .1 .1 .1 .1 .1 .0) (length (a .1 .1 .1 .1 .1 .1 .0 .now))))
-  pub read : ExactlyInC read.Post (λ a. EntryRefused (Shorter (c-lent a .1) readRoom) NothingWide (WholeRefused (a .0 .now) (a .1 .0) (c-lent a .0)))
-  pub stored : ExactlyInC stored.Post (λ a. EntryRefused (Shorter (a .1 .1 .0 .now) 1) NothingWide (StoredRefused (a .1 .0) (a .0)))
+  pub read : PromisedInC Agree read.Post (λ a. c-lent a .2) (λ o. c-lent o .2) (λ a. EntryRefused
+      (Shorter (c-lent a .2) 1 ⊎ Shorter (c-lent a .1) readRoom)
+      NothingWide
+      (WholeRefused (a .0 .now) (a .1 .0) (c-lent a .0)))
+  pub stored : PromisedInC Agree stored.Post (λ a. a .1 .1 .1 .0 .now) (λ o. o .1 .1 .1 .0 .now) (λ a. EntryRefused
+      (Shorter (a .1 .1 .1 .0 .now) 1 ⊎ Shorter (a .1 .1 .0 .now) 1)
+      NothingWide
+      (StoredRefused (a .1 .0) (a .0)))
+
+-- "given when": each number of each entry, exactly
+abbrev pub NumbersExactlyInC : Type 0
+NumbersExactlyInC = EachEntry ExactlyNumbered
+
+-- "a place with each number": number and place of each refusal of each entry, exactly
+abbrev pub PlacesExactlyInC : Type 0
+PlacesExactlyInC = EachEntry Exactly
 
 -- ---- the numbers that each entry can return at all
 

@@ -1,4 +1,4 @@
--- "For every input a public function's promise leaves no room: answer, number, and every lent byte afterwards.": the entries for C, their records included.
+-- "For every input a public function's promise leaves no room: answer, number, and every lent byte afterwards.": the entries for C, their records and the slice of the place included.
 -- Each row is about the promise itself: `Pre` and `Post` are what the checker makes of the text of an entry's `requires` and `ensures`.
 -- Assumes nothing.
 use mathlib.Core.Bool.{Bool}
@@ -20,24 +20,24 @@ use Rattle.lerc_c.proofs.lerc2_number.Reads as c-number
 use Rattle.lerc_c.proofs.lerc2_stored.Reads as c-stored
 use Rattle.lerc_theorems.specs.Promises.{Answers, Writes}
 
--- the slices that the C interface's whole read is lent, the record of what it says among them
+-- the slices that the C interface's whole read is lent, those of what it says and of the place among them
 abbrev pub CRead : Type 0
-CRead = RefT (List ℕ) × (Bool × (RefT (List ℕ) × (RefT (List ℕ) × (RefT (List ℕ) × (RefT (List ℕ) × (RefT (List ℕ) × Unit {0}))))))
+CRead = RefT (List ℕ) × (Bool × (RefT (List ℕ) × (RefT (List ℕ) × (RefT (List ℕ) × (RefT (List ℕ) × (RefT (List ℕ) × (RefT (List ℕ) × Unit {0})))))))
 
-abbrev pub c-lent : CRead → Lent × List ℕ
-c-lent a = (record { kept = a .1 .1 .0 .now; spare = a .1 .1 .1 .0 .now; list = a .1 .1 .1 .1 .0 .now; image = a .1 .1 .1 .1 .1 .0 .now }, a .1 .1 .1 .1 .1 .1 .0 .now)
+abbrev pub c-lent : CRead → Lent × List ℕ × List ℕ
+c-lent a = (record { kept = a .1 .1 .0 .now; spare = a .1 .1 .1 .0 .now; list = a .1 .1 .1 .1 .0 .now; image = a .1 .1 .1 .1 .1 .0 .now }, a .1 .1 .1 .1 .1 .1 .0 .now, a .1 .1 .1 .1 .1 .1 .1 .0 .now)
 
--- the entries of the C interface
+-- the entries of the C interface; the last slice of each that can refuse is that of the place
 pub record NoRoomInC : Type 0 where
-  pub read-header : Writes c-read-header.Pre c-read-header.Post (λ o. o .1 .0 .now)
-  pub prepare-mask : Writes {S = List ℕ × List ℕ} c-prepare-mask.Pre c-prepare-mask.Post (λ o. (o .1 .1 .1 .1 .0 .now, o .1 .1 .1 .1 .1 .0 .now))
-  pub read-ranges : Writes c-read-ranges.Pre c-read-ranges.Post (λ o. o .1 .1 .0 .now)
-  pub walk : Writes {S = List ℕ × List ℕ} c-walk.Pre c-walk.Post (λ o. (o .1 .1 .1 .1 .0 .now, o .1 .1 .1 .1 .1 .0 .now))
-  pub fill : Writes {S = List ℕ × List ℕ} c-fill.Pre c-fill.Post (λ o. (o .1 .1 .1 .1 .1 .1 .0 .now, o .1 .1 .1 .1 .1 .1 .1 .0 .now))
+  pub read-header : Writes {S = List ℕ × List ℕ} c-read-header.Pre c-read-header.Post (λ o. (o .1 .0 .now, o .1 .1 .0 .now))
+  pub prepare-mask : Writes {S = List ℕ × List ℕ × List ℕ} c-prepare-mask.Pre c-prepare-mask.Post (λ o. (o .1 .1 .1 .1 .0 .now, o .1 .1 .1 .1 .1 .0 .now, o .1 .1 .1 .1 .1 .1 .0 .now))
+  pub read-ranges : Writes {S = List ℕ × List ℕ} c-read-ranges.Pre c-read-ranges.Post (λ o. (o .1 .1 .0 .now, o .1 .1 .1 .0 .now))
+  pub walk : Writes {S = List ℕ × List ℕ × List ℕ} c-walk.Pre c-walk.Post (λ o. (o .1 .1 .1 .1 .0 .now, o .1 .1 .1 .1 .1 .0 .now, o .1 .1 .1 .1 .1 .1 .0 .now))
+  pub fill : Writes {S = List ℕ × List ℕ × List ℕ} c-fill.Pre c-fill.Post (λ o. (o .1 .1 .1 .1 .1 .1 .0 .now, o .1 .1 .1 .1 .1 .1 .1 .0 .now, o .1 .1 .1 .1 .1 .1 .1 .1 .0 .now))
   pub read : Writes c-read.Pre c-read.Post c-lent
   pub float-ready : Answers c-ready.Pre c-ready.Post
   pub sum : Answers c-sum.Pre c-sum.Post
   pub scaled : Answers c-scaled.Pre c-scaled.Post
   pub narrow : Answers c-narrow.Pre c-narrow.Post
   pub number : Answers c-number.Pre c-number.Post
-  pub stored : Writes c-stored.Pre c-stored.Post (λ o. o .1 .1 .0 .now)
+  pub stored : Writes {S = List ℕ × List ℕ} c-stored.Pre c-stored.Post (λ o. (o .1 .1 .0 .now, o .1 .1 .1 .0 .now))

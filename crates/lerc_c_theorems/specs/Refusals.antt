@@ -1,8 +1,8 @@
--- What a refusal leaves in the C interface, where every number but 0 is a refusal: each record and each slice as it was, the spare of a whole read apart.
+-- What a refusal leaves in the C interface, where every number but 0 is a refusal: each record and each slice as it was, the spare of a whole read and the slice of the place apart.
 -- Assumes nothing.
 use mathlib.Core.Path.{_≡_}
 use mathlib.Core.Logic.{_≢_}
-use mathlib.Core.Bool.{true, false}
+use mathlib.Core.Bool.{Bool, true, false, _&&_}
 use mathlib.Core.List.{List}
 use Prim.Native.Nat.{ℕ}
 use lib.ListN.{length}
@@ -22,11 +22,15 @@ use Rattle.lerc_theorems.specs.Refusals.{WholeKeeps}
 abbrev pub KeepsInC : {K A O S : Type 0} → (K → A → ℕ → O → Type 0) → (A → S) → (O → S) → Type 0
 KeepsInC {K} {A} {O} Post before left = (k : K) (a : A) (n : ℕ) (x : O) → Post k a n x → n ≢ 0 → left x ≡ before a
 
--- a whole read that is refused: where its record is long enough, the four slices are as `lerc::read` leaves them, else as they were
+-- there is room for the place and for what is said
+abbrev pub readHasRoom : CRead → Bool
+readHasRoom a = leb 1 (length (c-lent a .2)) && leb readRoom (length (c-lent a .1))
+
+-- a whole read that is refused: where there is room the four slices are as `lerc::read` leaves them, else as they were
 pub record ReadKeepsInC (a x : CRead) : Type 0 where
   pub said : c-lent x .1 ≡ c-lent a .1
-  pub room : leb readRoom (length (c-lent a .1)) ≡ true → WholeKeeps (a .0 .now) (a .1 .0) (c-lent a .0) (c-lent x .0)
-  pub short : leb readRoom (length (c-lent a .1)) ≡ false → c-lent x .0 ≡ c-lent a .0
+  pub room : readHasRoom a ≡ true → WholeKeeps (a .0 .now) (a .1 .0) (c-lent a .0) (c-lent x .0)
+  pub short : readHasRoom a ≡ false → c-lent x .0 ≡ c-lent a .0
 
 pub record RefusalsKeepInC : Type 0 where
   pub read-header : KeepsInC read-header.Post (λ a. a .1 .0 .now) (λ o. o .1 .0 .now)

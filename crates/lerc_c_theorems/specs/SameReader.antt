@@ -5,7 +5,7 @@ use mathlib.Core.Logic.{_↔_}
 use mathlib.Core.Bool.{Bool, true}
 use mathlib.Core.List.{List, [], _∷_, _++_}
 use Prim.Native.Nat.{ℕ, _≤_}
-use lib.ListN.{length}
+use lib.ListN.{length, set}
 use Rattle.lerc_words.specs.declared.Refusal.{Refusal}
 use Rattle.lerc_words.specs.Res.{Res, ok, fail, accepts}
 use Rattle.lerc_words.specs.Lists.{over}
@@ -32,7 +32,7 @@ use Rattle.lerc_image.specs.Walk.{Walk, walkSaid}
 use Rattle.lerc_image.specs.Fill.{fillSaid}
 use Rattle.lerc.specs.declared.ReadAnswer.{ReadAnswer}
 use Rattle.lerc.specs.Read.{Lent, ReadTold, readSaid}
-use Rattle.lerc_c.specs.Records.{headerRoom, headerNumbers, rangesRoom, rangesNumbers}
+use Rattle.lerc_c.specs.Records.{whyOf, headerRoom, headerNumbers, rangesRoom, rangesNumbers}
 use Rattle.lerc_c.specs.Entries.{readRoom}
 use Rattle.lerc_c.proofs.lerc2_float_ready.Reads as c-ready
 use Rattle.lerc_c.proofs.lerc2_sum.Reads as c-sum
@@ -40,13 +40,15 @@ use Rattle.lerc_c.proofs.lerc2_scaled.Reads as c-scaled
 use Rattle.lerc_c.proofs.lerc2_narrow.Reads as c-narrow
 use Rattle.lerc_c.proofs.lerc2_number.Reads as c-number
 use Rattle.lerc_theorems.specs.Calls.{HeaderCall, PrepareCall, RangesCall, WalkCall, FillCall, ReadCall}
-use Rattle.lerc_c_theorems.specs.Calls.{HoldsHeader, HoldsRanges, HeaderInC, PrepareInC, RangesInC, WalkInC, FillInC, ReadInC, StoredInC, StoredCall}
+use Rattle.lerc_c_theorems.specs.Calls.{HoldsHeader, HoldsRanges, Told, HasPlace, HeaderInC, PrepareInC, RangesInC, WalkInC, FillInC, ReadInC, StoredInC, StoredCall}
 
--- The number n, and the record in which an entry says what was answered: `old` before, `new` afterwards. `numbers` are those of an accepted answer.
-pub record Tells {A : Type 0} (answer : Res A) (numbers : A → List ℕ) (n : ℕ) (old new : List ℕ) : Type 0 where
+-- What is told, and the record in which an entry says what was answered: `old` before, `new` afterwards. `numbers` are those of an accepted answer.
+pub record Tells {A : Type 0} (answer : Res A) (numbers : A → List ℕ) (t : Told) (old new : List ℕ) : Type 0 where
   -- 0 exactly where the reader accepts, else the number of its refusal
-  pub zero : (n ≡ 0) ↔ (accepts answer ≡ true)
-  pub refused : (why : Refusal) → answer ≡ fail why → n ≡ why .number
+  pub zero : (t .number ≡ 0) ↔ (accepts answer ≡ true)
+  pub refused : (why : Refusal) → answer ≡ fail why → t .number ≡ why .number
+  -- the place of its refusal, and 0 where it accepts; behind its first number the slice stays
+  pub place : t .place₁ ≡ set (t .place₀) 0 (whyOf answer .at)
   -- the record's first numbers are the answer's; after a refusal it is as it was
   pub written : (a : A) → answer ≡ ok a → new ≡ over (numbers a) old
   pub kept : (why : Refusal) → answer ≡ fail why → new ≡ old
@@ -86,24 +88,24 @@ SameAnswer {K} {J} {A} {R} {O} {P} Post Other = (k : K) (j : J) (a : A) (r q : R
 -- ---- entry by entry
 
 pub record SameReader : Type 0 where
-  pub read-header : (b : List ℕ) (n : ℕ) (header₀ header₁ : List ℕ) → HeaderInC b n header₀ header₁ → headerRoom ≤ length header₀
-      → (answer : HeaderAnswer) → HeaderCall b answer → Tells (headerSaid answer) headerNumbers n header₀ header₁
-  pub prepare-mask : (b header : List ℕ) (reuse : Bool) (kept : List ℕ) (n : ℕ) (spare₀ spare₁ said₀ said₁ : List ℕ) → PrepareInC b header reuse kept n spare₀ spare₁ said₀ said₁
-      → (h : Header) → HoldsHeader header h → 2 ≤ length said₀
-      → (answer : MaskAnswer) (spare : List ℕ) → PrepareCall b h reuse kept answer spare₀ spare → Tells (maskSaid answer) partNumbers n said₀ said₁ × (spare₁ ≡ spare)
-  pub read-ranges : (b header : List ℕ) (n : ℕ) (ranges₀ ranges₁ : List ℕ) → RangesInC b header n ranges₀ ranges₁
-      → (h : Header) → HoldsHeader header h → rangesRoom ≤ length ranges₀
-      → (answer : RangesRead) → RangesCall b h answer → Tells (rangesTold answer) rangesNumbers n ranges₀ ranges₁
-  pub walk : (b header ranges mask : List ℕ) (n : ℕ) (list₀ list₁ said₀ said₁ : List ℕ) → WalkInC b header ranges mask n list₀ list₁ said₀ said₁
-      → (h : Header) (r : Ranges) → HoldsHeader header h → HoldsRanges ranges r → 2 ≤ length said₀
-      → (answer : WalkAnswer) (list : List ℕ) → WalkCall b h r mask answer list₀ list → Tells (walkSaid answer) walkedNumbers n said₀ said₁ × (list₁ ≡ list)
-  pub fill : (b header ranges mask list : List ℕ) (block n : ℕ) (image₀ image₁ said₀ said₁ : List ℕ) → FillInC b header ranges mask list block n image₀ image₁ said₀ said₁
-      → (h : Header) (r : Ranges) → HoldsHeader header h → HoldsRanges ranges r → 1 ≤ length said₀
-      → (answer : FillAnswer) (image : List ℕ) → FillCall b h r mask list block answer image₀ image → Tells (fillSaid answer) alone n said₀ said₁ × (image₁ ≡ image)
-  pub read : (b : List ℕ) (reuse : Bool) (n : ℕ) (old new : Lent) (said₀ said₁ : List ℕ) → ReadInC b reuse n old new said₀ said₁ → readRoom ≤ length said₀
-      → (answer : ReadAnswer) (left : Lent) → ReadCall b reuse answer old left → Tells (readSaid answer) wholeNumbers n said₀ said₁ × (new ≡ left)
-  pub stored : (v kind n : ℕ) (said₀ said₁ : List ℕ) → StoredInC v kind n said₀ said₁ → 1 ≤ length said₀
-      → (answer : StoredAnswer) → StoredCall v kind answer → Tells (storedSaid answer) alone n said₀ said₁
+  pub read-header : (b : List ℕ) (t : Told) (header₀ header₁ : List ℕ) → HeaderInC b t header₀ header₁ → HasPlace t → headerRoom ≤ length header₀
+      → (answer : HeaderAnswer) → HeaderCall b answer → Tells (headerSaid answer) headerNumbers t header₀ header₁
+  pub prepare-mask : (b header : List ℕ) (reuse : Bool) (kept : List ℕ) (t : Told) (spare₀ spare₁ said₀ said₁ : List ℕ) → PrepareInC b header reuse kept t spare₀ spare₁ said₀ said₁
+      → (h : Header) → HoldsHeader header h → HasPlace t → 2 ≤ length said₀
+      → (answer : MaskAnswer) (spare : List ℕ) → PrepareCall b h reuse kept answer spare₀ spare → Tells (maskSaid answer) partNumbers t said₀ said₁ × (spare₁ ≡ spare)
+  pub read-ranges : (b header : List ℕ) (t : Told) (ranges₀ ranges₁ : List ℕ) → RangesInC b header t ranges₀ ranges₁
+      → (h : Header) → HoldsHeader header h → HasPlace t → rangesRoom ≤ length ranges₀
+      → (answer : RangesRead) → RangesCall b h answer → Tells (rangesTold answer) rangesNumbers t ranges₀ ranges₁
+  pub walk : (b header ranges mask : List ℕ) (t : Told) (list₀ list₁ said₀ said₁ : List ℕ) → WalkInC b header ranges mask t list₀ list₁ said₀ said₁
+      → (h : Header) (r : Ranges) → HoldsHeader header h → HoldsRanges ranges r → HasPlace t → 2 ≤ length said₀
+      → (answer : WalkAnswer) (list : List ℕ) → WalkCall b h r mask answer list₀ list → Tells (walkSaid answer) walkedNumbers t said₀ said₁ × (list₁ ≡ list)
+  pub fill : (b header ranges mask list : List ℕ) (block : ℕ) (t : Told) (image₀ image₁ said₀ said₁ : List ℕ) → FillInC b header ranges mask list block t image₀ image₁ said₀ said₁
+      → (h : Header) (r : Ranges) → HoldsHeader header h → HoldsRanges ranges r → HasPlace t → 1 ≤ length said₀
+      → (answer : FillAnswer) (image : List ℕ) → FillCall b h r mask list block answer image₀ image → Tells (fillSaid answer) alone t said₀ said₁ × (image₁ ≡ image)
+  pub read : (b : List ℕ) (reuse : Bool) (t : Told) (old new : Lent) (said₀ said₁ : List ℕ) → ReadInC b reuse t old new said₀ said₁ → HasPlace t → readRoom ≤ length said₀
+      → (answer : ReadAnswer) (left : Lent) → ReadCall b reuse answer old left → Tells (readSaid answer) wholeNumbers t said₀ said₁ × (new ≡ left)
+  pub stored : (v kind : ℕ) (t : Told) (said₀ said₁ : List ℕ) → StoredInC v kind t said₀ said₁ → HasPlace t → 1 ≤ length said₀
+      → (answer : StoredAnswer) → StoredCall v kind answer → Tells (storedSaid answer) alone t said₀ said₁
   -- the arithmetic, and whether a thread's float unit is ready for it
   pub float-ready : SameAnswer c-ready.Post float-ready.Post
   pub sum : SameAnswer c-sum.Post plus.Post

@@ -6,6 +6,7 @@ use Rattle.lerc_theorems.proofs.DemandTwo.{demand-two}
 use Rattle.lerc_theorems.proofs.DemandThree.{demand-three}
 use Rattle.lerc_c_theorems.proofs.InC.{demands-in-c}
 use Rattle.lerc_overflow.proofs.Changes.{changes}
+use Rattle.lerc_places.proofs.Unplaced.{unplaced}
 use Rattle.lerc_contracts.proofs.Upstream.{upstream}
 use Rattle.lerc_program.proofs.Example.{computed}
 use Rattle.lerc_claims.specs.Claims.{Claims}
@@ -20,6 +21,7 @@ claims = record {
   in-c = demands-in-c;
   arithmetic = arithmetic;
   changes = changes;
+  unplaced = unplaced;
   upstream = upstream;
   program = program;
   worked = cases;

@@ -7,7 +7,7 @@ use native.Mathlib.Omega.{arith}
 use lib.ListN.{length, take, drop, length-append, length-drop}
 use lib.Seq.{drop-append-seam}
 use Rattle.lerc_text.specs.Ascii.{ascii}
-use Rattle.lerc_text.specs.Text.{digits, line}
+use Rattle.lerc_text.specs.Text.{digits, line, refusalLine}
 use Rattle.lerc_program.specs.Program.{bytesMost, programText, saidText, Answered}
 use Rattle.lerc_program.proofs.Program.{front-text, long-says, text-long, answered-text}
 use Rattle.lerc_claims.specs.Program.{room, ProgramClaims}
@@ -22,8 +22,8 @@ module _ {given old : List ℕ} {r : ℕ} {new : List ℕ} (p : Answered given o
   front : (whole : List ℕ) (n : ℕ) → bytesMost < n → given ≡ take n whole → take r new ≡ programText whole
   front whole n more e = answered-text p ∙ ap programText e ∙ front-text n whole more
 
-  refused-four : bytesMost < length given → take r new ≡ ascii "refused 4\n"
-  unfolding line digits
+  refused-four : bytesMost < length given → take r new ≡ ascii "refused 4 at 0\n"
+  unfolding refusalLine line digits
   refused-four l = answered-text p ∙ ap saidText (long-says given l)
 
 pub program : ProgramClaims

@@ -8,6 +8,7 @@ use Rattle.lerc_theorems.specs.DemandTwo.{DemandTwo}
 use Rattle.lerc_theorems.specs.DemandThree.{DemandThree}
 use Rattle.lerc_c_theorems.specs.InC.{DemandsInC}
 use Rattle.lerc_overflow.specs.Changes.{Changes}
+use Rattle.lerc_places.specs.Unplaced.{Unplaced}
 use Rattle.lerc_contracts.specs.Upstream.{Upstream}
 use Rattle.lerc_program.proofs.Example.{Computed}
 use Rattle.lerc_claims.specs.Arithmetic.{Arithmetic}
@@ -26,6 +27,8 @@ pub record Claims : Type 0 where
   pub arithmetic : Arithmetic
   -- what "finite plus infinity, either way round, is that infinity" changes, and what not
   pub changes : Changes
+  -- "a place with each number" changes nothing else: what is said and left is what it was without places
+  pub unplaced : Unplaced
   -- upstream's contracts, clause by clause
   pub upstream : Upstream
   -- the program's text

@@ -45,5 +45,5 @@ pub record ProgramClaims : Type 0 where
   pub front : (k : _) (a : _) (r : ℕ) (x : _) (whole : List ℕ) (n : ℕ) → bytesMost < n → input a ≡ take n whole → answer.Post k a r x → take r (buffer x) ≡ programText whole
   -- the text of every input fits the buffer
   pub fits : (b : List ℕ) → length (programText b) ≤ room
-  -- "over 16,384 bytes: 4", whatever the bytes
-  pub refused-four : (k : _) (a : _) (r : ℕ) (x : _) → bytesMost < length (input a) → answer.Post k a r x → take r (buffer x) ≡ ascii "refused 4\n"
+  -- "over 16,384 bytes: 4", at 0, whatever the bytes
+  pub refused-four : (k : _) (a : _) (r : ℕ) (x : _) → bytesMost < length (input a) → answer.Post k a r x → take r (buffer x) ≡ ascii "refused 4 at 0\n"

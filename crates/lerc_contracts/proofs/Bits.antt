@@ -13,9 +13,10 @@ use borrow.Author.Tests.{lt-ltb, le-ltb, le-leb, lt-leb, eq-eqb, ne-eqb, eqb-tru
 use lib.Dec.{ltb, leb, eqb}
 use lib.ListN.{length, getD, take, drop}
 use lib.Seq.{take-append-seam}
-use Rattle.lerc_words.specs.Res.{Res, ok, fail, _>>=_, little, wordAt}
+use Rattle.lerc_words.specs.Res.{Res, ok, fail, _>>=_, placed, marked, little, wordAt}
 use Rattle.lerc_words.specs.Lists.{tabulate, allTo, over}
 use Rattle.lerc_words.proofs.Binding.{ok-is}
+use Rattle.lerc_words.proofs.Marking.{marked-is, marked-accepts}
 use Rattle.lerc_words.proofs.Little.{Bytes, wordAt-ok, wordAt-no}
 use Rattle.lerc_words.proofs.Tables.{tabulate-same, all-same}
 use Rattle.lerc_numeric.proofs.Digits.{size-exact}
@@ -29,7 +30,7 @@ use Rattle.lerc_bits.proofs.Returns.{Headed, fits-ok, fits-no, tabled-zero, tab
 use Rattle.lerc_bits.proofs.Plans.{laid-spread, plan-kept, plan-is as planned-is}
 use Rattle.lerc_bits.proofs.Values.{counts-ends, counts-few}
 use Rattle.lerc_bits.proofs.Choose.{below-each}
-use Rattle.lerc_contracts.proofs.WithoutNumber.{said-some, told-some}
+use Rattle.lerc_contracts.proofs.WithoutNumber.{said-some, said-marked, told-some}
 use Rattle.lerc_contracts.specs.Outside.{said, onSome, lengthMax, bitsAt}
 use Rattle.lerc_contracts.specs.Bits.{Plan, ceilBytes, indexWidth, plan, index, item, Items, decodedBy, decoded}
 use Rattle.lerc_contracts.specs.Between.{items, theirs}
@@ -274,34 +275,42 @@ decoded-is s start y few = rw (plan-is s start y few) (go (ours.plan s start) re
 
 -- ---- `inspect`: its clauses, from the promise of `lerc_bits::inspect`
 
-module _ (s : List ℕ) (start : ℕ) (y : Bytes s) (r : PlanAnswer) (promise : planSaid r ≡ ours.plan s start) where
+module _ (s : List ℕ) (start : ℕ) (y : Bytes s) (r : PlanAnswer) (promise : planSaid r ≡ marked start (ours.plan s start)) where
+  given : {p : our.Plan} → planSaid r ≡ ok p → ours.plan s start ≡ ok p
+  given e = marked-is start (ours.plan s start) (sym promise ∙ e)
+
   pub inspect-clauses : InspectClauses s start r
   inspect-clauses = record {
-    inspect-ok = λ few. rw (promise, plan-is s start y few) (said-some theirs (ours.plan s start));
-    inspect-plan = λ p e few. rw (plan-is s start y few, ← promise, e);
-    inspect-small = λ p e. let k = plan-kept s start y (sym promise ∙ e) in (k .few, k .narrow, k .slim, k .short);
-    inspect-order = λ p e. let k = plan-kept s start y (sym promise ∙ e) in (k .begun, k .inside, k .tabled);
-    inspect-run = λ p e. let l = laid-spread (planned-is s start (sym promise ∙ e) .laid) in omega (arith, l .second);
-    inspect-table = λ p e h. let l = laid-spread (planned-is s start (sym promise ∙ e) .laid) in omega (arith, l .first);
+    inspect-ok = λ few. rw (promise, marked-accepts start (ours.plan s start), plan-is s start y few) (said-some theirs (ours.plan s start));
+    inspect-plan = λ p e few. rw (plan-is s start y few, given e);
+    inspect-small = λ p e. let k = plan-kept s start y (given e) in (k .few, k .narrow, k .slim, k .short);
+    inspect-order = λ p e. let k = plan-kept s start y (given e) in (k .begun, k .inside, k .tabled);
+    inspect-run = λ p e. let l = laid-spread (planned-is s start (given e) .laid) in omega (arith, l .second);
+    inspect-table = λ p e h. let l = laid-spread (planned-is s start (given e) .laid) in omega (arith, l .first);
   }
+
+-- counts that were accepted have no place
+pub accepted-marked : (p : ℕ) (m : Res Counts) {r : CountsAnswer} {v : Span} {old new : List ℕ} → countsSaid r ≡ ok v → CountsDecoded m r old new → CountsDecoded (marked p m) r old new
+accepted-marked p (ok c) e d = d
+accepted-marked p (fail q) e d = absurd (let x = sym e ∙ d .says in let z : _≡_ {A = ℕ} 0 1 = cc in omega arith)
 
 -- ---- `decode_into`, and `decode`, whose array is 256 zeros at first: from the promise of `lerc_bits::decode`
 
-module _ (s : List ℕ) (start : ℕ) (y : Bytes s) (few : length s ≤ lengthMax) (r : CountsAnswer) (old new : List ℕ) (promise : CountsDecoded (ours.counts s start) r old new) where
+module _ (s : List ℕ) (start : ℕ) (y : Bytes s) (few : length s ≤ lengthMax) (r : CountsAnswer) (old new : List ℕ) (promise : CountsDecoded (marked start (ours.counts s start)) r old new) where
   module _ (n next : ℕ) (d : Items) (e : countsSaid r ≡ ok (record { n = n; next = next })) (t : decoded s start ≡ some d) where
     -- the counts that were read
     read : (m : Res Counts) → ours.counts s start ≡ m → (c : Counts) × (ours.counts s start ≡ ok c) × (n ≡ length (c .values)) × (next ≡ c .next) × (c .values ≡ d .values) × (c .next ≡ d .end) × (new ≡ over (c .values) old)
     read (ok c) f =
-        let w : _≡_ {A = Res Span} (ok (record { n = n; next = next })) (ok (record { n = length (c .values); next = c .next })) = sym e ∙ promise .says ∙ ap (λ (x : Res Counts). x >>= span) f in
+        let w : _≡_ {A = Res Span} (ok (record { n = n; next = next })) (ok (record { n = length (c .values); next = c .next })) = sym e ∙ promise .says ∙ ap (λ (x : Res Counts). marked start x >>= span) f in
         let v : _≡_ {A = Span} (record { n = n; next = next }) (record { n = length (c .values); next = c .next }) = ok-is w in
         let u : some (items c) ≡ some d = ap (said items) (sym f) ∙ sym (decoded-is s start y few) ∙ t in
         let i : items c ≡ d = cc in
         (c, f, ap (λ (x : Span). x .n) v, ap (λ (x : Span). x .next) v, ap (λ (x : Items). x .values) i, ap (λ (x : Items). x .end) i, rw (f) at (promise .left))
-    read (fail q) f = absurd (let w : _≡_ {A = Res Span} (ok (record { n = n; next = next })) (fail q) = sym e ∙ promise .says ∙ ap (λ (x : Res Counts). x >>= span) f in let z : _≡_ {A = ℕ} 0 1 = cc in omega arith)
+    read (fail q) f = absurd (let w : _≡_ {A = Res Span} (ok (record { n = n; next = next })) (fail (placed start q)) = sym e ∙ promise .says ∙ ap (λ (x : Res Counts). marked start x >>= span) f in let z : _≡_ {A = ℕ} 0 1 = cc in omega arith)
 
   pub decode-clauses : DecodeClauses s start r new
   decode-clauses = record {
-    decode-ok = rw (promise .says, decoded-is s start y few) (told-some {B = Span} (λ c. record { n = length (c .values); next = c .next }) items (ours.counts s start));
+    decode-ok = rw (promise .says, decoded-is s start y few, ← said-marked items start (ours.counts s start)) (told-some {B = Span} (λ c. record { n = length (c .values); next = c .next }) items (marked start (ours.counts s start)));
     decode-end = λ n next d e t. let (c, f, l, x, v, w, z) = read n next d e t (ours.counts s start) refl in (x ∙ w, rw (l) (counts-few s start f));
     decode-values = λ n next d e t.
         let (c, f, l, x, v, w, z) = read n next d e t (ours.counts s start) refl in

@@ -12,8 +12,9 @@ use borrow.Author.Tests.{lt-ltb, le-ltb, lt-leb, eqb-true, eqb-false, leb-true, 
 use lib.Arith.{digits-div, digits-mod}
 use lib.Dec.{leb, eqb}
 use lib.ListN.{length, getD, set, take}
-use Rattle.lerc_words.specs.Res.{Res, ok, fail, _>>=_, refuse, accepts}
+use Rattle.lerc_words.specs.Res.{Res, ok, fail, _>>=_, refuse, placed, marked, accepts}
 use Rattle.lerc_words.proofs.Binding.{ok-is, and-is, cond-elim}
+use Rattle.lerc_words.proofs.Marking.{marked-is, marked-accepts, marked-tells}
 use Rattle.lerc_words.proofs.Little.{Bytes, wordAt-no}
 use Rattle.lerc_numeric.specs.Numeric.{countedSum, scaled, less}
 use Rattle.lerc_numeric.specs.Kinds.{typeSize}
@@ -47,7 +48,7 @@ use Rattle.lerc_contracts.specs.Outside.{said, is-some, onSome, lengthMa
 use Rattle.lerc_contracts.specs.Block.{TileValid, pixel, target, Mode, mode, Step, value, ResultModel, finished, finish, block}
 use Rattle.lerc_contracts.specs.Between.{validOf, theirFill, roomFor, result}
 use Rattle.lerc_contracts.specs.BlockClauses.{TargetClauses, ReadBlockClauses, ReconstructClauses}
-use Rattle.lerc_contracts.proofs.WithoutNumber.{told-some, said-is}
+use Rattle.lerc_contracts.proofs.WithoutNumber.{told-some, said-marked, said-is}
 use Rattle.lerc_contracts.proofs.Refusals.{blob-short}
 use Rattle.lerc_contracts.proofs.Block.{block-is}
 use Rattle.lerc_contracts.proofs.Walking.{finish-done, finish-cases}
@@ -167,12 +168,12 @@ module _ (s : List ℕ) (h : Header) (t : Tile) (m : Mode) (q mask : List ℕ) (
 -- ---- `read_mode` and `reconstruct`, together: from the promise of `lerc_block::read_block`
 
 -- 4.20, 4.37, 4.60, 4.73, 5.24: a start past the end
-pub start-past : (s : List ℕ) (at kind error top x n : ℕ) → length s ≤ at → blockSays s at kind error top x n ≡ fail (refuse 1)
+pub start-past : (s : List ℕ) (at kind error top x n : ℕ) → length s ≤ at → marked at (blockSays s at kind error top x n) ≡ fail (placed at (refuse 1))
 unfolding blockSays flagAt
 start-past s at kind error top x n l = rw (wordAt-no 1 s at (omega arith))
 
 -- 4.22: more valid pixels than a tile has
-pub tile-over : (s : List ℕ) (at kind error top x n : ℕ) → tileLimit < n → readBlockSays s at kind error top x n ≡ fail (refuse 8)
+pub tile-over : (s : List ℕ) (at kind error top x n : ℕ) → tileLimit < n → marked at (readBlockSays s at kind error top x n) ≡ fail (placed at (refuse 8))
 unfolding readBlockSays
 tile-over s at kind error top x n l = rw (lt-leb n tileLimit l)
 
@@ -200,15 +201,19 @@ module _ (h : Header) (mask : List ℕ) (n : ℕ) (image : List ℕ) (g : Shaped
   found r e = said-is (result h mask n image) counted (sym same-block ∙ e)
 
   module _ (r : BlockAnswer) (old new : List ℕ)
-      (promise : BlockRead (readBlockSays s at (h .kind) (h .error) maximum (tileOf (shapeOf h) n .x) (validInTile (shapeOf h) mask (tileOf (shapeOf h) n))) r old new) where
+      (promise : BlockRead (marked at (readBlockSays s at (h .kind) (h .error) maximum (tileOf (shapeOf h) n .x) (validInTile (shapeOf h) mask (tileOf (shapeOf h) n)))) r old new) where
     -- a tile has no more than 256 valid pixels
-    says : blockSaid r ≡ (ours >>= λ b. ok (b .next))
-    says = promise .says ∙ ap (λ (m : Res Block). m >>= λ b. ok (b .next))
+    says : blockSaid r ≡ marked at (nextBlock ours)
+    says = promise .says ∙ ap (λ (m : Res Block). marked at m >>= λ b. ok (b .next))
         (read-block s at (h .kind) (h .error) maximum (tileOf (shapeOf h) n .x) (validInTile (shapeOf h) mask (tileOf (shapeOf h) n)) (valid-small (shapeOf h) (tileOf (shapeOf h) n) (tile-in (shapeOf h) g n below) mask))
+        ∙ sym (marked-tells at ours (λ b. b .next))
 
     -- 4.67 and 4.82, with 4.23: a block is accepted where upstream has a mode and finishes its cells
     pub read-block-ok : accepts (blockSaid r) ≡ is-some theirs
-    read-block-ok = rw (says, ← same-next, same-block) (told-some (λ b. b .next) (result h mask n image) counted)
+    read-block-ok = rw (says, marked-accepts at (nextBlock ours), ← same-next, same-block) (told-some (λ b. b .next) (result h mask n image) counted)
+
+    next-told : {next : ℕ} → blockSaid r ≡ ok next → nextBlock ours ≡ ok next
+    next-told e = marked-is at (nextBlock ours) (sym says ∙ e)
 
     -- 4.23: where upstream has no mode, ours is refused
     pub read-mode-none : mode s at h (tileOf (shapeOf h) n) ≡ none → accepts (blockSaid r) ≡ false
@@ -221,9 +226,9 @@ module _ (h : Header) (mask : List ℕ) (n : ℕ) (image : List ℕ) (g : Shaped
       where
         go : (m : Res Block) → ours ≡ m → (at < next) × (next ≤ length s)
         go (ok b) o =
-            let w : ok next ≡ ok (b .next) = sym e ∙ says ∙ ap (λ (m : Res Block). m >>= λ b. ok (b .next)) o in
+            let w : ok next ≡ ok (b .next) = sym (next-told e) ∙ ap nextBlock o in
             rw (ok-is w) (block-ends s at (h .kind) (h .error) maximum (tileOf (shapeOf h) n .x) (validInTile (shapeOf h) mask (tileOf (shapeOf h) n)) o)
-        go (fail q) o = absurd (let w : _≡_ {A = Res ℕ} (ok next) (fail q) = sym e ∙ says ∙ ap (λ (m : Res Block). m >>= λ b. ok (b .next)) o in let z : _≡_ {A = ℕ} 0 1 = cc in omega arith)
+        go (fail q) o = absurd (let w : _≡_ {A = Res ℕ} (ok next) (fail q) = sym (next-told e) ∙ ap nextBlock o in let z : _≡_ {A = ℕ} 0 1 = cc in omega arith)
 
     pub read-block-clauses : ReadBlockClauses h mask n image s maximum at r
     read-block-clauses = record {
@@ -231,7 +236,7 @@ module _ (h : Header) (mask : List ℕ) (n : ℕ) (image : List ℕ) (g : Shaped
       read-mode-none = read-mode-none;
       read-block-end = λ next t e d.
           let (b, o, f) = found t d in
-          let w : ok next ≡ ok (b .next) = sym e ∙ says ∙ sym same-next ∙ ap nextBlock o in
+          let w : ok next ≡ ok (b .next) = sym (next-told e) ∙ sym same-next ∙ ap nextBlock o in
           ok-is w ∙ ap (λ (x : ResultModel). x .at) f;
       read-block-inside = read-block-inside;
     }
@@ -266,7 +271,7 @@ module _ (b : List ℕ) (h : Header) (ranges : Ranges) (mask list : List ℕ) (n
     same-fill =
         let i : e ≡ extentOf h = held-is h (length b) k in
         let room : cells (shapeOf h) ≤ length old = rw (i) at (leb-true (e .cells) (length old) (and-is (leb (e .mask) (length mask) && leb (e .blocks) (length list)) (leb (e .cells) (length old)) wide .1)) in
-        (block-is h mask n old (held-shaped h (length b) k) (rw (i) at below) room (take (h .size) b) (bytes-part b 0 (h .size) y) (blob-short b h k) (getD (ranges .max) (tileOf (shapeOf h) n .d) 0) (getD list n 0))
+        rw (said-marked) (block-is h mask n old (held-shaped h (length b) k) (rw (i) at below) room (take (h .size) b) (bytes-part b 0 (h .size) y) (blob-short b h k) (getD (ranges .max) (tileOf (shapeOf h) n .d) 0) (getD list n 0))
 
   -- one end, one acceptance
   accepted : (ours counted : Res Block) → nextBlock counted ≡ nextBlock ours → accepts (ours >>= fillCount h mask n) ≡ is-some (said (result h mask n old) counted)

@@ -38,6 +38,7 @@ use Rattle.lerc_contracts.specs.Image.{PositionValid, tile, next, tiles}
 use Rattle.lerc_contracts.specs.Between.{from, painting, tiledImage, result}
 use Rattle.lerc_contracts.specs.ImageClauses.{TilesStep, TilesFrom, TilesIs, PositionClauses, TilesCases}
 use Rattle.lerc_contracts.proofs.Block.{block-is}
+use Rattle.lerc_contracts.proofs.WithoutNumber.{said-marked}
 
 -- ---- positions
 
@@ -143,7 +144,7 @@ module _ (s : List ℕ) (y : Bytes s) (few : length s ≤ lengthMax) (h : Header
   block-here n at out l r =
       let t : tile (positionOf (shapeOf h) n) h ≡ tileOf (shapeOf h) n = tile-is (positionOf (shapeOf h) n) h ∙ tile-here (shapeOf h) g n l in
       let d : positionOf (shapeOf h) n .d ≡ tileOf (shapeOf h) n .d = ap (λ (x : Tile). x .d) t in
-      rw (t, d) (block-is h mask n out g l r s y few (getD max (tileOf (shapeOf h) n .d) 0) at)
+      rw (t, d, said-marked) (block-is h mask n out g l r s y few (getD max (tileOf (shapeOf h) n .d) 0) at)
 
   -- THE TILES, from block n on
   pub tiles-from : TilesFrom s h mask max

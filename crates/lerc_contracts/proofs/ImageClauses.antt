@@ -5,15 +5,16 @@ use mathlib.Core.Path.{_≡_, refl, sym, ap, _∙_}
 use mathlib.Core.Bool.{Bool, true, false, cond, _&&_}
 use mathlib.Core.List.{List, []}
 use mathlib.Core.Option.{Option, some}
-use Prim.Native.Nat.{ℕ, zero, suc, _+_, _*_, _≤_, _<_, min}
+use Prim.Native.Nat.{ℕ, zero, suc, _+_, _-_, _*_, _≤_, _<_, min}
 use native.Mathlib.Omega.{arith}
-use native.Mathlib.Nat.{mul-comm}
+use native.Mathlib.Nat.{mul-comm, zero-mul, zero-div, add-zero}
 use borrow.Author.Tests.{leb-true, lt-leb}
 use lib.Dec.{leb}
 use lib.ListN.{length, getD, take, drop, replicate}
-use Rattle.lerc_words.specs.Res.{Res, ok, fail, _>>=_, refuse, require, accepts}
+use Rattle.lerc_words.specs.Res.{Res, ok, fail, _>>=_, refuse, placed, marked, require, accepts}
 use Rattle.lerc_words.specs.Lists.{over}
 use Rattle.lerc_words.proofs.Binding.{ok-is, and-is, bind-is, require-is}
+use Rattle.lerc_words.proofs.Marking.{marked-is}
 use Rattle.lerc_words.proofs.Little.{Bytes}
 use Rattle.lerc_numeric.specs.Kinds.{typeSize}
 use Rattle.lerc_header.specs.declared.Header.{Header}
@@ -26,7 +27,7 @@ use Rattle.lerc_mask.proofs.Steps.{bytes-part}
 use Rattle.lerc_ranges.specs.declared.Ranges.{Ranges}
 use Rattle.lerc_ranges.specs.Ranges.{constantWords}
 use Rattle.lerc_ranges.proofs.Judged.{length-constants}
-use Rattle.lerc_block.specs.Block.{Block, rawWords}
+use Rattle.lerc_block.specs.Block.{Block, rawWords, blockSays}
 use Rattle.lerc_block.proofs.Accepted.{block-ends}
 use Rattle.lerc_image.specs.declared.WalkAnswer.{WalkAnswer}
 use Rattle.lerc_image.specs.Geometry.{tileOf, validInTile, isValidCell}
@@ -38,7 +39,7 @@ use Rattle.lerc_image.proofs.Painting.{length-painted, painted-cell}
 use Rattle.lerc_image.proofs.Upto.{valid-below}
 use Rattle.lerc_image.proofs.Chain.{chain-none, chain-parts}
 use Rattle.lerc.specs.declared.ReadAnswer.{ReadAnswer}
-use Rattle.lerc.specs.Meaning.{Body, rawBody, constantBody, endOf, startsOf, cellWord}
+use Rattle.lerc.specs.Meaning.{Body, missingWordAt, rawBody, constantBody, endOf, startsOf, cellWord}
 use Rattle.lerc.specs.Read.{Lent, room, masked, readSays, ReadTold, readSaid, WholeRead}
 use Rattle.lerc.specs.Parts.{Ready, bodyImage, BodyRead}
 use Rattle.lerc_numeric.specs.Numeric.{countedSum}
@@ -72,7 +73,9 @@ at-inside : (s : List ℕ) (h : Header) (maxima m : List ℕ) (n at : ℕ) {b : 
 unfolding blockAt
 at-inside s h maxima m n at d =
     let t = tileOf (shapeOf h) n in
-    block-ends s at (h .kind) (h .error) (getD maxima (t .d) 0) (t .x) (validInTile (shapeOf h) m t) d
+    let top = getD maxima (t .d) 0 in
+    let v = validInTile (shapeOf h) m t in
+    block-ends s at (h .kind) (h .error) top (t .x) v (marked-is at (blockSays s at (h .kind) (h .error) top (t .x) v) d)
 
 -- 5.31
 pub chain-inside : (s : List ℕ) (h : Header) (maxima m : List ℕ) (f n at : ℕ) (c : Chain) → at ≤ length s → chain s h maxima m f n at ≡ ok c → (at ≤ c .end) × (c .end ≤ length s)
@@ -188,8 +191,10 @@ module _ (m : Res Body) (h : Header) (mask : List ℕ) (a : ReadAnswer) (list li
 raw-inside : (s : List ℕ) (h : Header) (at : ℕ) (c : Body) → rawBody s h at ≡ ok c → (at ≤ endOf c) × (endOf c ≤ length s)
 unfolding rawBody rawWords
 raw-inside s h at c e =
-    let (w, p, e) = bind-is (rawWords s at (h .kind) (h .valid * h .depth)) _ e in
-    let (_, t, p) = bind-is (require (leb (at + h .valid * h .depth * typeSize (h .kind)) (length s)) 1) _ p in
+    let place = missingWordAt (length s) at (h .kind) in
+    let words = rawWords s at (h .kind) (h .valid * h .depth) in
+    let (w, p, e) = bind-is (marked place words) _ e in
+    let (_, t, p) = bind-is (require (leb (at + h .valid * h .depth * typeSize (h .kind)) (length s)) 1) _ (marked-is place words p) in
     let l : at + h .valid * h .depth * typeSize (h .kind) ≤ length s = leb-true _ _ (require-is _ 1 t) in
     let z : at + h .valid * h .depth * typeSize (h .kind) ≡ endOf c = ap (λ (x : Block). x .next) (ok-is p) ∙ ap endOf (ok-is e) in
     (omega arith, omega arith)
@@ -238,11 +243,13 @@ module _ (s : List ℕ) (h : Header) (ranges : Ranges) (mask words : List ℕ) (
 -- ---- what `decode_linear` asks: a raw body that starts past the end, and the whole read
 
 -- 5.42
-pub raw-start : (s : List ℕ) (h : Header) (at : ℕ) → length s < at → rawBody s h at ≡ fail (refuse 1)
+pub raw-start : (s : List ℕ) (h : Header) (at : ℕ) → length s < at → rawBody s h at ≡ fail (placed at (refuse 1))
 unfolding rawBody rawWords
 raw-start s h at l =
     let k : length s < at + h .valid * h .depth * typeSize (h .kind) = omega arith in
-    rw (lt-leb (at + h .valid * h .depth * typeSize (h .kind)) (length s) k)
+    let none : length s - at ≡ 0 = omega arith in
+    let here : missingWordAt (length s) at (h .kind) ≡ at = rw (none, zero-div) (rw (zero-mul) (add-zero at)) in
+    rw (lt-leb (at + h .valid * h .depth * typeSize (h .kind)) (length s) k, here)
 
 -- from what a whole read promises
 module _ (b : List ℕ) (reuse : Bool) (r : ReadAnswer) (old new : Lent) (promise : WholeRead b reuse r old new) where

@@ -14,8 +14,9 @@ use borrow.Author.Tests.{le-leb, eqb-true, eqb-false}
 use lib.Dec.{leb, eqb}
 use lib.ListN.{length, getD, take}
 use Rattle.lerc_words.specs.declared.Refusal.{Refusal}
-use Rattle.lerc_words.specs.Res.{Res, ok, fail, _>>=_, require, wordAt, accepts}
+use Rattle.lerc_words.specs.Res.{Res, ok, fail, _>>=_, marked, require, wordAt, accepts}
 use Rattle.lerc_words.proofs.Binding.{bind-is, ok-is, cond-elim}
+use Rattle.lerc_words.proofs.Marking.{marked-is}
 use Rattle.lerc_words.proofs.Little.{Bytes, wordAt-no}
 use Rattle.lerc_numeric.specs.Numeric.{finite}
 use Rattle.lerc_numeric.specs.Kinds.{typeSize, valueOf}
@@ -46,7 +47,7 @@ use Rattle.lerc_contracts.specs.Block.{Mode, mode, modeOffset}
 use Rattle.lerc_contracts.specs.ReadMode.{modeOfForm, modeOf, CountsCalled, SecondCall, countsTaken, modeTaken, countsNumber}
 use Rattle.lerc_contracts.specs.Between.{countedForm, countedPlan, items}
 use Rattle.lerc_contracts.specs.BlockClauses.{ReadModeClauses}
-use Rattle.lerc_contracts.proofs.Bits.{byte-ok, decoded-is, decode-clauses}
+use Rattle.lerc_contracts.proofs.Bits.{byte-ok, decoded-is, accepted-marked, decode-clauses}
 use Rattle.lerc_contracts.proofs.Block.{mode-cases, mode-offset, offset-cases, one}
 
 module _ (s : List ℕ) (y : Bytes s) (few : length s ≤ lengthMax) (at : ℕ) (h : Header) (t : Tile) where
@@ -297,7 +298,7 @@ module _ (s : List ℕ) (y : Bytes s) (few : length s ≤ lengthMax) (at : ℕ) 
 
 -- ---- `read_mode`
 
-module _ (s : List ℕ) (y : Bytes s) (few : length s ≤ lengthMax) (at : ℕ) (h : Header) (t : Tile) (r : BlockPlanAnswer) (inspected : planSaid r ≡ planSays s at (h .kind) (t .x) 0)
+module _ (s : List ℕ) (y : Bytes s) (few : length s ≤ lengthMax) (at : ℕ) (h : Header) (t : Tile) (r : BlockPlanAnswer) (inspected : planSaid r ≡ marked at (planSays s at (h .kind) (t .x) 0))
     (a : CountsAnswer) (old new : List ℕ) (second : SecondCall s r a old new) where
   form-taken : (p : BlockPlan) (f : Form) → CountsCalled s f a old new → countsTaken a f ≡ is-some (said (modeOf at) (countedForm s p f))
   form-taken p (coded.Raw place) c = refl
@@ -323,9 +324,16 @@ module _ (s : List ℕ) (y : Bytes s) (few : length s ≤ lengthMax) (at : ℕ) 
   free-none next (coded.Level o) n = refl
   free-none next (coded.Stepped steps) n = absurd (n refl)
 
+  taken-marked : (m : Res BlockPlan) → said (modeOf at) (marked at m >>= countedPlan s) ≡ said (modeOf at) (m >>= countedPlan s)
+  taken-marked (ok p) = refl
+  taken-marked (fail q) = refl
+
   module _ (p : BlockPlan) (e : planSaid r ≡ ok p) (accepted : countsTaken a (p .form) ≡ true) where
+    found : planSays s at (h .kind) (t .x) 0 ≡ ok p
+    found = marked-is at (planSays s at (h .kind) (t .x) 0) (sym inspected ∙ e)
+
     pub read-mode-is : mode s at h t ≡ some (modeOf at p)
-    read-mode-is = mode-is s y few at h t ∙ rw (← inspected, e) (go (p .form) (sym (form-taken p (p .form) (plan-called r e second)) ∙ accepted))
+    read-mode-is = mode-is s y few at h t ∙ rw (found) (go (p .form) (sym (form-taken p (p .form) (plan-called r e second)) ∙ accepted))
       where
         counted : (m : Res Counts) → is-some (said (modeOf at) (m >>= λ c. ok p)) ≡ true → said (modeOf at) (m >>= λ c. ok p) ≡ some (modeOf at p)
         counted (ok c) a = refl
@@ -351,7 +359,7 @@ module _ (s : List ℕ) (y : Bytes s) (few : length s ≤ lengthMax) (at : ℕ) 
         to = at + 1 + typeSize (steps .offset .kind)
 
         placed : plan s to ≡ ok (steps .counts)
-        placed = rw (d) at (plan-placed s at (h .kind) (t .x) 0 (sym inspected ∙ e))
+        placed = rw (d) at (plan-placed s at (h .kind) (t .x) 0 found)
 
         called : CountsDecoded (countsBy s (steps .counts)) a old new
         called = rw (d) at (plan-called r e second)
@@ -364,7 +372,7 @@ module _ (s : List ℕ) (y : Bytes s) (few : length s ≤ lengthMax) (at : ℕ) 
             let k : ModeKept s at (modeOfForm at (p .next) (coded.Stepped steps)) = rw (d) at kept in
             let (q, z, l) = k .counted refl in
             let answered = ap countsSaid b in
-            let found = decode-clauses s to y few a old new promise in
+            let found = decode-clauses s to y few a old new (accepted-marked to (counts s to) answered promise) in
             rw (b) (
               found .decode-end n next _ answered z .1,
               λ _. z ∙ ap (λ (v : List ℕ). some (record { end = p .next; values = v })) (sym (found .decode-values n next _ answered z)),
@@ -379,7 +387,7 @@ module _ (s : List ℕ) (y : Bytes s) (few : length s ≤ lengthMax) (at : ℕ) 
 
   pub read-mode-clauses : ReadModeClauses s at h t r a new
   read-mode-clauses = record {
-    read-mode-ok = rw (mode-is s y few at h t, ← inspected) (answer-taken r second);
+    read-mode-ok = rw (mode-is s y few at h t, ← taken-marked (planSays s at (h .kind) (t .x) 0), ← inspected) (answer-taken r second);
     read-mode-is = read-mode-is;
     read-mode-inside = λ p e c. let k = kept p e c in (k .behind, k .inside, k .flag, form-read p e c (p .form) refl .0);
     read-mode-free = λ p e c. free-none (p .next) (p .form);

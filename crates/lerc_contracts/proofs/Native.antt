@@ -22,7 +22,7 @@ use Rattle.lerc_mask.specs.Mask.{validBelow}
 use Rattle.lerc_ranges.specs.declared.Ranges.{Ranges}
 use Rattle.lerc_ranges.specs.Ranges.{rangesSays, constantWords}
 use Rattle.lerc_ranges.proofs.Judged.{ranges-kept, length-constants}
-use Rattle.lerc_sweep.specs.Sweep.{modeAt, moded, swept}
+use Rattle.lerc_sweep.specs.Sweep.{modeByte, moded, sweepByte, swept}
 use Rattle.lerc_image.specs.Blocks.{Chain}
 use Rattle.lerc.specs.Meaning.{constantBody, bodySays, cellWord}
 use Rattle.lerc.specs.Meaning as body
@@ -60,7 +60,7 @@ module _ (s : List ℕ) (y : Bytes s) (few : length s ≤ lengthMax) (h : Header
   -- a mode byte, where there is one
   unswept-is : (r : Ranges) → (entropy h ≡ true → getD s (r .at + 1) 0 < 3 → getD s (r .at + 1) 0 ≡ 0)
       → unswept s h mask (model r) initial huffman ≡ said (bodied h mask initial) (moded s (h .kind) (h .error) (r .at + 1) >>= bodyFromBy countedSum s h r mask)
-  unfolding moded modeAt
+  unfolding moded modeByte
   unswept-is r plain = coded (entropy h) refl
     where
       at : ℕ
@@ -88,7 +88,7 @@ module _ (s : List ℕ) (y : Bytes s) (few : length s ≤ lengthMax) (h : Header
       (unswept s h mask (model r) initial huffman))
 
   swept-is : (r : Ranges) → Alike s h (r .at) → announced r ≡ said (bodied h mask initial) (sweptBodyBy countedSum s h r mask)
-  unfolding sweptBodyBy swept
+  unfolding sweptBodyBy swept sweepByte
   swept-is r a = inside (decLt (r .at) (length s))
     where
       which : r .at < length s → (t : Bool) → eqb (getD s (r .at) 0) 0 ≡ t → announced r ≡ said (bodied h mask initial) (sweptBodyBy countedSum s h r mask)

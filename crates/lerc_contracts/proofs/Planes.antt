@@ -13,6 +13,7 @@ use lib.Dec.{ltb, eqb}
 use lib.ListN.{length, getD, take, drop, replicate, length-take}
 use lib.Seq.{getD-take}
 use Rattle.lerc_words.specs.Res.{Res, ok, fail, _>>=_, refuse, require, each, accepts}
+use Rattle.lerc_words.proofs.Marking.{marked-is}
 use Rattle.lerc_words.specs.Lists.{tabulate, allTo, over}
 use Rattle.lerc_words.specs.Lists as our
 use Rattle.lerc_words.proofs.Tables.{replicate-from, tabulate-same, all-same, all-true, all-fails}
@@ -29,7 +30,7 @@ use Rattle.lerc_header.specs.declared.Extent.{Extent}
 use Rattle.lerc_header.specs.Header.{shapeOf, headerBytes, rangesAt, pairRight, held, extentOf}
 use Rattle.lerc_header.proofs.Kept.{held-is}
 use Rattle.lerc_header.specs.Shape.{pixels, maskLength}
-use Rattle.lerc_mask.specs.Mask.{validBelow}
+use Rattle.lerc_mask.specs.Mask.{validBelow, maskField}
 use Rattle.lerc_mask.specs.Mask.{maskRuns, coded}
 use Rattle.lerc_mask.proofs.Pixels.{valid-uniform-0, valid-uniform-255}
 use Rattle.lerc_validity.specs.declared.MaskAnswer.{MaskAnswer}
@@ -39,7 +40,7 @@ use Rattle.lerc_ranges.specs.declared.ConstantsAnswer.the-variants as constants
 use Rattle.lerc_ranges.specs.declared.Constants.{Constants}
 use Rattle.lerc_ranges.specs.declared.Ranges.{Ranges}
 use Rattle.lerc_ranges.specs.Ranges.{numberAt, byDepth, maximaAt, rangesEnd, uniformRanges, rangesSays, codedRanges, pairsRight, readRangesSays, rangesSaid, constantWords, constantsSaid}
-use Rattle.lerc_validity.specs.Validity.{MaskInForce, reused, new, bytesOf, uniform, kept, unrolled, maskSays, prepareSays, maskSaid, which, Prepared, inForce}
+use Rattle.lerc_validity.specs.Validity.{MaskInForce, reused, new, bytesOf, uniform, kept, unrolled, maskIn, maskSays, prepareSays, maskSaid, which, Prepared, inForce}
 use Rattle.lerc_validity.proofs.Preparing.{uniform-ok, uniform-no, says-none, says-all, says-kept, says-runs, prepare-no, prepare-says}
 use Rattle.lerc_validity.proofs.Prepared.{prepare-found, prepared-right, mask-length, in-force}
 use Rattle.lerc_ranges.proofs.Judged.{read-ranges-kept}
@@ -47,6 +48,7 @@ use Rattle.lerc_contracts.specs.Outside.{said, is-some, unwrap, onSome, 
 use Rattle.lerc_contracts.specs.Planes.{maskSize, count, counted, validity, equal, bounds, ranges, constants}
 use Rattle.lerc_contracts.specs.Between.{Sectioned, model, rangesOk, constantsOk}
 use Rattle.lerc_contracts.specs.PlanesClauses.{ValidityCases, RangesCases, PrepareClauses, ReadRangesClauses, ConvertClauses}
+use Rattle.lerc_contracts.proofs.WithoutNumber.{said-marked}
 
 -- ---- the mask
 
@@ -130,17 +132,17 @@ module _ (s : List ℕ) (h : Header) (old : List ℕ) (reuse : Bool) where
 
   -- THE MASK, also 3.8
   pub validity-is : Sectioned h → validity s h old reuse ≡ said bytesOf (maskSays s h reuse old)
-  validity-is (p, q) = none? (eqb (h .valid) 0) refl
+  validity-is (p, q) = none? (eqb (h .valid) 0) refl ∙ sym (said-marked bytesOf maskField (maskIn s h reuse old))
     where
-      section? : (h .valid ≡ 0 → ⊥) → (h .valid ≡ pixels (shapeOf h) → ⊥) → (t : Bool) → eqb (h .mask) 0 ≡ t → validity s h old reuse ≡ said bytesOf (maskSays s h reuse old)
+      section? : (h .valid ≡ 0 → ⊥) → (h .valid ≡ pixels (shapeOf h) → ⊥) → (t : Bool) → eqb (h .mask) 0 ≡ t → validity s h old reuse ≡ said bytesOf (maskIn s h reuse old)
       section? d f true e = rw (says-kept s h reuse old d f (eqb-true _ _ e)) (validity-kept d f (eqb-true _ _ e))
       section? d f false e = rw (says-runs s h reuse old d f (eqb-false _ _ e)) (validity-runs d f (eqb-false _ _ e))
 
-      all? : (h .valid ≡ 0 → ⊥) → (t : Bool) → eqb (h .valid) (pixels (shapeOf h)) ≡ t → validity s h old reuse ≡ said bytesOf (maskSays s h reuse old)
+      all? : (h .valid ≡ 0 → ⊥) → (t : Bool) → eqb (h .valid) (pixels (shapeOf h)) ≡ t → validity s h old reuse ≡ said bytesOf (maskIn s h reuse old)
       all? d true e = let v = eqb-true _ _ e in rw (validity-all d v, says-all s h reuse old d v, uniform-ok h 255 (q v))
       all? d false e = section? d (eqb-false _ _ e) (eqb (h .mask) 0) refl
 
-      none? : (t : Bool) → eqb (h .valid) 0 ≡ t → validity s h old reuse ≡ said bytesOf (maskSays s h reuse old)
+      none? : (t : Bool) → eqb (h .valid) 0 ≡ t → validity s h old reuse ≡ said bytesOf (maskIn s h reuse old)
       none? true e = let v = eqb-true _ _ e in rw (validity-none v, says-none s h reuse old v, uniform-ok h 0 (p v))
       none? false e = all? (eqb-false _ _ e) (eqb (h .valid) (pixels (shapeOf h))) refl
 
@@ -148,12 +150,12 @@ module _ (s : List ℕ) (h : Header) (old : List ℕ) (reuse : Bool) where
   pub validity-of : (f : MaskInForce) → maskSays s h reuse old ≡ ok f → validity s h old reuse ≡ some (bytesOf f)
   validity-of f a = validity-is (sectioned 0 (λ v. says-none s h reuse old v), λ v. whole v (eqb (h .valid) 0) refl) ∙ ap (said bytesOf) a
     where
-      sectioned : (byte : ℕ) → {v : Type 0} → (v → maskSays s h reuse old ≡ uniform h byte) → v → h .mask ≡ 0
+      sectioned : (byte : ℕ) → {v : Type 0} → (v → maskIn s h reuse old ≡ uniform h byte) → v → h .mask ≡ 0
       sectioned byte g v = go (eqb (h .mask) 0) refl
         where
           go : (t : Bool) → eqb (h .mask) 0 ≡ t → h .mask ≡ 0
           go true e = eqb-true _ _ e
-          go false e = absurd (let w : _≡_ {A = Res MaskInForce} (fail (refuse 6)) (ok f) = sym (uniform-no h byte (eqb-false _ _ e)) ∙ sym (g v) ∙ a in let z : _≡_ {A = ℕ} 0 1 = cc in omega arith)
+          go false e = absurd (let w : _≡_ {A = Res MaskInForce} (fail (refuse 6)) (ok f) = sym (uniform-no h byte (eqb-false _ _ e)) ∙ sym (g v) ∙ marked-is maskField (maskIn s h reuse old) a in let z : _≡_ {A = ℕ} 0 1 = cc in omega arith)
 
       whole : h .valid ≡ pixels (shapeOf h) → (t : Bool) → eqb (h .valid) 0 ≡ t → h .mask ≡ 0
       whole v true e = sectioned 0 (λ w. says-none s h reuse old w) (eqb-true _ _ e)

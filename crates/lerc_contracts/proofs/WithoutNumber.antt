@@ -7,7 +7,7 @@ use Prim.Native.Nat.{ℕ, zero, suc, _<_}
 use native.Mathlib.Omega.{arith}
 use lib.ListN.{length, getD}
 use Rattle.lerc_words.specs.declared.Refusal.{Refusal}
-use Rattle.lerc_words.specs.Res.{Res, ok, fail, _>>=_, each, accepts}
+use Rattle.lerc_words.specs.Res.{Res, ok, fail, _>>=_, marked, each, accepts}
 use Rattle.lerc_words.proofs.Binding.{bind-is, ok-is}
 use Rattle.lerc_contracts.specs.Outside.{said, is-some}
 
@@ -20,6 +20,11 @@ said-some f (fail r) = refl
 pub told-some : {A B C : Type 0} (f : A → B) (g : A → C) (m : Res A) → accepts (m >>= λ a. ok (f a)) ≡ is-some (said g m)
 told-some f g (ok a) = refl
 told-some f g (fail r) = refl
+
+-- nor has it a place
+pub said-marked : {A B : Type 0} (f : A → B) (p : ℕ) (m : Res A) → said f (marked p m) ≡ said f m
+said-marked f p (ok a) = refl
+said-marked f p (fail r) = refl
 
 -- what an answer without its number holds
 pub said-is : {A B : Type 0} (f : A → B) (m : Res A) {b : B} → said f m ≡ some b → (a : A) × (m ≡ ok a) × (f a ≡ b)

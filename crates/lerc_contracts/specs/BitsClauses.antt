@@ -5,7 +5,7 @@ use mathlib.Core.List.{List, _∷_}
 use mathlib.Core.Option.{some}
 use Prim.Native.Nat.{ℕ, _+_, _-_, _*_, _≤_, _<_}
 use lib.ListN.{length, getD, take}
-use Rattle.lerc_words.specs.Res.{ok, accepts}
+use Rattle.lerc_words.specs.Res.{ok, marked, accepts}
 use Rattle.lerc_words.proofs.Little.{Bytes}
 use Rattle.lerc_bits.specs.declared.Plan as our
 use Rattle.lerc_bits.specs.declared.PlanAnswer.{PlanAnswer}
@@ -58,8 +58,8 @@ pub record BitsClauses : Type 0 where
   pub width-is : (n : ℕ) → 2 ≤ n → n ≤ 255 → indexWidth n ≡ ours.indexWidth n
   -- 2.4, 2.6 to 2.15
   pub plan-is : (s : List ℕ) (start : ℕ) → Bytes s → length s ≤ lengthMax → plan s start ≡ said theirs (ours.plan s start)
-  pub inspect-clauses : (s : List ℕ) (start : ℕ) → Bytes s → (r : PlanAnswer) → planSaid r ≡ ours.plan s start → InspectClauses s start r
+  pub inspect-clauses : (s : List ℕ) (start : ℕ) → Bytes s → (r : PlanAnswer) → planSaid r ≡ marked start (ours.plan s start) → InspectClauses s start r
   pub item-cases : (s : List ℕ) (p : our.Plan) → Bytes s → p .table + runBytes (p .entries - 1) (p .bits) ≤ length s → p .at + runBytes (p .n) (p .width) ≤ length s → ItemCases s p
   -- 2.27 to 2.29
   pub decoded-is : (s : List ℕ) (start : ℕ) → Bytes s → length s ≤ lengthMax → decoded s start ≡ said items (ours.counts s start)
-  pub decode-clauses : (s : List ℕ) (start : ℕ) → Bytes s → length s ≤ lengthMax → (r : CountsAnswer) (old new : List ℕ) → CountsDecoded (ours.counts s start) r old new → DecodeClauses s start r new
+  pub decode-clauses : (s : List ℕ) (start : ℕ) → Bytes s → length s ≤ lengthMax → (r : CountsAnswer) (old new : List ℕ) → CountsDecoded (marked start (ours.counts s start)) r old new → DecodeClauses s start r new

@@ -8,7 +8,7 @@ use Prim.Native.Nat.{ℕ, zero, suc, _+_, _*_, _/_, _%_, _≤_, _<_}
 use lib.Dec.{eqb}
 use lib.ListN.{length, getD, set, take}
 use Rattle.lerc_words.specs.declared.Refusal.{Refusal}
-use Rattle.lerc_words.specs.Res.{ok, fail, little, refuse, accepts, _>>=_}
+use Rattle.lerc_words.specs.Res.{ok, fail, little, refuse, placed, marked, accepts, _>>=_}
 use Rattle.lerc_words.proofs.Little.{Bytes}
 use Rattle.lerc_numeric.specs.Numeric.{finite, infinite, countedSum, scaled}
 use Rattle.lerc_numeric.specs.Kinds.{typeSize}
@@ -185,10 +185,10 @@ pub record BlockClauses : Type 0 where
   -- 4.11 to 4.19
   pub block-is : (h : Header) (mask : List ℕ) (n : ℕ) (start : List ℕ) → Shaped (shapeOf h) → n < blockCount (shapeOf h) → cells (shapeOf h) ≤ length start → (s : List ℕ) → Bytes s → length s ≤ lengthMax → (maximum at : ℕ) → BlockIs h mask n start s maximum at
   -- 4.20, 4.37, 4.60, 4.73, 5.24
-  pub start-past : (s : List ℕ) (at kind error top x n : ℕ) → length s ≤ at → blockSays s at kind error top x n ≡ fail (refuse 1)
+  pub start-past : (s : List ℕ) (at kind error top x n : ℕ) → length s ≤ at → marked at (blockSays s at kind error top x n) ≡ fail (placed at (refuse 1))
   -- 4.22
-  pub tile-over : (s : List ℕ) (at kind error top x n : ℕ) → tileLimit < n → readBlockSays s at kind error top x n ≡ fail (refuse 8)
-  pub read-mode-clauses : (s : List ℕ) → Bytes s → length s ≤ lengthMax → (at : ℕ) (h : Header) (t : Tile) (r : BlockPlanAnswer) → planSaid r ≡ planSays s at (h .kind) (t .x) 0 → (a : CountsAnswer) (old new : List ℕ) → SecondCall s r a old new → ReadModeClauses s at h t r a new
+  pub tile-over : (s : List ℕ) (at kind error top x n : ℕ) → tileLimit < n → marked at (readBlockSays s at kind error top x n) ≡ fail (placed at (refuse 8))
+  pub read-mode-clauses : (s : List ℕ) → Bytes s → length s ≤ lengthMax → (at : ℕ) (h : Header) (t : Tile) (r : BlockPlanAnswer) → planSaid r ≡ marked at (planSays s at (h .kind) (t .x) 0) → (a : CountsAnswer) (old new : List ℕ) → SecondCall s r a old new → ReadModeClauses s at h t r a new
   pub value-cases : (s : List ℕ) (h : Header) (m : Mode) (q : List ℕ) (at index maximum : ℕ) → ValueCases s h m q at index maximum
   -- 4.44
   pub value-inside : (s : List ℕ) (h : Header) (m : Mode) (q : List ℕ) (at index maximum : ℕ) → at ≤ length s → index ≤ length q → (step : Step) → value s h m q at index maximum ≡ some step → (at ≤ step .at) × (step .at ≤ length s) × (index ≤ step .q) × (step .q ≤ length q)
@@ -198,7 +198,7 @@ pub record BlockClauses : Type 0 where
   -- 4.46, 4.47
   pub run-none : (h : Header) (mask : List ℕ) (n : ℕ) (start : List ℕ) → Shaped (shapeOf h) → n < blockCount (shapeOf h) → cells (shapeOf h) ≤ length start → (s : List ℕ) (m : Mode) (q : List ℕ) (maximum : ℕ) (pos idx : ℕ → ℕ) → pos 0 ≡ m .at → idx 0 ≡ 0 → RunNone h mask n start s m q maximum pos idx
   pub target-clauses : (h : Header) (t : Tile) → TileValid t h → (row col : ℕ) → row < t .h → col < t .w → TargetClauses h t row col
-  pub read-block-clauses : (h : Header) (mask : List ℕ) (n : ℕ) (image : List ℕ) → Shaped (shapeOf h) → n < blockCount (shapeOf h) → cells (shapeOf h) ≤ length image → (s : List ℕ) → Bytes s → length s ≤ lengthMax → (maximum at : ℕ) (r : BlockAnswer) (old new : List ℕ) → BlockRead (readBlockSays s at (h .kind) (h .error) maximum (tileOf (shapeOf h) n .x) (validInTile (shapeOf h) mask (tileOf (shapeOf h) n))) r old new → ReadBlockClauses h mask n image s maximum at r
+  pub read-block-clauses : (h : Header) (mask : List ℕ) (n : ℕ) (image : List ℕ) → Shaped (shapeOf h) → n < blockCount (shapeOf h) → cells (shapeOf h) ≤ length image → (s : List ℕ) → Bytes s → length s ≤ lengthMax → (maximum at : ℕ) (r : BlockAnswer) (old new : List ℕ) → BlockRead (marked at (readBlockSays s at (h .kind) (h .error) maximum (tileOf (shapeOf h) n .x) (validInTile (shapeOf h) mask (tileOf (shapeOf h) n)))) r old new → ReadBlockClauses h mask n image s maximum at r
   pub reconstruct-clauses : (b : List ℕ) (h : Header) (ranges : Ranges) (mask list : List ℕ) (n : ℕ) (r : FillAnswer) (old new : List ℕ) → Filled b h ranges mask list n r old new → ReconstructClauses b h ranges mask list n r old new
   -- 4.70, 4.85
   pub reconstruct-inside : (s : List ℕ) (h : Header) (t : Tile) (m : Mode) (q mask : List ℕ) (maximum : ℕ) (out : List ℕ) → m .at ≤ length s → (r : ResultModel) → finish s h t m q mask maximum 0 (m .at) 0 out 256 ≡ some r → (m .at ≤ r .at) × (r .at ≤ length s)

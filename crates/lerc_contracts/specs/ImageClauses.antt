@@ -6,7 +6,7 @@ use mathlib.Core.List.{List, _++_}
 use mathlib.Core.Option.{some, none}
 use Prim.Native.Nat.{ℕ, suc, _+_, _*_, _≤_, _<_, _/_, _%_}
 use lib.ListN.{length, getD, set, take, replicate}
-use Rattle.lerc_words.specs.Res.{Res, ok, fail, little, refuse, accepts}
+use Rattle.lerc_words.specs.Res.{Res, ok, fail, little, refuse, placed, accepts}
 use Rattle.lerc_words.proofs.Little.{Bytes}
 use Rattle.lerc_header.specs.declared.Header.{Header}
 use Rattle.lerc_header.specs.Header.{shapeOf, held, headerSays}
@@ -179,7 +179,7 @@ pub record ImageClauses : Type 0 where
   -- 5.34, 5.35, 5.40
   pub raw-is : (s : List ℕ) (h : Header) → Shaped (shapeOf h) → (mask image : List ℕ) → cells (shapeOf h) ≤ length image → RawIs s h mask image
   -- 5.42
-  pub raw-start : (s : List ℕ) (h : Header) (at : ℕ) → length s < at → rawBody s h at ≡ fail (refuse 1)
+  pub raw-start : (s : List ℕ) (h : Header) (at : ℕ) → length s < at → rawBody s h at ≡ fail (placed at (refuse 1))
   pub whole-read-clauses : (b : List ℕ) (reuse : Bool) (r : ReadAnswer) (old new : Lent) → WholeRead b reuse r old new → WholeReadClauses b r old
   pub decode-linear-clauses : (m : Res Body) (h : Header) (mask : List ℕ) (a : ReadAnswer) (list listed old new : List ℕ) → BodyRead m h mask a list listed old new → DecodeLinearClauses h old new
   pub raw-body-clauses : (s : List ℕ) (h : Header) (at : ℕ) (mask constants : List ℕ) (a : ReadAnswer) (list listed old new : List ℕ) → Ready s h mask → cells (shapeOf h) ≤ length old → BodyRead (rawBody s h at) h mask a list listed old new → at ≤ length s → RawBodyClauses s h at mask constants a old new

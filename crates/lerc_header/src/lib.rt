@@ -83,7 +83,7 @@ impl HeaderAnswer {
         ensures { λ r. ⌜ r ≡ Rules.refusalOfHeader self ⌝ }
     {
         match self {
-            HeaderAnswer::Read(_h) => Refusal { number: 0 },
+            HeaderAnswer::Read(_h) => Refusal { number: 0, at: 0 },
             HeaderAnswer::Refused(why) => why,
         }
     }
@@ -95,7 +95,7 @@ impl HeldAnswer {
         ensures { λ r. ⌜ r ≡ Rules.refusalOfHeld self ⌝ }
     {
         match self {
-            HeldAnswer::Held(_e) => Refusal { number: 0 },
+            HeldAnswer::Held(_e) => Refusal { number: 0, at: 0 },
             HeldAnswer::Refused(why) => why,
         }
     }
@@ -110,7 +110,7 @@ impl OpenAnswer {
             OpenAnswer::Open {
                 header: _h,
                 extent: _e,
-            } => Refusal { number: 0 },
+            } => Refusal { number: 0, at: 0 },
             OpenAnswer::Refused(why) => why,
         }
     }
@@ -198,13 +198,13 @@ impl Header {
         ensures { λ r. ⌜ Rules.heldSaid r ≡ Rules.held self len ⌝ }
     {
         if !fields_right(self) {
-            return HeldAnswer::Refused(Refusal { number: 3 });
+            return HeldAnswer::Refused(Refusal { number: 3, at: 0 });
         }
         if !within_ceilings(self) {
-            return HeldAnswer::Refused(Refusal { number: 4 });
+            return HeldAnswer::Refused(Refusal { number: 4, at: 0 });
         }
         if len < self.size as usize {
-            return HeldAnswer::Refused(Refusal { number: 1 });
+            return HeldAnswer::Refused(Refusal { number: 1, at: 0 });
         }
         HeldAnswer::Held(measure(self))
     }
@@ -246,10 +246,10 @@ pub fn open_blob(blob: &[u8]) -> OpenAnswer
     ensures { λ r. ⌜ Rules.openSaid r ≡ Rules.openSays (now (blob .entry)) ⌝ }
 {
     if blob.len() < HEADER {
-        return OpenAnswer::Refused(Refusal { number: 1 });
+        return OpenAnswer::Refused(Refusal { number: 1, at: 0 });
     }
     if !key_right(blob) {
-        return OpenAnswer::Refused(Refusal { number: 2 });
+        return OpenAnswer::Refused(Refusal { number: 2, at: 0 });
     }
     let header = fields(blob);
     let answer = header.held(blob.len());

@@ -6,6 +6,7 @@ use Prim.Native.Nat.{ℕ, zero, suc}
 use Rattle.lerc_words.specs.declared.Refusal.{Refusal}
 use Rattle.lerc_words.specs.Res.{ok, fail}
 use Rattle.lerc_words.proofs.Binding.{ok-is}
+use Rattle.lerc_words.proofs.Marking.{marked-is}
 use Rattle.lerc_header.specs.declared.Header.{Header}
 use Rattle.lerc_block.specs.Block.{Block}
 use Rattle.lerc_block.proofs.Leads.{plan-ends}
@@ -29,7 +30,7 @@ module _ (s : List ℕ) (h : Header) (m : List ℕ) where
   -- an accepted block ends where its plan does
   pub block-ends : (maxima : List ℕ) (n at : ℕ) {b : Block} → blockAt s h maxima m n at ≡ ok b → blockEnd s h m n at ≡ ok (b .next)
   unfolding blockAt
-  block-ends maxima n at e = plan-ends s at (h .kind) (h .error) _ _ _ e
+  block-ends maxima n at e = plan-ends s at (h .kind) (h .error) _ _ _ (marked-is at _ e)
 
   pub heads-are : (maxima : List ℕ) (f n at : ℕ) (c : Chain) → chain s h maxima m f n at ≡ ok c → headStarts s h m f n at ≡ c .starts
   heads-are maxima zero n at c e = heads-none n at ∙ ap (λ (x : Chain). x .starts) (ok-is (sym (chain-none s h maxima m n at) ∙ e))

@@ -6,7 +6,8 @@ use mathlib.Core.List.{List}
 use Prim.Native.Nat.{ℕ, _+_, _≤_, _<_}
 use native.Mathlib.Omega.{arith}
 use lib.ListN.{length, getD}
-use Rattle.lerc_words.specs.Res.{ok}
+use Rattle.lerc_words.specs.Res.{Res, ok, marked}
+use Rattle.lerc_words.proofs.Marking.{marked-is, marked-tells}
 use Rattle.lerc_header.specs.declared.Header.{Header}
 use Rattle.lerc_header.specs.declared.Extent.{Extent}
 use Rattle.lerc_header.specs.declared.Shape.{Shape}
@@ -16,6 +17,7 @@ use Rattle.lerc_header.specs.Header.{shapeOf}
 use Rattle.lerc_header.proofs.Sizes.{blocks-le}
 use Rattle.lerc_block.specs.Block.{Block, blockSays, readBlockSays, BlockRead}
 use Rattle.lerc_block.specs.declared.BlockAnswer.{BlockAnswer}
+use Rattle.lerc_block.specs.declared.plan.BlockPlan.{BlockPlan}
 use Rattle.lerc_block.specs.Plan.{planAt, planEnd}
 use Rattle.lerc_block.proofs.Accepted.{block-words}
 use Rattle.lerc_image.specs.declared.Tile.{Tile}
@@ -35,6 +37,9 @@ use Rattle.lerc_image.proofs.Reading.{read-block}
 pub asked-in : {h : Shape} {t : Tile} {n : ℕ} {start : List ℕ} → Asked h t n start → TileIn h t
 asked-in {h} {n = n} a = rw (a .tile) (tile-in h (a .shaped) n (a .below))
 
+end-marked : (at : ℕ) (m : Res BlockPlan) → planEnd (marked at m) ≡ marked at (planEnd m)
+end-marked at m = sym (marked-tells at m (λ p. p .next))
+
 module _ {h : Header} {shape : Shape} {n : ℕ} {t : Tile} (b : BlockTile h shape n t) where
   pub here-in : TileIn shape t
   here-in = rw (b .tile) (tile-in shape (b .shaped) n (b .below))
@@ -45,25 +50,29 @@ module _ {h : Header} {shape : Shape} {n : ℕ} {t : Tile} (b : BlockTile h shap
   pub here-depth : t .d < depthLimit
   here-depth = rw (b .tile) (omega (arith, tile-depth shape (b .shaped) n (b .below), b .shaped .depth .1))
 
-  pub here-end : (s : List ℕ) (at : ℕ) (m : List ℕ) → planEnd (planAt s at (h .kind) (t .x) (validInTile shape m t)) ≡ blockEnd s h m n at
-  here-end s at m = rw (b .tile, b .same)
+  -- a refusal is at the block's start
+  pub here-end : (s : List ℕ) (at : ℕ) (m : List ℕ) → planEnd (marked at (planAt s at (h .kind) (t .x) (validInTile shape m t))) ≡ marked at (blockEnd s h m n at)
+  here-end s at m = end-marked at (planAt s at (h .kind) (t .x) (validInTile shape m t)) ∙ ap (marked at) same-end
+    where
+      same-end : planEnd (planAt s at (h .kind) (t .x) (validInTile shape m t)) ≡ blockEnd s h m n at
+      same-end = rw (b .tile, b .same)
 
-  pub here-block : (s : List ℕ) (at : ℕ) (maxima m : List ℕ) → blockSays s at (h .kind) (h .error) (getD maxima (t .d) 0) (t .x) (validInTile shape m t) ≡ blockAt s h maxima m n at
+  pub here-block : (s : List ℕ) (at : ℕ) (maxima m : List ℕ) → marked at (blockSays s at (h .kind) (h .error) (getD maxima (t .d) 0) (t .x) (validInTile shape m t)) ≡ blockAt s h maxima m n at
   unfolding blockAt
   here-block s at maxima m = rw (b .tile, b .same)
 
   -- read with its tile's valid pixels, which are at most 256
   pub here-read : (s : List ℕ) (at : ℕ) (maxima m : List ℕ) {valid : ℕ} → valid ≡ validInTile shape m t
-      → readBlockSays s at (h .kind) (h .error) (getD maxima (t .d) 0) (t .x) valid ≡ blockAt s h maxima m n at
-  here-read s at maxima m q = rw (q) (read-block _ _ _ _ _ _ _ (valid-small shape t here-in m) ∙ here-block s at maxima m)
+      → marked at (readBlockSays s at (h .kind) (h .error) (getD maxima (t .d) 0) (t .x) valid) ≡ blockAt s h maxima m n at
+  here-read s at maxima m q = rw (q) (ap (marked at) (read-block _ _ _ _ _ _ _ (valid-small shape t here-in m)) ∙ here-block s at maxima m)
 
   pub here-told : (s : List ℕ) (at : ℕ) (maxima m : List ℕ) {valid : ℕ} → valid ≡ validInTile shape m t → {got : BlockAnswer} {old new : List ℕ}
-      → BlockRead (readBlockSays s at (h .kind) (h .error) (getD maxima (t .d) 0) (t .x) valid) got old new → BlockRead (blockAt s h maxima m n at) got old new
+      → BlockRead (marked at (readBlockSays s at (h .kind) (h .error) (getD maxima (t .d) 0) (t .x) valid)) got old new → BlockRead (blockAt s h maxima m n at) got old new
   here-told s at maxima m q e = rw (here-read s at maxima m q) at e
 
   -- a word for each valid pixel
   pub here-words : (s : List ℕ) (at : ℕ) (maxima m : List ℕ) (k : Block) → blockAt s h maxima m n at ≡ ok k → length (k .words) ≡ validInTile shape m (tileOf shape n)
-  here-words s at maxima m k e = block-words _ _ _ _ _ _ _ (here-block s at maxima m ∙ e) ∙ ap (validInTile shape m) (b .tile)
+  here-words s at maxima m k e = block-words _ _ _ _ _ _ _ (marked-is at _ (here-block s at maxima m ∙ e)) ∙ ap (validInTile shape m) (b .tile)
 
   -- counted once, the next block may have the same tile
   pub here-carried : (m : List ℕ) {valid : ℕ} → valid ≡ validInTile shape m t → Carried shape m (n + 1) valid

@@ -3,18 +3,19 @@
 use Prim.Native.Nat.{ℕ, zero, suc}
 use mathlib.Core.List.{List, [], _∷_}
 use lib.ListN.{getD}
-use Rattle.lerc_words.specs.Res.{Res, ok, _>>=_}
+use Rattle.lerc_words.specs.Res.{Res, ok, _>>=_, marked}
 use Rattle.lerc_header.specs.declared.Header.{Header}
 use Rattle.lerc_header.specs.Header.{shapeOf}
 use Rattle.lerc_header.specs.Shape.{blockCount}
 use Rattle.lerc_block.specs.Block.{Block, blockSays}
 use Rattle.lerc_image.specs.Geometry.{tileOf, validInTile}
 
--- block n at a start: its tile's column, its tile's valid pixels, its depth's maximum. `maxima` has one for each depth
+-- block n at a start: its tile's column, its tile's valid pixels, its depth's maximum. `maxima` has one for each depth.
+-- "The place is the flag byte for any refusal inside a block"
 unfoldable pub blockAt : List ℕ → Header → List ℕ → List ℕ → ℕ → ℕ → Res Block
 blockAt s h maxima m n at =
     let t = tileOf (shapeOf h) n in
-    blockSays s at (h .kind) (h .error) (getD maxima (t .d) 0) (t .x) (validInTile (shapeOf h) m t)
+    marked at (blockSays s at (h .kind) (h .error) (getD maxima (t .d) 0) (t .x) (validInTile (shapeOf h) m t))
 
 -- where each block begins, the words of each, and where the last ends
 pub record Chain : Type 0 where

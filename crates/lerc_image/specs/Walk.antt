@@ -7,7 +7,7 @@ use mathlib.Core.List.{List}
 use lib.ListN.{length, take}
 use lib.Dec.{leb, ltb}
 use Rattle.lerc_words.specs.declared.Refusal.{Refusal}
-use Rattle.lerc_words.specs.Res.{Res, ok, fail, _>>=_, refuse, require, after}
+use Rattle.lerc_words.specs.Res.{Res, ok, fail, _>>=_, refuse, marked, require, after}
 use Rattle.lerc_words.specs.Lists.{over}
 use Rattle.lerc_header.specs.declared.Header.{Header}
 use Rattle.lerc_header.specs.Header.{shapeOf, held}
@@ -19,16 +19,16 @@ use Rattle.lerc_image.specs.declared.WalkAnswer.the-variants as answer
 use Rattle.lerc_sweep.specs.Sweep.{Way, rawFrom, blocksFrom, swept}
 use Rattle.lerc_image.specs.Blocks.{Chain, allBlocks}
 
--- "10: walk on a body not in blocks"
-unfoldable pub wayWalked : List ℕ → Header → List ℕ → List ℕ → Way → Res Chain
-wayWalked s h maxima m (rawFrom at) = fail (refuse 10)
-wayWalked s h maxima m (blocksFrom at) = allBlocks s h maxima m at
+-- "10: walk on a body not in blocks", which the sweep byte tells: "10 included"
+unfoldable pub wayWalked : List ℕ → Header → List ℕ → List ℕ → ℕ → Way → Res Chain
+wayWalked s h maxima m sweep (rawFrom at) = marked sweep (fail (refuse 10))
+wayWalked s h maxima m sweep (blocksFrom at) = allBlocks s h maxima m at
 
 -- a body that is neither empty nor constant: the sweep byte, then "check every block, values included"
 unfoldable pub bodyWalked : List ℕ → Header → List ℕ → List ℕ → ℕ → Res Chain
 bodyWalked s h maxima m at = do
   way ← swept s (h .kind) (h .error) at
-  wayWalked s h maxima m way
+  wayWalked s h maxima m at way
 
 -- 3, 4, 1, 5, 7; "Empty, constant and raw bodies give a walk 10"; then the body
 unfoldable pub walkSays : List ℕ → Header → Ranges → List ℕ → ℕ → Res Chain

@@ -128,7 +128,7 @@ pub fn check_tiles(
         return WalkAnswer::Refused(held.refusal());
     };
     if mask.len() < e.mask {
-        return WalkAnswer::Refused(Refusal { number: 5 });
+        return WalkAnswer::Refused(Refusal { number: 5, at: 0 });
     }
     let size = e.size;
     check_blocks(&blob[..size], at, h, e, maxima, mask)
@@ -215,7 +215,7 @@ pub fn decode_tiles(
         return WalkAnswer::Refused(held.refusal());
     };
     if !has_room(e, mask.len(), list.len(), image.len()) {
-        return WalkAnswer::Refused(Refusal { number: 5 });
+        return WalkAnswer::Refused(Refusal { number: 5, at: 0 });
     }
     let size = e.size;
     decode_blocks(

@@ -13,6 +13,7 @@ ghost use Rattle.lerc_image.specs.Walk.{BlocksWalked, bodyWalked, walkSa
 ghost use Rattle.lerc_image.specs.Tiles.{headStarts};
 ghost use Rattle.lerc_image.specs.Parts.{TileIn, BodyAsked, Asked, hasRoom, onesApart, isSquare, allValid, CountAsked, BlockTile, FillAsked, cursorOf, cursorNext, BlockScattered, BlockPut, BlockFilled, BodyListed};
 ghost use Rattle.lerc_block.specs.Block.{blockSaid, readBlockSays, nextBlock};
+ghost use Rattle.lerc_words.specs.Res.{marked};
 ghost use Rattle.lerc_block.specs.Plan.{planAt, planEnd};
 use lerc_block::BlockAnswer;
 use lerc_header::DEPTHS;
@@ -74,7 +75,7 @@ impl WalkAnswer {
             WalkAnswer::Walked {
                 blocks: _blocks,
                 end: _end,
-            } => Refusal { number: 0 },
+            } => Refusal { number: 0, at: 0 },
             WalkAnswer::Refused(why) => why,
         }
     }
@@ -86,7 +87,7 @@ impl FillAnswer {
         ensures { λ r. ⌜ r ≡ refusalOfFill self ⌝ }
     {
         match self {
-            FillAnswer::Filled(_words) => Refusal { number: 0 },
+            FillAnswer::Filled(_words) => Refusal { number: 0, at: 0 },
             FillAnswer::Refused(why) => why,
         }
     }
@@ -384,10 +385,10 @@ pub fn fill(
         return FillAnswer::Refused(held.refusal());
     };
     if e.blocks <= number {
-        return FillAnswer::Refused(Refusal { number: 11 });
+        return FillAnswer::Refused(Refusal { number: 11, at: 0 });
     }
     if !has_room(e, mask.len(), list.len(), image.len()) {
-        return FillAnswer::Refused(Refusal { number: 5 });
+        return FillAnswer::Refused(Refusal { number: 5, at: 0 });
     }
     let right = lerc_ranges::pairs(h.depth, ranges);
     let PairsAnswer::Right = right else {
@@ -406,7 +407,7 @@ fn check_at(
     maxima: &[u64; DEPTHS],
 ) -> BlockAnswer
     requires { ⌜ t .d < depthLimit ⌝ }
-    ensures { λ r. ⌜ blockSaid r ≡ nextBlock (readBlockSays (now (s .entry)) at (h .kind) (h .error) (getD (now (maxima .entry)) (t .d) 0) (t .x) valid) ⌝ }
+    ensures { λ r. ⌜ blockSaid r ≡ nextBlock (marked at (readBlockSays (now (s .entry)) at (h .kind) (h .error) (getD (now (maxima .entry)) (t .d) 0) (t .x) valid)) ⌝ }
 {
     let plane = t.d;
     let top = maxima[plane];
@@ -451,7 +452,7 @@ fn check_blocks(
 // Where the block of tile `t` at a place ends. Only a raw block is as long as its tile has valid pixels, so only for one are they counted.
 fn end_at(s: &[u8], at: usize, kind: u32, h: Shape, t: Tile, mask: &[u8]) -> BlockAnswer
     requires { ⌜ TileIn h t ⌝ }
-    ensures { λ r. ⌜ blockSaid r ≡ planEnd (planAt (now (s .entry)) at kind (t .x) (validInTile h (now (mask .entry)) t)) ⌝ }
+    ensures { λ r. ⌜ blockSaid r ≡ planEnd (marked at (planAt (now (s .entry)) at kind (t .x) (validInTile h (now (mask .entry)) t))) ⌝ }
 {
     if lerc_words::bytes(s, at, 1) % 4 != 0 {
         return lerc_block::block_end(s, at, kind, t.x, 0);
@@ -522,7 +523,7 @@ fn walk_body(
 {
     let way = lerc_sweep::read_sweep(s, at, h.kind, h.error);
     match way {
-        WayAnswer::Raw(_at) => WalkAnswer::Refused(Refusal { number: 10 }),
+        WayAnswer::Raw(_start) => WalkAnswer::Refused(Refusal { number: 10, at }),
         WayAnswer::Blocks(start) => walk_blocks(s, start, h, e, maxima, mask, &mut list[..]),
         WayAnswer::Refused(why) => WalkAnswer::Refused(why),
     }
@@ -538,7 +539,7 @@ pub fn walk(blob: &[u8], h: Header, ranges: Ranges, mask: &[u8], list: &mut [usi
     };
     let room = (e.mask <= mask.len()) & (e.blocks <= list.len());
     if !room {
-        return WalkAnswer::Refused(Refusal { number: 5 });
+        return WalkAnswer::Refused(Refusal { number: 5, at: 0 });
     }
     let right = lerc_ranges::pairs(h.depth, ranges);
     let PairsAnswer::Right = right else {
@@ -546,7 +547,7 @@ pub fn walk(blob: &[u8], h: Header, ranges: Ranges, mask: &[u8], list: &mut [usi
     };
     let coded = (0 < h.valid) & !ranges.constant;
     if !coded {
-        return WalkAnswer::Refused(Refusal { number: 10 });
+        return WalkAnswer::Refused(Refusal { number: 10, at: 0 });
     }
     let size = e.size;
     let at = ranges.at;

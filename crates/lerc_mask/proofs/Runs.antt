@@ -9,12 +9,13 @@ use borrow.Author.Tests.{le-leb, lt-leb, eqb-true}
 use lib.Dec.{eqb}
 use lib.ListN.{length, getD, take, drop, replicate, length-append, length-replicate}
 use Rattle.lerc_words.specs.declared.Refusal.{Refusal}
-use Rattle.lerc_words.specs.Res.{Res, ok, fail, _>>=_, require, refuse}
+use Rattle.lerc_words.specs.Res.{Res, ok, fail, _>>=_, marked, require, refuse}
 use Rattle.lerc_words.proofs.Binding.{bind-is, require-is}
+use Rattle.lerc_words.proofs.Marking.{Bare}
 use Rattle.lerc_words.proofs.Little.{Bytes}
 use Rattle.lerc_mask.specs.declared.Step.{Step}
 use Rattle.lerc_mask.specs.declared.Step.the-variants.{Copy, Repeat, End, Wrong}
-use Rattle.lerc_mask.specs.Mask.{validBelow, maskBytes, stepAt, onStep, runs, maskRuns, coded, decoded}
+use Rattle.lerc_mask.specs.Mask.{validBelow, maskBytes, stepAt, onStep, runs, maskRuns, maskField, coded, decoded}
 use Rattle.lerc_mask.specs.Passes.{StepFits}
 use Rattle.lerc_mask.proofs.Steps.{Holds, step-holds, step-fits, length-copied, bytes-part, bytes-repeat, bytes-append}
 
@@ -135,12 +136,20 @@ coded-six s pixels valid r e = go (maskRuns (maskBytes pixels) s) refl
     go (ok m) d = test m (eqb (validBelow pixels m) valid) (rw (d) at e)
     go (fail q) d = let x = rw (d) at e in let y : q ≡ r = cc in sym y ∙ runs-six (maskBytes pixels) s (length s) 0 [] q d
 
+-- a section tells no place
+pub coded-bare : (s : List ℕ) (pixels valid : ℕ) → Bare (coded s pixels valid)
+coded-bare s pixels valid = go (coded s pixels valid) refl
+  where
+    go : (m : Res (List ℕ)) → coded s pixels valid ≡ m → Bare m
+    go (ok bytes) e = refl
+    go (fail r) e = let d = coded-six s pixels valid r e in rw (d)
+
 -- ---- room
 
 pub decoded-room : (s : List ℕ) (pixels valid room : ℕ) → room < maskBytes pixels → decoded s pixels valid room ≡ fail (refuse 5)
 unfolding decoded
 decoded-room s pixels valid room h = rw (lt-leb (maskBytes pixels) room h)
 
-pub decoded-coded : (s : List ℕ) (pixels valid room : ℕ) → maskBytes pixels ≤ room → decoded s pixels valid room ≡ coded s pixels valid
+pub decoded-coded : (s : List ℕ) (pixels valid room : ℕ) → maskBytes pixels ≤ room → decoded s pixels valid room ≡ marked maskField (coded s pixels valid)
 unfolding decoded
 decoded-coded s pixels valid room h = rw (le-leb (maskBytes pixels) room h)

@@ -7,7 +7,7 @@ use mathlib.Core.List.{List, [], _++_}
 use lib.ListN.{length, getD, take, drop, replicate}
 use lib.Dec.{leb, ltb, eqb}
 use Rattle.lerc_words.specs.declared.Refusal.{Refusal}
-use Rattle.lerc_words.specs.Res.{Res, ok, fail, _>>=_, refuse, require, little, after}
+use Rattle.lerc_words.specs.Res.{Res, ok, fail, _>>=_, refuse, marked, require, little, after}
 use Rattle.lerc_words.specs.Lists.{count, over}
 use Rattle.lerc_mask.specs.declared.Step.{Step}
 use Rattle.lerc_mask.specs.declared.Step.the-variants.{Copy, Repeat, End, Wrong}
@@ -85,11 +85,15 @@ coded s pixels valid = do
 
 -- ---- the answer of `decode`
 
+-- where a header has the count of mask bytes: "66 for 6"
+abbrev pub maskField : ℕ
+maskField = 66
+
 -- 5: "spare mask .. too short"
 unfoldable pub decoded : List ℕ → ℕ → ℕ → ℕ → Res (List ℕ)
 decoded s pixels valid room = do
   _ ← require (leb (maskBytes pixels) room) 5
-  coded s pixels valid
+  marked maskField (coded s pixels valid)
 
 abbrev pub runsSaid : RunsAnswer → Res ℕ
 runsSaid (answer.Mask n) = ok n

@@ -45,7 +45,7 @@ impl IntegerAnswer {
         ensures { λ r. ⌜ r ≡ refusalOfInteger self ⌝ }
     {
         match self {
-            IntegerAnswer::Word(_v) => Refusal { number: 0 },
+            IntegerAnswer::Word(_v) => Refusal { number: 0, at: 0 },
             IntegerAnswer::Refused(why) => why,
         }
     }
@@ -56,14 +56,14 @@ pub fn to_integer(v: u64, kind: u32) -> IntegerAnswer
     ensures { λ r. ⌜ integerSaid r ≡ Kind.cut kind v ⌝ }
 {
     if 6 <= kind {
-        return IntegerAnswer::Refused(Refusal { number: 9 });
+        return IntegerAnswer::Refused(Refusal { number: 9, at: 0 });
     }
     if 1074 <= parts::exponent(v) {
-        return IntegerAnswer::Refused(Refusal { number: 9 });
+        return IntegerAnswer::Refused(Refusal { number: 9, at: 0 });
     }
     let q = kinds::whole(v);
     if kinds::bound(kind, 0x8000_0000_0000_0000 <= v) <= q {
-        return IntegerAnswer::Refused(Refusal { number: 9 });
+        return IntegerAnswer::Refused(Refusal { number: 9, at: 0 });
     }
     if v < 0x8000_0000_0000_0000 {
         IntegerAnswer::Word(q)

@@ -7,17 +7,18 @@ use Prim.Native.Nat.{ℕ, zero, suc, _+_, _<_}
 use native.Mathlib.Nat.{add-zero}
 use native.Mathlib.Omega.{arith}
 use lib.ListN.{getD}
-use Rattle.lerc_words.specs.Res.{Res, ok, fail, _>>=_}
+use Rattle.lerc_words.specs.Res.{Res, ok, fail, _>>=_, marked}
 use Rattle.lerc_words.specs.declared.Refusal.{Refusal}
 use Rattle.lerc_words.proofs.Binding.{bind-is, bind-fail, ok-is}
+use Rattle.lerc_words.proofs.Marking.{marked-tells}
 use Rattle.lerc_numeric.specs.Numeric.{countedSum}
 use Rattle.lerc_header.specs.declared.Header.{Header}
 use Rattle.lerc_header.specs.Header.{shapeOf}
-use Rattle.lerc_block.specs.Block.{Block, nextBlock}
+use Rattle.lerc_block.specs.Block.{Block, blockSays, nextBlock}
 use Rattle.lerc_image.specs.Geometry.{tileOf, validInTile}
 use Rattle.lerc_image.specs.Blocks.{blockAt, Chain, chain}
 use Rattle.lerc_image.proofs.Chain.{fronted, chain-none, chain-front, chain-parts, chain-lengths}
-use Rattle.lerc_overflow.specs.By.{Adding, blockAtBy, chainBy}
+use Rattle.lerc_overflow.specs.By.{Adding, blockBy, blockAtBy, chainBy}
 use Rattle.lerc_overflow.specs.Changes.{Calm, AllCalm}
 use Rattle.lerc_overflow.proofs.Blocks.{block-next, block-kind, block-calm}
 
@@ -42,15 +43,21 @@ module _ (s : List ℕ) (h : Header) (maxima m : List ℕ) where
 
   pub at-next : (n at : ℕ) → nextBlock (blockAtBy countedSum s h maxima m n at) ≡ nextBlock (blockAt s h maxima m n at)
   unfolding blockAtBy blockAt
-  at-next n at = let t = tileOf (shapeOf h) n in block-next s at (h .kind) (h .error) (getD maxima (t .d) 0) (t .x) (validInTile (shapeOf h) m t)
+  at-next n at =
+      let t = tileOf (shapeOf h) n in
+      let top = getD maxima (t .d) 0 in
+      let v = validInTile (shapeOf h) m t in
+      sym (marked-tells at (blockBy countedSum s at (h .kind) (h .error) top (t .x) v) (λ b. b .next))
+      ∙ ap (marked at) (block-next s at (h .kind) (h .error) top (t .x) v)
+      ∙ marked-tells at (blockSays s at (h .kind) (h .error) top (t .x) v) (λ b. b .next)
 
   pub at-kind : h .kind < 7 → (n at : ℕ) → blockAtBy countedSum s h maxima m n at ≡ blockAt s h maxima m n at
   unfolding blockAtBy blockAt
-  at-kind l n at = let t = tileOf (shapeOf h) n in block-kind s at (h .kind) (h .error) (getD maxima (t .d) 0) (t .x) (validInTile (shapeOf h) m t) l
+  at-kind l n at = let t = tileOf (shapeOf h) n in ap (marked at) (block-kind s at (h .kind) (h .error) (getD maxima (t .d) 0) (t .x) (validInTile (shapeOf h) m t) l)
 
   pub at-calm : (n at : ℕ) → Calm s at (h .kind) (h .error) → blockAtBy countedSum s h maxima m n at ≡ blockAt s h maxima m n at
   unfolding blockAtBy blockAt
-  at-calm n at calm = let t = tileOf (shapeOf h) n in block-calm s at (h .kind) (h .error) (getD maxima (t .d) 0) (t .x) (validInTile (shapeOf h) m t) calm
+  at-calm n at calm = let t = tileOf (shapeOf h) n in ap (marked at) (block-calm s at (h .kind) (h .error) (getD maxima (t .d) 0) (t .x) (validInTile (shapeOf h) m t) calm)
 
   -- ---- the same starts and end
 

@@ -11,8 +11,9 @@ use native.Mathlib.Omega.{arith}
 use lib.Dec.{eqb, lit<}
 use lib.ListN.{length, getD, take, length-take}
 use Rattle.lerc_words.specs.declared.Refusal.{Refusal}
-use Rattle.lerc_words.specs.Res.{Res, ok, fail, _>>=_, wordAt}
+use Rattle.lerc_words.specs.Res.{Res, ok, fail, _>>=_, marked, wordAt}
 use Rattle.lerc_words.proofs.Binding.{bind-is, ok-is, and-is}
+use Rattle.lerc_words.proofs.Marking.{marked-is}
 use Rattle.lerc_words.proofs.Tables.{all-each}
 use Rattle.lerc_numeric.specs.Numeric.{negative, finite, mag, sum, countedSum, less, lesser}
 use Rattle.lerc_numeric.specs.Steps.{stepOf}
@@ -33,7 +34,7 @@ use Rattle.lerc_image.specs.Paint.{indexOf}
 use Rattle.lerc_image.specs.Blocks.{blockAt, Chain, allBlocks}
 use Rattle.lerc_image.proofs.Partition.{tile-depth}
 use Rattle.lerc_image.proofs.Chain.{chain-lengths}
-use Rattle.lerc.specs.Meaning.{Body, empty, blocks, Meaning, rawBody, blockBody, bodyFrom, constantBody, sweptBody, bodySays, startsOf, cellWord, meaningFrom, meaning}
+use Rattle.lerc.specs.Meaning.{Body, empty, blocks, Meaning, missingWordAt, rawBody, blockBody, bodyFrom, constantBody, sweptBody, bodySays, startsOf, cellWord, meaningFrom, meaning}
 use Rattle.lerc_overflow.specs.By.{Adding, stepBy, blockBy, blockAtBy, allBlocksBy, blockBodyBy, bodyFromBy, sweptBodyBy, bodyBy, meaningFromBy, meaningBy}
 use Rattle.lerc_overflow.specs.Changes.{Stepping, farOffset, Operands, AllCalm, Overflows, bodyOutline, outline, maximumOf, CellChanged, ChangesThere, MeaningChanges}
 use Rattle.lerc_overflow.proofs.OverSum.{step-sum, block-sum, block-at-sum, chain-sum}
@@ -55,7 +56,7 @@ empty-none y e = ap startsOf (sym (ok-is e))
 
 raw-none : (s : List ℕ) (h : Header) (at : ℕ) → NoBlocks (rawBody s h at)
 unfolding rawBody
-raw-none s h at y e = let (w, _, e) = bind-is (rawWords s at (h .kind) (h .valid * h .depth)) _ e in ap startsOf (sym (ok-is e))
+raw-none s h at y e = let (w, _, e) = bind-is (marked (missingWordAt (length s) at (h .kind)) (rawWords s at (h .kind) (h .valid * h .depth))) _ e in ap startsOf (sym (ok-is e))
 
 constant-none : (h : Header) (r : Ranges) → NoBlocks (constantBody h r)
 unfolding constantBody
@@ -254,11 +255,11 @@ module _ (b : List ℕ) (h : Header) (e : headerSays b ≡ ok h) (m : List ℕ) 
   -- its block over both sums
   old-is : blockBy countedSum s at (h .kind) (h .error) top (t .x) (validInTile (shapeOf h) m t) ≡ ok (d .differs .old)
   unfolding blockAtBy
-  old-is = rw (zero-add n) at (d .differs .old-is)
+  old-is = marked-is at (blockBy countedSum s at (h .kind) (h .error) top (t .x) (validInTile (shapeOf h) m t)) (rw (zero-add n) at (d .differs .old-is))
 
   new-is : blockSays s at (h .kind) (h .error) top (t .x) (validInTile (shapeOf h) m t) ≡ ok (d .differs .new)
   unfolding blockAt
-  new-is = rw (zero-add n) at (d .differs .new-is)
+  new-is = marked-is at (blockSays s at (h .kind) (h .error) top (t .x) (validInTile (shapeOf h) m t)) (rw (zero-add n) at (d .differs .new-is))
 
   overflows : Overflows s at (h .kind) (h .error) i
   overflows = block-word s at (h .kind) (h .error) top (t .x) (validInTile (shapeOf h) m t) (d .differs .old) (d .differs .new) old-is new-is i (d .differs .differ)
@@ -409,7 +410,11 @@ cell-changed b h e m x y ex ey c l seven o r k f =
     ∙ q .is
     in
     let t = tileOf (shapeOf h) n in
-    let differ = block-changed s at (h .kind) (h .error) (maximumOf h r c) (t .x) (validInTile (shapeOf h) m t) (p .block) (q .block) was is (omega arith) (header-error b h e) (maximum-finite b h e r k n below) i (o .operands) (o .are) (o .infinite-product) f in
+    let v = validInTile (shapeOf h) m t in
+    let top = maximumOf h r c in
+    let old-is = marked-is at (blockBy countedSum s at (h .kind) (h .error) top (t .x) v) was in
+    let new-is = marked-is at (blockSays s at (h .kind) (h .error) top (t .x) v) is in
+    let differ = block-changed s at (h .kind) (h .error) top (t .x) v (p .block) (q .block) old-is new-is (omega arith) (header-error b h e) (maximum-finite b h e r k n below) i (o .operands) (o .are) (o .infinite-product) f in
     let old-word : cellWord h m x c ≡ getD (p .block .words) i 0 = ap (λ (z : Body). cellWord h m z c) (w .old-body) ∙ ap (λ (z : List ℕ). getD z i 0) (p .words) in
     let new-word : cellWord h m y c ≡ getD (q .block .words) i 0 = ap (λ (z : Body). cellWord h m z c) (w .new-body) ∙ ap (λ (z : List ℕ). getD z i 0) (q .words) in
     λ z. differ (sym old-word ∙ z ∙ new-word)

@@ -1,9 +1,9 @@
 -- Over `sum` the definitions of `By` are the reader's own.
 -- Assumes nothing.
-use mathlib.Core.Path.{_≡_, refl}
+use mathlib.Core.Path.{_≡_, refl, ap}
 use mathlib.Core.List.{List}
 use Prim.Native.Nat.{ℕ, zero, suc}
-use Rattle.lerc_words.specs.Res.{Res, ok, fail, _>>=_}
+use Rattle.lerc_words.specs.Res.{Res, ok, fail, _>>=_, marked}
 use Rattle.lerc_numeric.specs.Numeric.{sum}
 use Rattle.lerc_numeric.specs.Steps.{stepOf}
 use Rattle.lerc_header.specs.declared.Header.{Header}
@@ -22,7 +22,7 @@ block-sum s at kind error top x n = refl
 
 pub block-at-sum : (s : List ℕ) (h : Header) (maxima m : List ℕ) (n at : ℕ) → blockAtBy sum s h maxima m n at ≡ blockAt s h maxima m n at
 unfolding blockAtBy blockAt
-block-at-sum s h maxima m n at = block-sum s at (h .kind) (h .error) _ _ _
+block-at-sum s h maxima m n at = ap (marked at) (block-sum s at (h .kind) (h .error) _ _ _)
 
 pub chain-sum : (s : List ℕ) (h : Header) (maxima m : List ℕ) (f n at : ℕ) → chainBy sum s h maxima m f n at ≡ chain s h maxima m f n at
 unfolding chainBy chain

@@ -7,7 +7,7 @@ use mathlib.Core.Bool.{Bool, cond}
 use mathlib.Core.List.{List, [], _∷_}
 use lib.ListN.{length, getD, replicate, take}
 use lib.Dec.{eqb}
-use Rattle.lerc_words.specs.Res.{Res, ok, _>>=_, require, each}
+use Rattle.lerc_words.specs.Res.{Res, ok, _>>=_, marked, require, each}
 use Rattle.lerc_numeric.specs.Numeric.{scaled, lesser}
 use Rattle.lerc_samples.specs.Samples.{stored}
 use Rattle.lerc_bits.specs.Bits.{counts}
@@ -65,7 +65,7 @@ blockBy add s at kind error top x n = do
 unfoldable pub blockAtBy : Adding → List ℕ → Header → List ℕ → List ℕ → ℕ → ℕ → Res Block
 blockAtBy add s h maxima m n at =
     let t = tileOf (shapeOf h) n in
-    blockBy add s at (h .kind) (h .error) (getD maxima (t .d) 0) (t .x) (validInTile (shapeOf h) m t)
+    marked at (blockBy add s at (h .kind) (h .error) (getD maxima (t .d) 0) (t .x) (validInTile (shapeOf h) m t))
 
 -- `chain`
 unfoldable pub chainBy : Adding → List ℕ → Header → List ℕ → List ℕ → ℕ → ℕ → ℕ → Res Chain

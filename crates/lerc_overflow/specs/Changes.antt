@@ -91,7 +91,7 @@ pub record Overflows (s : List ℕ) (at kind error i : ℕ) : Type 0 where
   pub infinite-product : infinite (operands .product) ≡ true
 
 pub record BlockChanges : Type 0 where
-  -- accepted alike: the same number of a refusal, or the same end
+  -- accepted alike: the same refusal, or the same end
   pub block-next : (s : List ℕ) (at kind error top x n : ℕ) → nextBlock (blockBy countedSum s at kind error top x n) ≡ nextBlock (blockSays s at kind error top x n)
   -- nothing changes for kinds 0 to 6
   pub block-kind : (s : List ℕ) (at kind error top x n : ℕ) → kind < 7 → blockBy countedSum s at kind error top x n ≡ blockSays s at kind error top x n
@@ -152,7 +152,7 @@ ChangesThere b x y =
     → cellWord h m (x .body) c ≢ cellWord h m (y .body) c
 
 pub record MeaningChanges : Type 0 where
-  -- a blob is accepted exactly when it was, and refused by the same number; all but the words of its blocks is the same
+  -- a blob is accepted exactly when it was, and refused by the same number at the same place; all but the words of its blocks is the same
   pub meaning-outline : (b : List ℕ) (reuse : Bool) (old : List ℕ) → (meaningBy countedSum b reuse old >>= outline) ≡ (meaning b reuse old >>= outline)
   -- nothing changes for kinds 0 to 6
   pub meaning-kind : (b : List ℕ) (reuse : Bool) (old : List ℕ) (h : Header) → headerSays b ≡ ok h → h .kind < 7 → meaningBy countedSum b reuse old ≡ meaning b reuse old

@@ -15,15 +15,15 @@ use Rattle.lerc_bits.specs.Bits as bits
 use Rattle.lerc_mask.specs.Mask.{pixelValid, copyAt, repeatAt, endAt, signedAt, stepAt, runs, coded}
 use Rattle.lerc_header.specs.Shape.{strips}
 use Rattle.lerc_header.specs.Header.{errorRight, pairRight, fieldsRight, withinCeilings, held, keyRight, headerOf, headerSays}
-use Rattle.lerc_validity.specs.Validity.{uniform, kept, unrolled, maskSays}
-use Rattle.lerc_ranges.specs.Ranges.{uniformRanges, numberAt, byDepth, codedRanges, pairsRight, rangesSays, constantWords}
+use Rattle.lerc_validity.specs.Validity.{uniform, kept, unrolled, maskIn}
+use Rattle.lerc_ranges.specs.Ranges.{uniformRanges, numberAt, byDepth, codedRanges, pairsRight, firstWrong, wrongNumberAt, rangesSays, constantWords}
 use Rattle.lerc_block.specs.Block.{rawWords, levelBlock, steppedBlock, offsetAt, finiteOffset, offsetBlock, formed, flagAt, blockSays}
 use Rattle.lerc_image.specs.Geometry.{tileOf, pixelOf, blockOf, placeIn, rank}
 use Rattle.lerc_image.specs.Paint.{indexOf}
-use Rattle.lerc_sweep.specs.Sweep.{modeAt, moded, swept}
+use Rattle.lerc_sweep.specs.Sweep.{modeByte, moded, sweepByte, swept}
 use Rattle.lerc_image.specs.Blocks.{blockAt, chain}
 use Rattle.lerc_text.specs.Ascii.{ascii}
-use Rattle.lerc_text.specs.Text.{digits, line, shapeLine, cellLine, cellLines}
+use Rattle.lerc_text.specs.Text.{digits, line, refusalLine, shapeLine, cellLine, cellLines}
 use Rattle.lerc.specs.Meaning.{rawBody, blockBody, sweptBody, constantBody, bodySays, cellWord, meaningFrom, meaning}
 use Rattle.lerc_program.specs.Program.{programSays, imageText, programText}
 
@@ -45,12 +45,12 @@ pub record Computed : Type 0 where
       programText (front 2 80 5 ++ (0x01 ∷ 0x00 ∷ 0xA0 ∷ 0x00 ∷ 0x80 ∷ 0x0A ∷ 0x0C ∷ 0x01 ∷ 0x0B ∷ 0x0C ∷ []))
       ≡ ascii "width 3 height 1 depth 1 kind 1 valid 2\nblocks 0\ncell 0 11\ncell 1 -\ncell 2 12\nend 80\n"
   -- a block whose check bits are wrong
-  pub refused : programText (front 3 75 0 ++ (0x0A ∷ 0x0C ∷ 0x00 ∷ 0x00 ∷ 0x05 ∷ [])) ≡ ascii "refused 8\n"
+  pub refused : programText (front 3 75 0 ++ (0x0A ∷ 0x0C ∷ 0x00 ∷ 0x00 ∷ 0x05 ∷ [])) ≡ ascii "refused 8 at 74\n"
 
 pub computed : Computed
 unfolding wordAt little each from count allTo mag code sum countedSum scaled less same lesser integer valueOf whole cut sampleAt stored offsetKinds offsetKind
     counts plan tabled unpacked valuesOf lookedUp bits.digits chosen pixelValid copyAt repeatAt endAt signedAt stepAt runs coded strips errorRight pairRight fieldsRight withinCeilings
-    held keyRight headerOf headerSays uniform kept unrolled maskSays uniformRanges numberAt byDepth codedRanges pairsRight rangesSays constantWords rawWords
-    levelBlock stepOf steppedBlock offsetAt finiteOffset offsetBlock formed flagAt blockSays tileOf pixelOf blockOf placeIn rank indexOf blockAt chain modeAt moded
-    swept rawBody blockBody sweptBody constantBody bodySays cellWord meaningFrom meaning size span climb digits line shapeLine cellLine cellLines programSays imageText
+    held keyRight headerOf headerSays uniform kept unrolled maskIn uniformRanges numberAt byDepth codedRanges pairsRight firstWrong wrongNumberAt rangesSays constantWords rawWords
+    levelBlock stepOf steppedBlock offsetAt finiteOffset offsetBlock formed flagAt blockSays tileOf pixelOf blockOf placeIn rank indexOf blockAt chain modeByte moded
+    sweepByte swept rawBody blockBody sweptBody constantBody bodySays cellWord meaningFrom meaning size span climb digits line refusalLine shapeLine cellLine cellLines programSays imageText
 computed = record { rules = refl; invalid = refl; refused = refl }

@@ -21,7 +21,7 @@ use Rattle.lerc_header.specs.Shape.{cells, maskLength, blockCount, Shaped}
 use Rattle.lerc_header.proofs.Kept.{held-shaped, header-held}
 use Rattle.lerc_header.proofs.Sizes.{pixels-le, blocks-le}
 use Rattle.lerc_mask.specs.Mask.{pixelValid}
-use Rattle.lerc_validity.specs.Validity.{MaskInForce, bytesOf, kept, maskSays}
+use Rattle.lerc_validity.specs.Validity.{MaskInForce, bytesOf, kept, maskIn, maskSays}
 use Rattle.lerc_image.specs.Geometry.{isValidCell}
 use Rattle.lerc_image.proofs.Painting.{painted-cell}
 use Rattle.lerc.specs.declared.ReadAnswer.the-variants as answer
@@ -29,7 +29,7 @@ use Rattle.lerc.specs.Meaning.{Meaning, meaning, meaningFrom, bodySays, startsO
 use Rattle.lerc.specs.Read.{Lent, Masked, ReadTold, room, masked, readSays, published, readAfter, WholeRead}
 use Rattle.lerc_text.specs.Ascii.{ascii}
 use Rattle.lerc_text.specs.Text.{Put, line, shapeLine, validIn, wordIn}
-use Rattle.lerc_text.proofs.Putting.{cells-same, cells-long, line-long, shape-long, put-whole}
+use Rattle.lerc_text.proofs.Putting.{cells-same, cells-long, line-long, refusal-long, shape-long, put-whole}
 use Rattle.lerc_program.specs.Program.{bytesMost, cellsMost, programSays, imageText, refusalText, saidText, programText, Answered}
 use Rattle.lerc_program.specs.Parts.{Ready}
 
@@ -55,7 +55,7 @@ front-text k b more = go (decLe (length b) bytesMost)
 
 -- no mask is reused: what was kept does not matter
 mask-unkept : (s : List ℕ) (h : Header) (old : List ℕ) → maskSays s h false old ≡ maskSays s h false []
-unfolding maskSays kept
+unfolding maskIn kept
 mask-unkept s h old = refl
 
 -- the meaning of a blob has its header
@@ -202,7 +202,7 @@ text-long b = go (programSays b) refl
           line-long (ascii "end ") (endOf (m .body)),
           cells-long n (validIn (h .depth) (bytesOf (m .mask))) (cellWord h (bytesOf (m .mask)) (m .body)) (omega arith),
         ))
-    go (fail r) e = omega (arith, line-long (ascii "refused ") (r .number))
+    go (fail r) e = omega (arith, refusal-long (r .number) (r .at))
 
 -- a buffer that holds the longest text holds the text whole
 pub put-answered : {input old : List ℕ} {r : ℕ} {new : List ℕ} → Put old 0 (programText input) r new → 131072 ≤ length old → Answered input old r new

@@ -14,7 +14,7 @@ use Rattle.lerc_header.specs.Header.{shapeOf, headerSays}
 use Rattle.lerc_header.specs.Shape.{cells}
 use Rattle.lerc_validity.specs.Validity.{bytesOf}
 use Rattle.lerc_text.specs.Ascii.{ascii}
-use Rattle.lerc_text.specs.Text.{line, shapeLine, cellLines, validIn}
+use Rattle.lerc_text.specs.Text.{line, refusalLine, shapeLine, cellLines, validIn}
 use Rattle.lerc.specs.Meaning.{Meaning, meaning, startsOf, endOf, cellWord}
 
 abbrev pub bytesMost : ℕ
@@ -42,9 +42,9 @@ wholeText m =
     let mask = bytesOf (m .mask) in
     imageText h (length (startsOf (m .body))) (endOf (m .body)) (validIn (h .depth) mask) (cellWord h mask (m .body))
 
--- "a refusal only "refused 8""
+-- "The program writes 'refused 8 at 74'", and nothing else
 abbrev pub refusalText : Refusal → List ℕ
-refusalText r = line (ascii "refused ") (r .number)
+refusalText r = refusalLine (r .number) (r .at)
 
 abbrev pub saidText : Res Meaning → List ℕ
 saidText (ok m) = wholeText m

@@ -1,4 +1,4 @@
-// The program's text for the bytes that it reads: a blob's cells, or for a refusal one line with its number.
+// The program's text for the bytes that it reads: a blob's cells, or for a refusal one line with its number and its place.
 // No mask is reused.
 ghost use Prim.Native.Nat.{ℕ, _≤_};
 ghost use Rattle.lerc_header.specs.Header.{shapeOf};
@@ -24,7 +24,7 @@ pub const TEXT: usize = 131072;
 fn refuse(why: Refusal, out: &mut [u8]) -> usize
     ensures { λ r. ⌜ Put (now (out .entry)) 0 (refusalText why) r (now (out .exit)) ⌝ }
 {
-    lerc_text::put_line(&mut out[..], 0, b"refused ", why.number as u64)
+    lerc_text::put_refusal(&mut out[..], 0, why.number, why.at)
 }
 
 fn put_image(
@@ -81,7 +81,7 @@ fn put_answer(input: &[u8], out: &mut [u8]) -> usize
     ensures { λ r. ⌜ Put (now (out .entry)) 0 (programText (now (input .entry))) r (now (out .exit)) ⌝ }
 {
     if BYTES < input.len() {
-        return refuse(Refusal { number: 4 }, &mut out[..]);
+        return refuse(Refusal { number: 4, at: 0 }, &mut out[..]);
     }
     let mut kept = [0u8; MASK];
     let mut spare = [0u8; MASK];

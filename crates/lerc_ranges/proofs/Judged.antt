@@ -10,8 +10,9 @@ use borrow.Author.Tests.{le-leb, leb-true}
 use lib.ListN.{length, take, length-take, length-replicate, getD-replicate}
 use lib.Dec.{leb}
 use Rattle.lerc_words.specs.declared.Refusal.{Refusal}
-use Rattle.lerc_words.specs.Res.{Res, ok, fail, _>>=_, require}
+use Rattle.lerc_words.specs.Res.{Res, ok, fail, _>>=_, marked, require}
 use Rattle.lerc_words.proofs.Binding.{bind-is, require-is, ok-is, each-length}
+use Rattle.lerc_words.proofs.Marking.{marked-is}
 use Rattle.lerc_words.proofs.Tables.{all-true}
 use Rattle.lerc_numeric.specs.Numeric.{same}
 use Rattle.lerc_samples.specs.Samples.{stored}
@@ -22,7 +23,7 @@ use Rattle.lerc_header.proofs.Kept.{held-shaped, held-size, held-pair}
 use Rattle.lerc_ranges.specs.declared.Ranges.{Ranges}
 use Rattle.lerc_ranges.specs.declared.RangesRead.{RangesRead}
 use Rattle.lerc_ranges.specs.declared.RangesAnswer.the-variants as ranges
-use Rattle.lerc_ranges.specs.Ranges.{uniformRanges, codedRanges, rangesEnd, pairsRight, rangesSays, rangesInSays, readRangesSays, rangesSaid, pairsSays, constantWords}
+use Rattle.lerc_ranges.specs.Ranges.{uniformRanges, codedRanges, rangesEnd, pairsRight, wrongNumberAt, rangesSays, rangesInSays, readRangesSays, rangesSaid, pairsSays, constantWords}
 use Rattle.lerc_ranges.proofs.ByDepth.{length-by-depth}
 
 -- the pairs below the depth are right, the body begins behind them and within s, and an entry stands for each depth
@@ -55,15 +56,17 @@ module _ (s : List ℕ) (h : Header) (few : h .depth ≤ depthLimit) (pair : pai
   -- where the header's minimum and maximum differ
   abbrev judged : Res Ranges
   judged = do
-    _ ← require (leb (rangesEnd h) (length s)) 1
-    _ ← require (pairsRight (h .depth) (codedRanges s h)) 7
+    _ ← marked (rangesAt h) (require (leb (rangesEnd h) (length s)) 1)
+    _ ← marked (wrongNumberAt h (codedRanges s h)) (require (pairsRight (h .depth) (codedRanges s h)) 7)
     ok (codedRanges s h)
 
   judged-kept : (r : Ranges) → judged ≡ ok r → RangesKept s h r
   judged-kept r e =
-      let (_, t1, e1) = bind-is (require (leb (rangesEnd h) (length s)) 1) _ e in
-      let (_, t7, e7) = bind-is (require (pairsRight (h .depth) (codedRanges s h)) 7) _ e1 in
-      rw (← ok-is e7) (coded-kept (require-is _ _ t7) (leb-true _ _ (require-is _ _ t1)))
+      let fit = require (leb (rangesEnd h) (length s)) 1 in
+      let right = require (pairsRight (h .depth) (codedRanges s h)) 7 in
+      let (_, t1, e1) = bind-is (marked (rangesAt h) fit) _ e in
+      let (_, t7, e7) = bind-is (marked (wrongNumberAt h (codedRanges s h)) right) _ e1 in
+      rw (← ok-is e7) (coded-kept (require-is _ _ (marked-is _ right t7)) (leb-true _ _ (require-is _ _ (marked-is _ fit t1))))
 
   pub ranges-kept : (r : Ranges) → rangesSays s h ≡ ok r → RangesKept s h r
   unfolding rangesSays

@@ -1,2 +1,3 @@
 pub mod ByDepth
 pub mod Judged
+pub mod Wrong

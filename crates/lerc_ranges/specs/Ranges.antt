@@ -1,14 +1,14 @@
 -- The ranges of each depth.
 -- Assumes nothing.
-use Prim.Native.Nat.{ℕ, _+_, _*_, min}
+use Prim.Native.Nat.{ℕ, suc, _+_, _*_, min}
 use mathlib.Core.Bool.{Bool, true, false, cond}
 use mathlib.Core.List.{List}
 use lib.ListN.{length, getD, take, replicate}
 use lib.Dec.{leb, ltb}
 use Rattle.lerc_words.specs.declared.Refusal.{Refusal}
-use Rattle.lerc_words.specs.Res.{Res, ok, fail, _>>=_, refuse, require, little, each}
-use Rattle.lerc_words.specs.Lists.{tabulate, over, allTo}
-use Rattle.lerc_numeric.specs.Numeric.{same}
+use Rattle.lerc_words.specs.Res.{Res, ok, fail, _>>=_, refuse, marked, require, little, each}
+use Rattle.lerc_words.specs.Lists.{tabulate, over, count, allTo}
+use Rattle.lerc_numeric.specs.Numeric.{same, finite}
 use Rattle.lerc_numeric.specs.Kinds.{typeSize, valueOf}
 use Rattle.lerc_samples.specs.Samples.{stored}
 use Rattle.lerc_header.specs.declared.Header.{Header}
@@ -54,13 +54,23 @@ codedRanges s h =
 unfoldable pub pairsRight : ℕ → Ranges → Bool
 pairsRight depth r = allTo depth (λ i. pairRight (getD (r .min) i 0) (getD (r .max) i 0))
 
--- "all of which must fit (1) before a number is judged"
+-- the first depth whose pair is wrong: as many depths come before it as have right pairs up to their own
+unfoldable pub firstWrong : ℕ → Ranges → ℕ
+firstWrong depth r = count depth (λ i. pairsRight (suc i) r)
+
+-- "for 7 the first byte of the first wrong number, depth by depth, minimum before maximum, the maximum where it is the lesser"
+unfoldable pub wrongNumberAt : Header → Ranges → ℕ
+wrongNumberAt h r =
+    let i = firstWrong (h .depth) r in
+    cond (finite (getD (r .min) i 0)) (maximaAt h) (rangesAt h) + i * typeSize (h .kind)
+
+-- "all of which must fit (1) before a number is judged"; "the first range byte where the ranges do not fit"
 unfoldable pub rangesSays : List ℕ → Header → Res Ranges
 rangesSays s h =
     cond (same (h .min) (h .max)) (ok (uniformRanges h))
     ((do
-      _ ← require (leb (rangesEnd h) (length s)) 1
-      _ ← require (pairsRight (h .depth) (codedRanges s h)) 7
+      _ ← marked (rangesAt h) (require (leb (rangesEnd h) (length s)) 1)
+      _ ← marked (wrongNumberAt h (codedRanges s h)) (require (pairsRight (h .depth) (codedRanges s h)) 7)
       ok (codedRanges s h)))
 
 -- the ranges in the bytes of a blob that was opened; "depth 64" is all that is asked of its header again
@@ -88,7 +98,7 @@ abbrev pub refusalOfRanges : RangesAnswer → Refusal
 refusalOfRanges ranges.Read = refuse 0
 refusalOfRanges (ranges.Refused r) = r
 
--- ---- ranges by value: "7 for the pairs below the depth"; an array has no pair past its end
+-- ---- ranges by value: "7 for the pairs below the depth", "0 for ranges by value"; an array has no pair past its end
 
 unfoldable pub pairsSays : ℕ → Ranges → Res Bool
 pairsSays depth r = require (pairsRight (min depth depthLimit) r) 7

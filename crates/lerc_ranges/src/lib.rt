@@ -1,5 +1,6 @@
 // The ranges of each depth: read from a blob, judged by value, stored as words.
 ghost use mathlib.Core.Path.{_≡_};
+ghost use mathlib.Core.Bool.{false};
 ghost use Prim.Native.Nat.{ℕ, _+_, _*_, _≤_, _<_, _^_, min};
 ghost use lib.ListN.{getD};
 ghost use Rattle.lerc_words.specs.Res.{fail};
@@ -13,6 +14,7 @@ use lerc_header::HEADER;
 use lerc_header::Header;
 use lerc_header::HeldAnswer;
 use lerc_header::pair_right;
+use lerc_numeric::is_finite;
 use lerc_numeric::number;
 use lerc_numeric::same;
 use lerc_numeric::size;
@@ -59,7 +61,7 @@ impl RangesAnswer {
         ensures { λ r. ⌜ r ≡ Rules.refusalOfRanges self ⌝ }
     {
         match self {
-            RangesAnswer::Read => Refusal { number: 0 },
+            RangesAnswer::Read => Refusal { number: 0, at: 0 },
             RangesAnswer::Refused(why) => why,
         }
     }
@@ -71,7 +73,7 @@ impl PairsAnswer {
         ensures { λ r. ⌜ r ≡ Rules.refusalOfPairs self ⌝ }
     {
         match self {
-            PairsAnswer::Right => Refusal { number: 0 },
+            PairsAnswer::Right => Refusal { number: 0, at: 0 },
             PairsAnswer::Refused(why) => why,
         }
     }
@@ -83,7 +85,7 @@ impl ConstantsAnswer {
         ensures { λ r. ⌜ r ≡ Rules.refusalOfConstants self ⌝ }
     {
         match self {
-            ConstantsAnswer::Stored => Refusal { number: 0 },
+            ConstantsAnswer::Stored => Refusal { number: 0, at: 0 },
             ConstantsAnswer::Refused(why) => why,
         }
     }
@@ -141,6 +143,34 @@ fn pairs_right(depth: usize, r: Ranges) -> bool
     all
 }
 
+// the first depth whose pair is wrong
+fn first_wrong(depth: usize, r: Ranges) -> usize
+    requires { ⌜ depth ≤ depthLimit ⌝ }
+    ensures { λ a. ⌜ a ≡ Rules.firstWrong depth r ⌝ }
+{
+    let mut i = 0;
+    while i < depth {
+        if !pair_right(r.min[i], r.max[i]) {
+            return i;
+        }
+        i += 1;
+    }
+    depth
+}
+
+// where the first wrong number of ranges that are not right begins
+fn wrong_number(h: Header, r: Ranges) -> usize
+    requires { ⌜ (h .depth ≤ depthLimit) × (Rules.pairsRight (h .depth) r ≡ false) ⌝ }
+    ensures { λ a. ⌜ a ≡ Rules.wrongNumberAt h r ⌝ }
+{
+    let i = first_wrong(h.depth as usize, r);
+    let minimum = HEADER + h.mask as usize + i * size(h.kind);
+    if is_finite(r.min[i]) {
+        return minimum + width(h);
+    }
+    minimum
+}
+
 // ranges by value: the pairs below the depth
 pub fn pairs(depth: u32, r: Ranges) -> PairsAnswer
     ensures { λ a. ⌜ Rules.pairsSaid a ≡ Rules.pairsSays depth r ⌝ }
@@ -148,7 +178,7 @@ pub fn pairs(depth: u32, r: Ranges) -> PairsAnswer
     if pairs_right(within(depth), r) {
         PairsAnswer::Right
     } else {
-        PairsAnswer::Refused(Refusal { number: 7 })
+        PairsAnswer::Refused(Refusal { number: 7, at: 0 })
     }
 }
 
@@ -212,7 +242,7 @@ pub fn ranges_in(s: &[u8], h: Header) -> RangesRead
     ensures { λ r. ⌜ r ≡ Rules.rangesSaid (Rules.rangesInSays (now (s .entry)) h) ⌝ }
 {
     if DEPTHS < h.depth as usize {
-        return refused(Refusal { number: 4 });
+        return refused(Refusal { number: 4, at: 0 });
     }
     if same(h.min, h.max) {
         let ranges = uniform(h);
@@ -223,11 +253,17 @@ pub fn ranges_in(s: &[u8], h: Header) -> RangesRead
     }
     let width = width(h);
     if s.len() < HEADER + h.mask as usize + width + width {
-        return refused(Refusal { number: 1 });
+        return refused(Refusal {
+            number: 1,
+            at: HEADER + h.mask as usize,
+        });
     }
     let ranges = coded(s, h);
     if !pairs_right(h.depth as usize, ranges) {
-        return refused(Refusal { number: 7 });
+        return refused(Refusal {
+            number: 7,
+            at: wrong_number(h, ranges),
+        });
     }
     RangesRead {
         answer: RangesAnswer::Read,

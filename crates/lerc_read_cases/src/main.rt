@@ -1,5 +1,5 @@
 // Whole reads: blobs that Esri's encoder (liblerc 4.0.0) wrote, or made by hand for its decoder, with the cells its decoder gave,
-// and blobs that the rules refuse, with their numbers. data/names lists them; tests/read/make.py has the form of the other files.
+// and blobs that the rules refuse, with number and place. data/names lists them; tests/read/make.py has the form of the other files.
 // Each slice is filled with its mark before the call. After it every entry is looked at: it must hold what the case says, or still
 // its mark. The line of a case has the answer, and then "same" or the first entry of each slice that differs. The cases called
 // "planted" have expectations that are wrong, and their lines must say so.
@@ -10,8 +10,8 @@ use lerc_words::bytes;
 use lerc_words::peek;
 use libc::STDOUT_FILENO;
 
-// 17 numbers of 4 bytes
-const HEAD: usize = 68;
+// 18 numbers of 4 bytes
+const HEAD: usize = 72;
 
 // room for the largest case
 const BYTES: usize = 131200;
@@ -67,6 +67,7 @@ struct Case {
     depth: usize,
     size: usize,
     number: usize,
+    place: usize,
     end: usize,
     sum: usize,
 }
@@ -148,8 +149,9 @@ fn case_of(head: &[u8; HEAD]) -> Case {
         depth: field(head, 48),
         size: field(head, 52),
         number: field(head, 56),
-        end: field(head, 60),
-        sum: field(head, 64),
+        place: field(head, 60),
+        end: field(head, 64),
+        sum: field(head, 68),
     }
 }
 
@@ -277,7 +279,9 @@ fn is_same_answer(answer: ReadAnswer, c: Case) -> bool {
             blocks,
             end,
         } => (c.number == 0) & (blocks == c.starts) & (end == c.end),
-        ReadAnswer::Refused(why) => (0 < c.number) & (why.number as usize == c.number),
+        ReadAnswer::Refused(why) => {
+            (0 < c.number) & (why.number as usize == c.number) & (why.at == c.place)
+        }
     }
 }
 
@@ -291,13 +295,17 @@ fn print_answer(answer: ReadAnswer) {
             print(b" blocks ", blocks);
             print(b" end ", end);
         }
-        ReadAnswer::Refused(why) => print(b" refused ", why.number as usize),
+        ReadAnswer::Refused(why) => {
+            print(b" refused ", why.number as usize);
+            print(b" at ", why.at);
+        }
     }
 }
 
 fn print_wanted(c: Case) {
     if 0 < c.number {
         print(b" and not refused ", c.number);
+        print(b" at ", c.place);
         return;
     }
     print(b" and not blocks ", c.starts);
@@ -470,6 +478,6 @@ fn main() {
     all = all.plus(file(b"rules", 53));
     all = all.plus(file(b"refused", 312));
     all = all.plus(file(b"damaged", 67));
-    all = all.plus(file(b"planted", 10));
+    all = all.plus(file(b"planted", 11));
     print_tally(b"all", all);
 }

@@ -4,11 +4,11 @@ use mathlib.Core.Path.{_≡_}
 use mathlib.Core.List.{List}
 use Prim.Native.Nat.{ℕ, _≤_, _<_}
 use borrow.Author.Tests.{lt-ltb, le-ltb, ne-eqb}
-use Rattle.lerc_words.specs.Res.{ok, fail, wordSays, wordSaid, refusalOfWord}
+use Rattle.lerc_words.specs.Res.{ok, fail, marked, wordSays, wordSaid, refusalOfWord}
 use Rattle.lerc_words.specs.declared.Refusal.{Refusal}
 use Rattle.lerc_words.specs.declared.WordAnswer.{WordAnswer}
 use Rattle.lerc_words.specs.declared.WordAnswer.the-variants as word
-use Rattle.lerc_words.proofs.Little.{read-ok, read-no}
+use Rattle.lerc_words.proofs.Little.{read-ok, read-cut, read-why}
 use Rattle.lerc_numeric.specs.Kinds.{typeSize, valueOf, narrowed, cut, integerSaid, refusalOfInteger}
 use Rattle.lerc_numeric.specs.declared.IntegerAnswer.{IntegerAnswer}
 use Rattle.lerc_numeric.specs.declared.IntegerAnswer.the-variants as integer
@@ -16,17 +16,17 @@ use Rattle.lerc_numeric.proofs.Integers.{size-le}
 use Rattle.lerc_samples.specs.Samples.{sampleAt, stored}
 
 -- ---- a word that was read, or refused; n is the kind's size
-module _ (kind n : ℕ) (s : List ℕ) (at : ℕ) (en : n ≡ typeSize kind) (r : WordAnswer) (e : wordSaid r ≡ wordSays s at n) where
-  said : wordSaid r ≡ wordSays s at (typeSize kind)
+module _ (kind n : ℕ) (s : List ℕ) (at : ℕ) (en : n ≡ typeSize kind) (r : WordAnswer) (e : wordSaid r ≡ marked at (wordSays s at n)) where
+  said : wordSaid r ≡ marked at (wordSays s at (typeSize kind))
   said = rw (en) at e
 
-  pub sample-ok : (w x : ℕ) → r ≡ word.Word w → x ≡ valueOf kind w → ok x ≡ sampleAt kind s at
+  pub sample-ok : (w x : ℕ) → r ≡ word.Word w → x ≡ valueOf kind w → ok x ≡ marked at (sampleAt kind s at)
   unfolding sampleAt
   sample-ok w x d ex = rw (read-ok s at (typeSize kind) (size-le kind) said d, ex)
 
-  pub sample-no : (q why : Refusal) → r ≡ word.Refused q → why ≡ refusalOfWord r → fail why ≡ sampleAt kind s at
+  pub sample-no : (q why : Refusal) → r ≡ word.Refused q → why ≡ refusalOfWord r → fail why ≡ marked at (sampleAt kind s at)
   unfolding sampleAt
-  sample-no q why d f = rw (read-no s at (typeSize kind) (size-le kind) said d f)
+  sample-no q why d f = rw (read-why s at (typeSize kind) (size-le kind) said d f, read-cut s at (typeSize kind) (size-le kind) said d)
 
 -- ---- a value cut to a kind of integers, or refused
 module _ (kind v : ℕ) (h : kind < 6) {r : IntegerAnswer} (e : integerSaid r ≡ cut kind v) where

@@ -1,5 +1,6 @@
 // Numbers of a kind out of bytes, values as stored words, and the kinds that a block's offset may have.
 ghost use mathlib.Core.Path.{_≡_};
+ghost use Rattle.lerc_words.specs.Res.{marked};
 ghost use Rattle.lerc_samples.specs.Samples as Sample;
 ghost use Rattle.lerc_samples.specs.Samples.{sampleAt, offsetKind};
 use lerc_numeric::IntegerAnswer;
@@ -29,7 +30,7 @@ impl OffsetAnswer {
         ensures { λ r. ⌜ r ≡ Sample.refusalOfOffset self ⌝ }
     {
         match self {
-            OffsetAnswer::Kind(_k) => Refusal { number: 0 },
+            OffsetAnswer::Kind(_k) => Refusal { number: 0, at: 0 },
             OffsetAnswer::Refused(why) => why,
         }
     }
@@ -46,7 +47,7 @@ impl SampleAnswer {
         ensures { λ r. ⌜ r ≡ Sample.refusalOfSample self ⌝ }
     {
         match self {
-            SampleAnswer::Value(_v) => Refusal { number: 0 },
+            SampleAnswer::Value(_v) => Refusal { number: 0, at: 0 },
             SampleAnswer::Refused(why) => why,
         }
     }
@@ -63,7 +64,7 @@ impl StoredAnswer {
         ensures { λ r. ⌜ r ≡ Sample.refusalOfStored self ⌝ }
     {
         match self {
-            StoredAnswer::Word(_v) => Refusal { number: 0 },
+            StoredAnswer::Word(_v) => Refusal { number: 0, at: 0 },
             StoredAnswer::Refused(why) => why,
         }
     }
@@ -74,22 +75,22 @@ pub fn offset_kind(kind: u32, code: u32) -> OffsetAnswer
     ensures { λ r. ⌜ Sample.offsetSaid r ≡ offsetKind kind code ⌝ }
 {
     if 7 < kind {
-        return OffsetAnswer::Refused(Refusal { number: 8 });
+        return OffsetAnswer::Refused(Refusal { number: 8, at: 0 });
     }
     if 3 < code {
-        return OffsetAnswer::Refused(Refusal { number: 8 });
+        return OffsetAnswer::Refused(Refusal { number: 8, at: 0 });
     }
     let k = OFFSET_KINDS[kind as usize][code as usize];
     if k < 9 {
         OffsetAnswer::Kind(k as u32)
     } else {
-        OffsetAnswer::Refused(Refusal { number: 8 })
+        OffsetAnswer::Refused(Refusal { number: 8, at: 0 })
     }
 }
 
-// a number of the kind at a place, as a binary64; past the end: 1
+// a number of the kind at a place, as a binary64; past the end: 1 at its first byte
 pub fn read(s: &[u8], at: usize, kind: u32) -> SampleAnswer
-    ensures { λ r. ⌜ Sample.sampleSaid r ≡ sampleAt kind (now (s .entry)) at ⌝ }
+    ensures { λ r. ⌜ Sample.sampleSaid r ≡ marked at (sampleAt kind (now (s .entry)) at) ⌝ }
 {
     let got = lerc_words::word(s, at, lerc_numeric::size(kind));
     let WordAnswer::Word(w) = got else {

@@ -5,7 +5,7 @@ use mathlib.Core.Bool.{Bool, cond, _&&_}
 use mathlib.Core.List.{List}
 use lib.Dec.{ltb, eqb}
 use Rattle.lerc_words.specs.declared.Refusal.{Refusal}
-use Rattle.lerc_words.specs.Res.{Res, ok, fail, _>>=_, refuse, require, wordAt}
+use Rattle.lerc_words.specs.Res.{Res, ok, fail, _>>=_, refuse, marked, require, wordAt}
 use Rattle.lerc_sweep.specs.declared.WayAnswer.{WayAnswer}
 use Rattle.lerc_sweep.specs.declared.WayAnswer.the-variants as answer
 
@@ -18,22 +18,32 @@ abbrev pub hasModeByte : ℕ → ℕ → Bool
 hasModeByte kind error = ltb kind 2 && eqb error 0x3fe0000000000000
 
 -- "0 blocks; 1, 2 refused 10; others 8"
-unfoldable pub modeAt : List ℕ → ℕ → Res Way
-modeAt s at = do
+unfoldable pub modeByte : List ℕ → ℕ → Res Way
+modeByte s at = do
   mode ← wordAt 1 s at
   _ ← require (ltb mode 3) 8
   _ ← require (eqb mode 0) 10
   ok (blocksFrom (at + 1))
+
+-- "the sweep or mode byte for a fault in it, 10 included, or where the missing one should be"
+abbrev pub modeAt : List ℕ → ℕ → Res Way
+modeAt s at = marked at (modeByte s at)
 
 -- where the blocks begin
 unfoldable pub moded : List ℕ → ℕ → ℕ → ℕ → Res Way
 moded s kind error at = cond (hasModeByte kind error) (modeAt s at) (ok (blocksFrom at))
 
 -- "Else a sweep byte: 1 is raw words ..; 0 goes on; others are 8."
-unfoldable pub swept : List ℕ → ℕ → ℕ → ℕ → Res Way
-swept s kind error at = do
+unfoldable pub sweepByte : List ℕ → ℕ → Res ℕ
+sweepByte s at = do
   sweep ← wordAt 1 s at
   _ ← require (ltb sweep 2) 8
+  ok sweep
+
+-- the sweep byte, whose faults are at its place, and the mode byte behind it
+unfoldable pub swept : List ℕ → ℕ → ℕ → ℕ → Res Way
+swept s kind error at = do
+  sweep ← marked at (sweepByte s at)
   cond (eqb sweep 1) (ok (rawFrom (at + 1))) (moded s kind error (at + 1))
 
 -- ---- the answer

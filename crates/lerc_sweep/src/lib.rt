@@ -17,8 +17,8 @@ impl WayAnswer {
         ensures { λ r. ⌜ r ≡ refusalOfWay self ⌝ }
     {
         match self {
-            WayAnswer::Raw(_at) => Refusal { number: 0 },
-            WayAnswer::Blocks(_at) => Refusal { number: 0 },
+            WayAnswer::Raw(_at) => Refusal { number: 0, at: 0 },
+            WayAnswer::Blocks(_at) => Refusal { number: 0, at: 0 },
             WayAnswer::Refused(why) => why,
         }
     }
@@ -33,10 +33,10 @@ fn read_mode(s: &[u8], at: usize) -> WayAnswer
         return WayAnswer::Refused(why);
     };
     if 3 <= mode {
-        return WayAnswer::Refused(Refusal { number: 8 });
+        return WayAnswer::Refused(Refusal { number: 8, at });
     }
     if mode != 0 {
-        return WayAnswer::Refused(Refusal { number: 10 });
+        return WayAnswer::Refused(Refusal { number: 10, at });
     }
     WayAnswer::Blocks(at + 1)
 }
@@ -64,7 +64,7 @@ pub fn read_sweep(s: &[u8], at: usize, kind: u32, error: u64) -> WayAnswer
         return WayAnswer::Refused(why);
     };
     if 2 <= sweep {
-        return WayAnswer::Refused(Refusal { number: 8 });
+        return WayAnswer::Refused(Refusal { number: 8, at });
     }
     if sweep == 1 {
         return WayAnswer::Raw(at + 1);

@@ -13,7 +13,8 @@ use lib.ListN.{length, drop, set, length-set, length-append}
 use lib.Dec.{ltb}
 use lib.Seq.{append-snoc, sets, sets-eq, length-sets, set-out, drop-cons, drop-set-lt, getD-set-same}
 use Rattle.lerc_words.specs.Lists.{over}
-use Rattle.lerc_text.specs.Text.{Put, digits, decimal, line, shapeLine, cellLine, cellLines}
+use Rattle.lerc_text.specs.Ascii.{ascii}
+use Rattle.lerc_text.specs.Text.{Put, digits, decimal, line, refusalLine, shapeLine, cellLine, cellLines}
 
 -- past the end nothing is put
 pub sets-out : (l : List ℕ) (at : ℕ) (text : List ℕ) → length l ≤ at → sets l at text ≡ l
@@ -166,6 +167,10 @@ cells-long (suc n) valid word h =
 pub line-long : (label : List ℕ) (n : ℕ) → length (line label n) ≤ length label + 21
 unfolding line
 line-long label n = simp (length-append) (omega (arith, digits-few 20 n))
+
+pub refusal-long : (number place : ℕ) → length (refusalLine number place) ≤ 53
+unfolding refusalLine
+refusal-long number place = simp (length-append) (omega (arith, digits-few 20 number, line-long (ascii " at ") place))
 
 pub shape-long : (columns rows depth kind valid : ℕ) → length (shapeLine columns rows depth kind valid) ≤ 135
 unfolding shapeLine

@@ -34,6 +34,10 @@ field label n = label ++ decimal n
 unfoldable pub line : List ℕ → ℕ → List ℕ
 line label n = field label n ++ lineEnd
 
+-- "refused 8 at 74"
+unfoldable pub refusalLine : ℕ → ℕ → List ℕ
+refusalLine number place = field (ascii "refused ") number ++ line (ascii " at ") place
+
 -- "width 3 height 1 depth 1 kind 1 valid 3"
 unfoldable pub shapeLine : ℕ → ℕ → ℕ → ℕ → ℕ → List ℕ
 shapeLine columns rows depth kind valid =

@@ -4,7 +4,7 @@ ghost use mathlib.Core.Path.{_≡_};
 ghost use mathlib.Core.List.{List, [], _∷_, _++_};
 ghost use Prim.Native.Nat.{ℕ, _+_, _/_, _<_, min};
 ghost use lib.ListN.{getD};
-ghost use Rattle.lerc_text.specs.Text.{Put, decimal, field, line, shapeLine, cellLine, cellLines, validIn, wordIn};
+ghost use Rattle.lerc_text.specs.Text.{Put, decimal, field, line, refusalLine, shapeLine, cellLine, cellLines, validIn, wordIn};
 
 fn least(a: usize, b: usize) -> usize
     ensures { λ r. ⌜ r ≡ min a b ⌝ }
@@ -71,6 +71,14 @@ pub fn put_line(out: &mut [u8], at: usize, label: &[u8], n: u64) -> usize
 {
     let p = put_field(&mut out[..], at, label, n);
     put_byte(&mut out[..], p, 10)
+}
+
+// the only line of a blob that was refused
+pub fn put_refusal(out: &mut [u8], at: usize, number: u32, place: usize) -> usize
+    ensures { λ r. ⌜ Put (now (out .entry)) at (refusalLine number place) r (now (out .exit)) ⌝ }
+{
+    let p = put_field(&mut out[..], at, b"refused ", number as u64);
+    put_line(&mut out[..], p, b" at ", place as u64)
 }
 
 // the first line of a blob that was read

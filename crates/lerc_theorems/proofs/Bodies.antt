@@ -8,23 +8,24 @@ use native.Mathlib.Omega.{arith}
 use lib.ListN.{length, getD, List·getD-eq-default}
 use lib.Dec.{leb, ltb, eqb}
 use borrow.Author.Tests.{leb-true, eqb-false, ne-eqb}
-use Rattle.lerc_words.specs.Res.{Res, ok, _>>=_, require, wordAt}
+use Rattle.lerc_words.specs.Res.{Res, ok, _>>=_, marked, require, wordAt}
 use Rattle.lerc_words.proofs.Binding.{bind-is, require-is, ok-is, cond-elim}
+use Rattle.lerc_words.proofs.Marking.{marked-is}
 use Rattle.lerc_words.proofs.Little.{wordAt-is}
 use Rattle.lerc_numeric.specs.Kinds.{typeSize}
 use Rattle.lerc_header.specs.declared.Header.{Header}
 use Rattle.lerc_header.specs.Shape.{blockCount}
 use Rattle.lerc_header.specs.Header.{shapeOf, headerBytes, rangesAt}
 use Rattle.lerc_ranges.specs.declared.Ranges.{Ranges}
-use Rattle.lerc_ranges.specs.Ranges.{rangesSays, constantWords}
+use Rattle.lerc_ranges.specs.Ranges.{rangesEnd, codedRanges, pairsRight, wrongNumberAt, rangesSays, constantWords}
 use Rattle.lerc_ranges.proofs.Judged.{RangesKept}
 use Rattle.lerc_block.specs.Block.{Block, rawWords}
 use Rattle.lerc_block.proofs.Accepted.{block-ends}
-use Rattle.lerc_sweep.specs.Sweep.{Way, rawFrom, blocksFrom, hasModeByte, modeAt, moded, swept}
+use Rattle.lerc_sweep.specs.Sweep.{Way, rawFrom, blocksFrom, hasModeByte, modeByte, modeAt, moded, sweepByte, swept}
 use Rattle.lerc_image.specs.Blocks.{Chain, blockAt, chain, allBlocks}
 use Rattle.lerc_image.proofs.Chain.{chain-parts, chain-none, chain-lengths, chain-block}
 use Rattle.lerc_image.proofs.Stages.{getD-any}
-use Rattle.lerc.specs.Meaning.{Body, empty, constant, blocks, rawBody, blockBody, bodyFrom, sweptBody, constantBody, bodySays, endOf}
+use Rattle.lerc.specs.Meaning.{Body, empty, constant, blocks, missingWordAt, rawBody, blockBody, bodyFrom, sweptBody, constantBody, bodySays, endOf}
 
 -- ---- behind the sweep byte
 
@@ -34,9 +35,9 @@ placeOf (blocksFrom at) = at
 
 module _ (s : List ℕ) where
   mode-in : (at : ℕ) (w : Way) → modeAt s at ≡ ok w → (at ≤ placeOf w) × (placeOf w ≤ length s)
-  unfolding modeAt
+  unfolding modeByte
   mode-in at w e =
-      let (mode, p, e) = bind-is (wordAt 1 s at) _ e in
+      let (mode, p, e) = bind-is (wordAt 1 s at) _ (marked-is at (modeByte s at) e) in
       let (_, t8, e) = bind-is (require (ltb mode 3) 8) _ e in
       let (_, t10, e) = bind-is (require (eqb mode 0) 10) _ e in
       let i = wordAt-is 1 s at mode p .inside in
@@ -49,23 +50,52 @@ module _ (s : List ℕ) where
       (λ _. mode-in at w)
       (λ _ e. rw (← ok-is {a = blocksFrom at} {b = w} e) (omega arith, l))
 
+  -- the sweep byte that was read, and that it is 0 or 1
+  pub sweep-is : (at sweep : ℕ) → marked at (sweepByte s at) ≡ ok sweep → (wordAt 1 s at ≡ ok sweep) × (ltb sweep 2 ≡ true)
+  unfolding sweepByte
+  sweep-is at sweep e =
+      let (v, p, e) = bind-is (wordAt 1 s at) _ (marked-is at (sweepByte s at) e) in
+      let (_, t8, e) = bind-is (require (ltb v 2) 8) _ e in
+      rw (← ok-is e) (p, require-is (ltb v 2) 8 t8)
+
   pub swept-in : (kind error at : ℕ) (w : Way) → swept s kind error at ≡ ok w → (at < placeOf w) × (placeOf w ≤ length s)
   unfolding swept
   swept-in kind error at w e =
-      let (sweep, p, e) = bind-is (wordAt 1 s at) _ e in
-      let (_, t8, e) = bind-is (require (ltb sweep 2) 8) _ e in
-      let i = wordAt-is 1 s at sweep p .inside in
+      let (sweep, p, e) = bind-is (marked at (sweepByte s at)) _ e in
+      let i = wordAt-is 1 s at sweep (sweep-is at sweep p .0) .inside in
       let q = cond-elim (λ (x : Res Way). x ≡ ok w → (at + 1 ≤ placeOf w) × (placeOf w ≤ length s)) (eqb sweep 1)
       (λ _ e. rw (← ok-is {a = rawFrom (at + 1)} {b = w} e) (omega arith, omega arith))
       (λ _. moded-in kind error (at + 1) w (omega arith)) e in
       (omega (arith, q .0), q .1)
+
+-- ---- ranges that are read
+
+-- where the header's minimum and maximum differ
+abbrev pub judged : List ℕ → Header → Res Ranges
+judged s h = do
+  _ ← marked (rangesAt h) (require (leb (rangesEnd h) (length s)) 1)
+  _ ← marked (wrongNumberAt h (codedRanges s h)) (require (pairsRight (h .depth) (codedRanges s h)) 7)
+  ok (codedRanges s h)
+
+pub record CodedRight (s : List ℕ) (h : Header) (r : Ranges) : Type 0 where
+  pub fits : rangesEnd h ≤ length s
+  pub right : pairsRight (h .depth) (codedRanges s h) ≡ true
+  pub is : codedRanges s h ≡ r
+
+pub judged-is : (s : List ℕ) (h : Header) (r : Ranges) → judged s h ≡ ok r → CodedRight s h r
+judged-is s h r e =
+    let fit = require (leb (rangesEnd h) (length s)) 1 in
+    let right = require (pairsRight (h .depth) (codedRanges s h)) 7 in
+    let (_, p, e) = bind-is (marked (rangesAt h) fit) _ e in
+    let (_, q, e) = bind-is (marked (wrongNumberAt h (codedRanges s h)) right) _ e in
+    record { fits = leb-true _ _ (require-is _ 1 (marked-is _ fit p)); right = require-is _ 7 (marked-is _ right q); is = ok-is e }
 
 -- ---- chains
 
 module _ (s : List ℕ) (h : Header) (maxima m : List ℕ) where
   pub block-in : (n at : ℕ) (b : Block) → blockAt s h maxima m n at ≡ ok b → (at < b .next) × (b .next ≤ length s)
   unfolding blockAt
-  block-in n at b e = block-ends s at _ _ _ _ _ e
+  block-in n at b e = block-ends s at _ _ _ _ _ (marked-is at _ e)
 
   pub chain-in : (f n at : ℕ) (c : Chain) → at ≤ length s → chain s h maxima m f n at ≡ ok c → (at ≤ c .end) × (c .end ≤ length s)
   chain-in zero n at c l e =
@@ -130,8 +160,9 @@ module _ (s : List ℕ) (h : Header) (m : List ℕ) (y : Body) where
     raw-ends : (at : ℕ) → r .at < at → rawBody s h at ≡ ok y → Ends (rangesAt h) s y
     unfolding rawBody rawWords
     raw-ends at l e =
-        let (b, p, e) = bind-is (rawWords s at (h .kind) (h .valid * h .depth)) _ e in
-        let (_, t, p) = bind-is (require (leb (at + h .valid * h .depth * typeSize (h .kind)) (length s)) 1) _ p in
+        let words = rawWords s at (h .kind) (h .valid * h .depth) in
+        let (b, p, e) = bind-is (marked (missingWordAt (length s) at (h .kind)) words) _ e in
+        let (_, t, p) = bind-is (require (leb (at + h .valid * h .depth * typeSize (h .kind)) (length s)) 1) _ (marked-is _ words p) in
         let z : at + h .valid * h .depth * typeSize (h .kind) ≤ length s = leb-true _ _ (require-is _ 1 t) in
         let n = ap (λ (x : Block). x .next) (ok-is p) in
         rw (← ok-is e, ← n) (omega (arith, k .behind), z)
@@ -194,7 +225,7 @@ module _ (s : List ℕ) (h : Header) (m : List ℕ) (c : Chain) where
   way-is : (r : Ranges) (w : Way) → bodyFrom s h r m w ≡ ok (blocks c) → (from : ℕ) × (w ≡ blocksFrom from) × (allBlocks s h (r .max) m from ≡ ok c)
   unfolding rawBody blockBody
   way-is r (rawFrom at) e =
-      let (ws, p, e) = bind-is (rawWords s at (h .kind) (h .valid * h .depth)) _ e in
+      let (ws, p, e) = bind-is (marked (missingWordAt (length s) at (h .kind)) (rawWords s at (h .kind) (h .valid * h .depth))) _ e in
       absurd (let z : _≡_ {A = ℕ} 0 1 = cc in omega arith)
   way-is r (blocksFrom at) e =
       let (d, p, e) = bind-is (allBlocks s h (r .max) m at) _ e in

@@ -1,12 +1,14 @@
 -- Chains of demands: "the first failing read decides the number".
 -- Assumes nothing.
 use mathlib.Core.Path.{_≡_, _∙_, sym, ap, refl, subst}
-use mathlib.Core.Logic.{_⊎_, inl, inr}
+use mathlib.Core.Logic.{_↔_, _⊎_, inl, inr}
 use mathlib.Core.Bool.{Bool, true, false, cond, _&&_}
 use Prim.Native.Nat.{ℕ}
 use native.Mathlib.Omega.{arith}
 use Rattle.lerc_words.specs.declared.Refusal.{Refusal}
-use Rattle.lerc_words.specs.Res.{Res, ok, fail, _>>=_, refuse, require}
+use Rattle.lerc_words.specs.Res.{Res, ok, fail, _>>=_, refuse, placed, marked, require}
+use Rattle.lerc_words.proofs.Marking.{marked-no, marked-fails}
+use Rattle.lerc_theorems.specs.BlockTable.{At, at-place}
 
 pub fail-is : {A : Type 0} {r q : Refusal} → _≡_ {A = Res A} (fail r) (fail q) → r ≡ q
 fail-is e = cc
@@ -20,10 +22,20 @@ module _ (P : Refusal → Type 0) {j : Refusal} where
   demand true n k e f g = g refl e
   demand false n k e f g = subst P (fail-is e) (f refl)
 
-  -- the same of a link that is itself an answer
+  -- the same of a demand that is told at a place
+  pub demand-at : {B : Type 0} (p : ℕ) (t : Bool) (n : ℕ) (k : Bool → Res B) → (marked p (require t n) >>= k) ≡ fail j → (t ≡ false → P (placed p (refuse n))) → (t ≡ true → k true ≡ fail j → P j) → P j
+  demand-at p true n k e f g = g refl e
+  demand-at p false n k e f g = subst P (fail-is e) (f refl)
+
+  -- of a link that is itself an answer
   pub reading : {A B : Type 0} (m : Res A) (k : A → Res B) → (m >>= k) ≡ fail j → (m ≡ fail j → P j) → ((a : A) → m ≡ ok a → k a ≡ fail j → P j) → P j
   reading (ok a) k e f g = g a refl e
   reading (fail r) k e f g = let z : r ≡ j = cc in f (ap fail z)
+
+  -- of one that is told at a place
+  pub reading-at : {A B : Type 0} (p : ℕ) (m : Res A) (k : A → Res B) → (marked p m >>= k) ≡ fail j → ((why : Refusal) → m ≡ fail why → P (placed p why)) → ((a : A) → m ≡ ok a → k a ≡ fail j → P j) → P j
+  reading-at p (ok a) k e f g = g a refl e
+  reading-at p (fail why) k e f g = subst P (fail-is e) (f why refl)
 
   -- and of one that is refused with one number only
   pub reading-one : {A B : Type 0} (n : ℕ) (m : Res A) (k : A → Res B) → ((r : Refusal) → m ≡ fail r → r ≡ refuse n) → (m >>= k) ≡ fail j → (m ≡ fail (refuse n) → P (refuse n))
@@ -34,6 +46,13 @@ module _ (P : Refusal → Type 0) {j : Refusal} where
   pub choosing : {B : Type 0} (t : Bool) (x y : Res B) → cond t x y ≡ fail j → (t ≡ true → x ≡ fail j → P j) → (t ≡ false → y ≡ fail j → P j) → P j
   choosing true x y e f g = f refl e
   choosing false x y e f g = g refl e
+
+-- what is refused exactly by a table is refused exactly by it at a place
+pub marked-exactly : {A : Type 0} {Refused : Refusal → Type 0} (p : ℕ) (m : Res A) → ((why : Refusal) → (m ≡ fail why) ↔ Refused why) → (why : Refusal) → (marked p m ≡ fail why) ↔ At p Refused why
+marked-exactly {Refused = Refused} p m exactly why = (λ e. let (q, d, z) = marked-fails p m e in rw (z) (at-place (exactly q .0 d)), back)
+  where
+    back : {why : Refusal} → At p Refused why → marked p m ≡ fail why
+    back (at-place r) = marked-no p (exactly _ .1 r)
 
 -- one of two tests fails
 pub and-not : (a b : Bool) → (a && b) ≡ false → (a ≡ false) ⊎ (b ≡ false)

@@ -56,6 +56,7 @@ pair-same p q = rw (p, q)
 
 pub no-room : NoRoom
 no-room = record {
+  refusal-at = given (λ k a. tt) _ (λ k a r x p. p);
   word-refusal = given (λ k a. tt) _ (λ k a r x p. p);
   peek = given (λ k a. tt) _ (λ k a r x p. p);
   bytes = given (λ k a. tt) _ (λ k a r x p. p);
@@ -139,6 +140,7 @@ no-room = record {
   decode-tiles = record { asks-nothing = λ k a. tt; same = λ k a r q x y p s. tiled-same p s };
   fill-each = record { asks-nothing = λ k a. tt; same = λ k a r q x y p s. (p .says ∙ sym (s .says), p .image ∙ sym (s .image)) };
   put-line = record { asks-nothing = λ k a. tt; same = λ k a r q x y p s. put-same p s };
+  put-refusal = record { asks-nothing = λ k a. tt; same = λ k a r q x y p s. put-same p s };
   put-shape = record { asks-nothing = λ k a. tt; same = λ k a r q x y p s. put-same p s };
   put-cells = record { asks-nothing = λ k a. tt; same = λ k a r q x y p s. put-same p s };
   read-refusal = given (λ k a. tt) _ (λ k a r x p. p);

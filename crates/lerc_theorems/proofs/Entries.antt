@@ -4,36 +4,41 @@ use mathlib.Core.Path.{_≡_, ap, refl}
 use mathlib.Core.Logic.{_↔_, _≢_, inl, inr, ⊎-elim}
 use mathlib.Core.Bool.{Bool, true, false, cond, not, _&&_}
 use mathlib.Core.List.{List, [], _∷_}
-use Prim.Native.Nat.{ℕ, zero, suc, _+_, _*_, _<_}
+use Prim.Native.Nat.{ℕ, zero, suc, _+_, _-_, _*_, _/_, _≤_, _<_}
 use native.Mathlib.Omega.{arith}
-use native.Mathlib.Nat.{add-zero, add-suc, suc-add}
+use native.Mathlib.Numerals.{add-one}
+use native.Mathlib.Nat.{add-zero, add-suc, suc-add, suc-mul, mul-le-mul-right, div-mul-le-self, lt-div-mul-add, div-lt-iff-lt-mul, div-eq-of-lt-le}
 use lib.ListN.{length, getD, take}
 use lib.Dec.{leb, ltb, eqb}
 use borrow.Author.Tests.{ltb-true, ltb-false, lt-ltb, le-ltb, leb-true, leb-false, le-leb, lt-leb, eqb-false, ne-eqb, not-true, not-false}
 use Rattle.lerc_words.specs.declared.Refusal.{Refusal}
-use Rattle.lerc_words.specs.Res.{ok, fail, refuse, wordAt}
-use Rattle.lerc_words.proofs.Binding.{bind-is, and-is, ok-is}
+use Rattle.lerc_words.specs.Res.{ok, fail, refuse, placed, require, wordAt}
+use Rattle.lerc_words.proofs.Binding.{bind-is, require-is, and-is, ok-is}
+use Rattle.lerc_words.proofs.Marking.{marked-fails}
 use Rattle.lerc_words.proofs.Little.{wordAt-fails, wordAt-no}
 use Rattle.lerc_numeric.specs.Kinds.{typeSize}
+use Rattle.lerc_numeric.proofs.Integers.{size-ge}
 use Rattle.lerc_header.specs.declared.Header.{Header}
 use Rattle.lerc_header.specs.Header.{shapeOf, headerSays}
 use Rattle.lerc_header.specs.Shape.{cells, maskLength, blockCount}
 use Rattle.lerc_ranges.specs.declared.Ranges.{Ranges}
+use Rattle.lerc_mask.specs.Mask.{maskField}
 use Rattle.lerc_validity.specs.Validity.{bytesOf, maskSays}
 use Rattle.lerc_ranges.specs.Ranges.{pairsRight, rangesSays, constantWords}
-use Rattle.lerc_block.specs.Block.{Block, rawWords}
+use Rattle.lerc_block.specs.Block.{Block, rawWords, blockSays}
 use Rattle.lerc_image.specs.Geometry.{tileOf, validInTile}
-use Rattle.lerc_sweep.specs.Sweep.{Way, rawFrom, blocksFrom, hasModeByte, modeAt, moded, swept}
+use Rattle.lerc_sweep.specs.Sweep.{Way, rawFrom, blocksFrom, hasModeByte, modeByte, modeAt, moded, sweepByte, swept}
 use Rattle.lerc_image.specs.Blocks.{Chain, blockAt, chain, allBlocks}
 use Rattle.lerc_image.specs.Walk.{wayWalked, bodyWalked, walkSays}
 use Rattle.lerc_image.specs.Fill.{fillSays}
 use Rattle.lerc_image.specs.Tiles.{checkedTiles, tilesSays}
-use Rattle.lerc.specs.Meaning.{rawBody, blockBody, bodyFrom, sweptBody, constantBody, bodySays, meaningFrom}
+use Rattle.lerc.specs.Meaning.{missingWordAt, rawBody, blockBody, bodyFrom, sweptBody, constantBody, bodySays, meaningFrom}
 use Rattle.lerc.specs.Read.{Lent, room, Masked, masked, readSays}
 use Rattle.lerc_theorems.specs.Table.{ModeRefused, mode-cut, mode-wrong, mode-coded, SweepRefused, sweep-cut, sweep-wrong, mode-refused, BlockAtRefused, ChainRefused, block-refused, WalkBodyRefused, walk-sweep, walk-raw, walk-blocks, WalkRoom, WalkRefused, walk-held, walk-room, walk-pairs, walk-other, walk-body, FillRoom, NoFillRoom, FillRefused, fill-held, fill-number, fill-room, fill-pairs, fill-block, CheckRefused, check-held, check-room, check-blocks, TilesRefused, tiles-held, tiles-room, tiles-blocks, BodyRefused, body-ranges, body-constant, body-sweep, body-raw, body-blocks, WholeRefused, whole-header, whole-room, whole-mask, whole-body}
 use Rattle.lerc_theorems.proofs.Wrong.{pairs-not, not-pairs}
 use Rattle.lerc_theorems.proofs.Wrong as wrong
-use Rattle.lerc_theorems.proofs.Demands.{fail-is, demand, reading, reading-one, choosing, not-refused, and-not, and-first, and-second}
+use Rattle.lerc_theorems.proofs.Demands.{fail-is, demand, reading, reading-at, reading-one, choosing, not-refused, marked-exactly, and-not, and-first, and-second}
+use Rattle.lerc_theorems.proofs.Bodies.{swept-in}
 use Rattle.lerc_theorems.proofs.Blocks.{word-one, constants-exactly, block-exactly}
 use Rattle.lerc_theorems.proofs.Headers.{right-held, held-exactly, holding, header-exactly, mask-exactly, ranges-exactly}
 
@@ -41,35 +46,50 @@ use Rattle.lerc_theorems.proofs.Headers.{right-held, held-exactly, hold
 
 module _ (s : List ℕ) where
   mode-at : {n : Refusal} (at : ℕ) → modeAt s at ≡ fail n → ModeRefused s at n
-  unfolding modeAt
+  unfolding modeByte
   mode-at at e =
-      let P = ModeRefused s at in
-      reading-one P 1 (wordAt 1 s at) _ (word-one 1 s at) e (λ d. mode-cut (wordAt-fails 1 s at d)) (λ v d e.
+      let P : Refusal → Type 0 = λ q. ModeRefused s at (placed at q) in
+      let (_, e, z) = marked-fails at (modeByte s at) e in
+      rw (z) (reading-one P 1 (wordAt 1 s at) _ (word-one 1 s at) e (λ d. mode-cut (wordAt-fails 1 s at d)) (λ v d e.
       demand P (ltb v 3) 8 _ e (λ t. mode-wrong v d (ltb-false _ _ t)) (λ t e.
       let l = ltb-true v 3 t in
-      demand P (eqb v 0) 10 _ e (λ u. let z : v ≢ 0 = eqb-false v 0 u in mode-coded v d (omega (arith, z)) (omega arith)) (λ u e. not-refused e)))
+      demand P (eqb v 0) 10 _ e (λ u. let z : v ≢ 0 = eqb-false v 0 u in mode-coded v d (omega (arith, z)) (omega arith)) (λ u e. not-refused e))))
 
   at-mode : {n : Refusal} {at : ℕ} → ModeRefused s at n → modeAt s at ≡ fail n
-  unfolding modeAt
+  unfolding modeByte
   at-mode (mode-cut l) = rw (wordAt-no 1 s _ l)
   at-mode (mode-wrong v d l) = rw (d, le-ltb v 3 l)
   at-mode (mode-coded v d l u) = let a : v < 3 = omega arith in let z : v ≢ 0 = λ q. absurd (omega arith) in rw (d, lt-ltb v 3 a, ne-eqb v 0 z)
 
+  -- a sweep byte that was accepted
+  sweep-is : {v : ℕ} (at : ℕ) → sweepByte s at ≡ ok v → (wordAt 1 s at ≡ ok v) × (v < 2)
+  unfolding sweepByte
+  sweep-is at e =
+      let (w, d, e) = bind-is (wordAt 1 s at) _ e in
+      let (_, t, e) = bind-is (require (ltb w 2) 8) _ e in
+      rw (← ok-is e) (d, ltb-true _ _ (require-is _ 8 t))
+
   module _ (kind error at : ℕ) where
+    sweep-at : {n : Refusal} → sweepByte s at ≡ fail n → SweepRefused s kind error at (placed at n)
+    unfolding sweepByte
+    sweep-at e =
+        let P : Refusal → Type 0 = λ q. SweepRefused s kind error at (placed at q) in
+        reading-one P 1 (wordAt 1 s at) _ (word-one 1 s at) e (λ d. sweep-cut (wordAt-fails 1 s at d)) (λ v d e.
+        demand P (ltb v 2) 8 _ e (λ t. sweep-wrong v d (ltb-false _ _ t)) (λ t e. not-refused e))
+
     sweep-refused : {n : Refusal} → swept s kind error at ≡ fail n → SweepRefused s kind error at n
     unfolding swept moded
     sweep-refused e =
         let P = SweepRefused s kind error at in
-        reading-one P 1 (wordAt 1 s at) _ (word-one 1 s at) e (λ d. sweep-cut (wordAt-fails 1 s at d)) (λ v d e.
-        demand P (ltb v 2) 8 _ e (λ t. sweep-wrong v d (ltb-false _ _ t)) (λ t e.
-        let l = ltb-true v 2 t in
+        reading-at P at (sweepByte s at) _ e (λ q d. sweep-at d) (λ v d e.
+        let (d, l) = sweep-is at d in
         choosing P (eqb v 1) _ _ e (λ u e. not-refused e) (λ u e.
         let o : v ≢ 1 = eqb-false v 1 u in
         let z : v ≡ 0 = omega (arith, o) in
-        choosing P (hasModeByte kind error) _ _ e (λ m e. mode-refused (rw (z) at d) m (mode-at (at + 1) e)) (λ m e. not-refused e))))
+        choosing P (hasModeByte kind error) _ _ e (λ m e. mode-refused (rw (z) at d) m (mode-at (at + 1) e)) (λ m e. not-refused e)))
 
     refused-sweep : {n : Refusal} → SweepRefused s kind error at n → swept s kind error at ≡ fail n
-    unfolding swept moded
+    unfolding swept sweepByte moded
     refused-sweep (sweep-cut l) = rw (wordAt-no 1 s at l)
     refused-sweep (sweep-wrong v d l) = rw (d, le-ltb v 2 l)
     refused-sweep (mode-refused d m r) = rw (d, m, at-mode r)
@@ -84,7 +104,9 @@ module _ (s : List ℕ) (h : Header) (maxima m : List ℕ) where
   unfolding blockAt
   block-at-exactly n at j =
       let t = tileOf (shapeOf h) n in
-      block-exactly s (h .kind) (h .error) (getD maxima (t .d) 0) at (t .x) (validInTile (shapeOf h) m t) j
+      let top = getD maxima (t .d) 0 in
+      let k = validInTile (shapeOf h) m t in
+      marked-exactly at (blockSays s at (h .kind) (h .error) top (t .x) k) (block-exactly s (h .kind) (h .error) top at (t .x) k) j
 
   chain-refused : {j : Refusal} (f n at : ℕ) → chain s h maxima m f n at ≡ fail j → ChainRefused s h maxima m f n at j
   unfolding chain
@@ -123,7 +145,7 @@ module _ (s : List ℕ) (h : Header) (r : Ranges) (m : List ℕ) where
   unfolding bodyWalked wayWalked
   walk-body-refused {n} e = reading (WalkBodyRefused s h r m) (swept s (h .kind) (h .error) (r .at)) _ e (λ d. walk-sweep (sweep-exactly s (h .kind) (h .error) (r .at) n .0 d)) (λ w d e. on w d e)
     where
-      on : (w : Way) → swept s (h .kind) (h .error) (r .at) ≡ ok w → wayWalked s h (r .max) m w ≡ fail n → WalkBodyRefused s h r m n
+      on : (w : Way) → swept s (h .kind) (h .error) (r .at) ≡ ok w → wayWalked s h (r .max) m (r .at) w ≡ fail n → WalkBodyRefused s h r m n
       on (rawFrom at) d e = rw (← fail-is e) (walk-raw at d)
       on (blocksFrom at) d e = walk-blocks at d (chain-exactly s h (r .max) m (blockCount (shapeOf h)) 0 at n .0 e)
 
@@ -254,6 +276,25 @@ module _ (b : List ℕ) (h : Header) (m maxima : List ℕ) (at entries words : �
   pub tiles-exactly : (j : Refusal) → (tilesSays b h m maxima at entries words ≡ fail j) ↔ TilesRefused b h m maxima at entries words j
   tiles-exactly j = (tiles-refused, refused-tiles)
 
+-- ---- raw words
+
+module _ (len at size n : ℕ) (pos : 0 < size) where
+  -- n words pass the end: behind those that are whole the next is one of them
+  word-missing : at ≤ len → len < at + n * size → ((len - at) / size < n) × (at + (len - at) / size * size ≤ len) × (len < at + (len - at) / size * size + size)
+  word-missing l m =
+      let a : len - at < n * size = omega arith in
+      let b = div-mul-le-self (len - at) size in
+      let c = lt-div-mul-add {a = len - at} {b = size} pos in
+      (div-lt-iff-lt-mul pos .1 a, omega arith, omega arith)
+
+  -- one of n words is the first that is not whole: so they pass the end, and it is behind those that are whole
+  missing-word : (k : ℕ) → k < n → at + k * size ≤ len → len < at + k * size + size → (len < at + n * size) × ((len - at) / size ≡ k)
+  missing-word k l m o =
+      let a : k * size ≤ len - at = omega arith in
+      let b : len - at < (k + 1) * size = rw (add-one, suc-mul) (omega arith) in
+      let c : suc k ≤ n = omega arith in
+      (omega (arith, mul-le-mul-right size c, suc-mul k size), div-eq-of-lt-le size a b)
+
 -- ---- whole read
 
 module _ (s : List ℕ) (h : Header) (m : List ℕ) where
@@ -268,9 +309,13 @@ module _ (s : List ℕ) (h : Header) (m : List ℕ) where
     where
       on : r .constant ≡ false → (w : Way) → swept s (h .kind) (h .error) (r .at) ≡ ok w → bodyFrom s h r m w ≡ fail n → BodyRefused s h m n
       on c (rawFrom at) q e =
-          let P = BodyRefused s h m in
+          let place = missingWordAt (length s) at (h .kind) in
           let t = leb (at + h .valid * h .depth * typeSize (h .kind)) (length s) in
-          reading P (rawWords s at (h .kind) (h .valid * h .depth)) _ e (λ w. demand P t 1 _ w (λ u. body-raw r at v d c q (leb-false _ _ u)) (λ u e. not-refused e)) (λ k w e. not-refused e)
+          let l = swept-in s (h .kind) (h .error) (r .at) (rawFrom at) q .1 in
+          reading-at (BodyRefused s h m) place (rawWords s at (h .kind) (h .valid * h .depth)) _ e
+          (λ _ w. demand (λ why. BodyRefused s h m (placed place why)) t 1 _ w
+          (λ u. let (a, b, o) = word-missing (length s) at (typeSize (h .kind)) (h .valid * h .depth) (size-ge (h .kind)) l (leb-false _ _ u) in body-raw r at _ v d c q a b o) (λ u e. not-refused e))
+          (λ k w e. not-refused e)
       on c (blocksFrom at) q e =
           reading (BodyRefused s h m) (allBlocks s h (r .max) m at) _ e (λ w. body-blocks r at v d c q (chain-exactly s h (r .max) m (blockCount (shapeOf h)) 0 at n .0 w)) (λ k w e. not-refused e)
 
@@ -287,7 +332,9 @@ module _ (s : List ℕ) (h : Header) (m : List ℕ) where
   refused-body {n} (body-ranges v d) = rw (ne-eqb _ _ v, ranges-exactly s h n .1 d)
   refused-body {n} (body-constant r v d c w) = rw (ne-eqb _ _ v, d, c, constants-exactly (h .depth) (h .kind) (r .min) n .1 w)
   refused-body {n} (body-sweep r v d c w) = rw (ne-eqb _ _ v, d, c, sweep-exactly s (h .kind) (h .error) (r .at) n .1 w)
-  refused-body (body-raw r at v d c w l) = rw (ne-eqb _ _ v, d, c, w, lt-leb _ _ l)
+  refused-body (body-raw r at k v d c w l u o) =
+      let (p, z) = missing-word (length s) at (typeSize (h .kind)) (h .valid * h .depth) (size-ge (h .kind)) k l u o in
+      rw (ne-eqb _ _ v, d, c, w, lt-leb _ _ p, z)
   refused-body {n} (body-blocks r at v d c w k) = rw (ne-eqb _ _ v, d, c, w, chain-exactly s h (r .max) m (blockCount (shapeOf h)) 0 at n .1 k)
 
   pub body-exactly : (n : Refusal) → (bodySays s h m ≡ fail n) ↔ BodyRefused s h m n
@@ -318,7 +365,7 @@ module _ (b : List ℕ) (reuse : Bool) (l : Lent) where
   unfolding readSays masked meaningFrom
   refused-whole {n} (whole-header d) = rw (header-exactly b n .1 d)
   refused-whole (whole-room h d t) = rw (d, wrong.not-room h l t)
-  refused-whole (whole-mask h d t w) = rw (d, t, mask-exactly (take (h .size) b) h reuse (l .kept) (refuse 6) .1 (refl, w))
+  refused-whole (whole-mask h d t w) = rw (d, t, mask-exactly (take (h .size) b) h reuse (l .kept) (placed maskField (refuse 6)) .1 (refl, w))
   refused-whole (whole-body k d w) = refused-behind k d w
 
   pub whole-exactly : (n : Refusal) → (readSays b reuse l ≡ fail n) ↔ WholeRefused b reuse l n

@@ -18,12 +18,12 @@ use Rattle.lerc_header.specs.declared.Header.{Header}
 use Rattle.lerc_header.specs.Shape.{strips}
 use Rattle.lerc_header.specs.Header.{errorRight, pairRight, fieldsRight, withinCeilings, held, keyRight, headerOf, headerSays}
 use Rattle.lerc_ranges.specs.declared.Ranges.{Ranges}
-use Rattle.lerc_validity.specs.Validity.{new, uniform, maskSays}
+use Rattle.lerc_validity.specs.Validity.{new, uniform, maskIn}
 use Rattle.lerc_ranges.specs.Ranges.{numberAt, byDepth, codedRanges, pairsRight, rangesSays, readRangesSays}
 use Rattle.lerc_block.specs.Block.{levelBlock, offsetAt, finiteOffset, offsetBlock, formed, flagAt, blockSays}
 use Rattle.lerc_image.specs.Geometry.{tileOf, pixelOf, blockOf, placeIn, rank, isValidCell}
 use Rattle.lerc_image.specs.Paint.{painted, inBlock, indexOf}
-use Rattle.lerc_sweep.specs.Sweep.{moded, swept}
+use Rattle.lerc_sweep.specs.Sweep.{moded, sweepByte, swept}
 use Rattle.lerc_image.specs.Blocks.{blockAt, chain}
 use Rattle.lerc_image.specs.declared.FillAnswer.{FillAnswer}
 use Rattle.lerc_image.specs.declared.FillAnswer.the-variants as fill-answer
@@ -83,8 +83,8 @@ example = record {
 
 pub opened : Opened example
 unfolding bytesOf wordAt little each from count allTo mag code sum countedSum scaled less same lesser integer valueOf whole cut sampleAt stored offsetKinds offsetKind pixelValid strips errorRight pairRight
-    fieldsRight withinCeilings held keyRight headerOf headerSays uniform maskSays numberAt byDepth codedRanges pairsRight rangesSays readRangesSays levelBlock
-    offsetAt finiteOffset offsetBlock formed flagAt blockSays tileOf pixelOf rank blockAt chain moded swept blockBody sweptBody bodySays meaningFrom meaning size span climb
+    fieldsRight withinCeilings held keyRight headerOf headerSays uniform maskIn numberAt byDepth codedRanges pairsRight rangesSays readRangesSays levelBlock
+    offsetAt finiteOffset offsetBlock formed flagAt blockSays tileOf pixelOf rank blockAt chain moded sweepByte swept blockBody sweptBody bodySays meaningFrom meaning size span climb
 opened = record {
   means = refl;
   kept = omega arith;

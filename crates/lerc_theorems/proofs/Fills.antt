@@ -50,10 +50,10 @@ pub record Walking (b : List ℕ) (h : Header) (r : Ranges) (m : List ℕ) (entr
 
 module _ (s : List ℕ) (h : Header) (maxima m : List ℕ) (c : Chain) where
   -- the sweep byte announced blocks
-  way-is : (w : Way) → wayWalked s h maxima m w ≡ ok c → (from : ℕ) × (w ≡ blocksFrom from) × (allBlocks s h maxima m from ≡ ok c)
+  way-is : (sweep : ℕ) (w : Way) → wayWalked s h maxima m sweep w ≡ ok c → (from : ℕ) × (w ≡ blocksFrom from) × (allBlocks s h maxima m from ≡ ok c)
   unfolding wayWalked
-  way-is (rawFrom at) e = absurd (let z : _≡_ {A = ℕ} 0 1 = cc in omega arith)
-  way-is (blocksFrom at) e = (at, refl, e)
+  way-is sweep (rawFrom at) e = absurd (let z : _≡_ {A = ℕ} 0 1 = cc in omega arith)
+  way-is sweep (blocksFrom at) e = (at, refl, e)
 
 pub walk-is : (b : List ℕ) (h : Header) (r : Ranges) (m : List ℕ) (entries : ℕ) (c : Chain) → walkSays b h r m entries ≡ ok c → Walking b h r m entries c
 unfolding walkSays bodyWalked
@@ -66,7 +66,7 @@ walk-is b h r m entries c e =
     let (_, t10, e) = bind-is (require (ltb 0 (h .valid) && not (r .constant)) 10) _ e in
     let (v, n) = and-is (ltb 0 (h .valid)) (not (r .constant)) (require-is _ 10 t10) in
     let (w, sw, e) = bind-is (swept (take (h .size) b) (h .kind) (h .error) (r .at)) _ e in
-    let (at, u, a) = way-is (take (h .size) b) h (r .max) m c w e in
+    let (at, u, a) = way-is (take (h .size) b) h (r .max) m c (r .at) w e in
     record {
       kept = rw (i) at p;
       mask = rw (i) at (leb-true (x .mask) (length m) k);

@@ -10,9 +10,10 @@ use lib.ListN.{length, getD, take, drop, replicate}
 use lib.Seq.{getD-take, take-take, take-nil}
 use lib.Dec.{leb, ltb, eqb}
 use borrow.Author.Tests.{le-leb, ltb-true, eqb-false}
-use Rattle.lerc_words.specs.Res.{ok, _>>=_, require, each, little, wordAt}
+use Rattle.lerc_words.specs.Res.{ok, _>>=_, marked, require, each, little, wordAt}
 use Rattle.lerc_words.specs.Lists.{tabulate}
 use Rattle.lerc_words.proofs.Binding.{bind-is, require-is, ok-is}
+use Rattle.lerc_words.proofs.Marking.{marked-ok, marked-is}
 use Rattle.lerc_words.proofs.Little.{Stays, little-same, wordAt-is, wordAt-ok}
 use Rattle.lerc_words.proofs.Tables.{tabulate-same}
 use Rattle.lerc_numeric.specs.Numeric.{same}
@@ -30,13 +31,14 @@ use Rattle.lerc_header.specs.Limits.{depthLimit}
 use Rattle.lerc_header.specs.Shape.{pixels, blockCount}
 use Rattle.lerc_header.specs.Header.{shapeOf, headerBytes, rangesAt}
 use Rattle.lerc_ranges.specs.declared.Ranges.{Ranges}
-use Rattle.lerc_validity.specs.Validity.{uniform, kept, unrolled, maskSays}
-use Rattle.lerc_ranges.specs.Ranges.{uniformRanges, numberAt, byDepth, maximaAt, rangesEnd, codedRanges, pairsRight, rangesSays, constantWords}
-use Rattle.lerc_sweep.specs.Sweep.{Way, rawFrom, blocksFrom, hasModeByte, modeAt, moded, swept}
+use Rattle.lerc_mask.specs.Mask.{maskField}
+use Rattle.lerc_validity.specs.Validity.{uniform, kept, unrolled, maskIn, maskSays}
+use Rattle.lerc_ranges.specs.Ranges.{uniformRanges, numberAt, byDepth, maximaAt, rangesEnd, codedRanges, rangesSays, constantWords}
+use Rattle.lerc_sweep.specs.Sweep.{Way, rawFrom, blocksFrom, hasModeByte, modeByte, modeAt, moded, sweepByte, swept}
 use Rattle.lerc_image.specs.Blocks.{Chain, blockAt, chain, allBlocks}
 use Rattle.lerc_image.proofs.Chain.{chain-none, chain-front, chain-parts}
-use Rattle.lerc.specs.Meaning.{Body, empty, rawBody, blockBody, bodyFrom, sweptBody, constantBody, bodySays, endOf}
-use Rattle.lerc_theorems.proofs.Bodies.{placeOf, swept-in, block-in, chain-in}
+use Rattle.lerc.specs.Meaning.{Body, empty, missingWordAt, rawBody, blockBody, bodyFrom, sweptBody, constantBody, bodySays, endOf}
+use Rattle.lerc_theorems.proofs.Bodies.{placeOf, sweep-is, swept-in, judged, judged-is, block-in, chain-in}
 
 -- they agree in the bytes from j up to k, and the second has them
 pub record Agree (s t : List ℕ) (j k : ℕ) : Type 0 where
@@ -158,7 +160,7 @@ module _ {s t : List ℕ} {j k : ℕ} (a : Agree s t j k) where
   module _ (h : Header) (maxima m : List ℕ) where
     pub at-agrees : (n at : ℕ) (b : Block) → j ≤ at → b .next ≤ k → blockAt s h maxima m n at ≡ ok b → blockAt t h maxima m n at ≡ ok b
     unfolding blockAt
-    at-agrees n at b o l e = block-agrees (h .kind) (h .error) _ _ b l at _ o e
+    at-agrees n at b o l e = marked-ok at (block-agrees (h .kind) (h .error) _ _ b l at _ o (marked-is at _ e))
 
     pub chain-agrees : (f n at : ℕ) (c : Chain) → j ≤ at → c .end ≤ k → chain s h maxima m f n at ≡ ok c → chain t h maxima m f n at ≡ ok c
     chain-agrees zero n at c o l e = chain-none t h maxima m n at ∙ sym (chain-none s h maxima m n at) ∙ e
@@ -176,21 +178,21 @@ module _ {s t : List ℕ} {j k : ℕ} (a : Agree s t j k) where
   -- ---- the bytes in front of a body
 
   mode-agrees : (at : ℕ) (w : Way) → j ≤ at → placeOf w ≤ k → modeAt s at ≡ ok w → modeAt t at ≡ ok w
-  unfolding modeAt
+  unfolding modeByte
   mode-agrees at w o l e =
-      let (mode, p, e) = bind-is (wordAt 1 s at) _ e in
+      let (mode, p, e) = bind-is (wordAt 1 s at) _ (marked-is at (modeByte s at) e) in
       let (_, q, e) = bind-is (require (ltb mode 3) 8) _ e in
       let (_, r, e) = bind-is (require (eqb mode 0) 10) _ e in
       let z : at + 1 ≡ placeOf w = ap placeOf (ok-is e) in
       rw (word-agrees 1 at mode p o (omega (arith, z)), require-is (ltb mode 3) 8 q, require-is (eqb mode 0) 10 r) e
 
   pub sweep-agrees : (kind error at : ℕ) (w : Way) → j ≤ at → placeOf w ≤ k → swept s kind error at ≡ ok w → swept t kind error at ≡ ok w
-  unfolding swept moded
+  unfolding swept sweepByte moded
   sweep-agrees kind error at w o l e =
       let d = swept-in s kind error at w e in
-      let (sweep, p, e) = bind-is (wordAt 1 s at) _ e in
-      let (_, q, e) = bind-is (require (ltb sweep 2) 8) _ e in
-      rw (word-agrees 1 at sweep p o (omega (arith, d .0)), require-is (ltb sweep 2) 8 q) (go (eqb sweep 1) (hasModeByte kind error) e)
+      let (sweep, p, e) = bind-is (marked at (sweepByte s at)) _ e in
+      let (w, q) = sweep-is s at sweep p in
+      rw (word-agrees 1 at sweep w o (omega (arith, d .0)), q) (go (eqb sweep 1) (hasModeByte kind error) e)
     where
       go : (x y : Bool) → cond x (ok (rawFrom (at + 1))) (cond y (modeAt s (at + 1)) (ok (blocksFrom (at + 1)))) ≡ ok w
           → cond x (ok (rawFrom (at + 1))) (cond y (modeAt t (at + 1)) (ok (blocksFrom (at + 1)))) ≡ ok w
@@ -226,15 +228,14 @@ module _ {s t : List ℕ} {k : ℕ} (a : Agree s t 0 k) where
     ranges-agrees r l = go (same (h .min) (h .max))
       where
         go : (x : Bool)
-            → cond x (ok (uniformRanges h)) (require (leb (rangesEnd h) (length s)) 1 >>= λ _. require (pairsRight (h .depth) (codedRanges s h)) 7 >>= λ _. ok (codedRanges s h)) ≡ ok r
-            → cond x (ok (uniformRanges h)) (require (leb (rangesEnd h) (length t)) 1 >>= λ _. require (pairsRight (h .depth) (codedRanges t h)) 7 >>= λ _. ok (codedRanges t h)) ≡ ok r
+            → cond x (ok (uniformRanges h)) (judged s h) ≡ ok r
+            → cond x (ok (uniformRanges h)) (judged t h) ≡ ok r
         go true e = e
         go false e =
-            let (_, p, e) = bind-is (require (leb (rangesEnd h) (length s)) 1) _ e in
-            let (_, q, e) = bind-is (require (pairsRight (h .depth) (codedRanges s h)) 7) _ e in
-            let z : rangesEnd h ≡ r .at = ap (λ (x : Ranges). x .at) (ok-is e) in
+            let k = judged-is s h r e in
+            let z : rangesEnd h ≡ r .at = ap (λ (x : Ranges). x .at) (k .is) in
             let y : rangesEnd h ≤ length t = omega (arith, a .room, z) in
-            rw (le-leb _ _ y, ← coded-agrees a h (omega arith) (omega (arith, z)), require-is (pairsRight (h .depth) (codedRanges s h)) 7 q) e
+            rw (le-leb _ _ y, ← coded-agrees a h (omega arith) (omega (arith, z)), k .right) (ap ok (k .is))
 
     -- ---- the body
 
@@ -249,7 +250,9 @@ module _ {s t : List ℕ} {k : ℕ} (a : Agree s t 0 k) where
       from-agrees : (r : Ranges) (w : Way) → placeOf w ≤ length s → bodyFrom s h r m w ≡ ok y → (placeOf w ≤ k) × (bodyFrom t h r m w ≡ ok y)
       unfolding rawBody blockBody
       from-agrees r (rawFrom at) o e =
-          let (b, p, e) = bind-is (rawWords s at (h .kind) (h .valid * h .depth)) _ e in
+          let words = rawWords s at (h .kind) (h .valid * h .depth) in
+          let (b, p, e) = bind-is (marked (missingWordAt (length s) at (h .kind)) words) _ e in
+          let p = marked-is _ words p in
           let z : b .next ≡ endOf y = ap endOf (ok-is e) in
           (omega (arith, raw-next a at (h .kind) (h .valid * h .depth) b p, z), rw (raw-agrees a at (h .kind) (h .valid * h .depth) b p (omega arith) (omega (arith, z))) e)
       from-agrees r (blocksFrom at) o e =
@@ -296,8 +299,8 @@ module _ (s t : List ℕ) (k : ℕ) (front : take k s ≡ take k t) where
 
   -- where there is no valid pixel it is not looked at
   pub mask-agrees : (h : Header) (reuse : Bool) (old : List ℕ) → ((h .valid ≡ 0 → ⊥) → rangesAt h ≤ k) → maskSays s h reuse old ≡ maskSays t h reuse old
-  unfolding maskSays unrolled
-  mask-agrees h reuse old f = go (eqb (h .valid) 0) refl
+  unfolding maskIn unrolled
+  mask-agrees h reuse old f = ap (marked maskField) (go (eqb (h .valid) 0) refl)
     where
       go : (x : Bool) → eqb (h .valid) 0 ≡ x
           → cond x (uniform h 0) (cond (eqb (h .valid) (pixels (shapeOf h))) (uniform h 255) (cond (eqb (h .mask) 0) (kept h reuse old) (unrolled s h)))

@@ -1,32 +1,34 @@
 -- When a header, a mask or ranges are refused: the table holds exactly.
 -- Assumes nothing.
-use mathlib.Core.Path.{_≡_, _∙_, refl, subst}
+use mathlib.Core.Path.{_≡_, _∙_, ap, refl, subst}
 use mathlib.Core.Logic.{_↔_, _≢_, _⊎_, inl, inr, ⊎-elim}
 use mathlib.Core.Bool.{Bool, true, false, cond, _&&_}
 use mathlib.Core.List.{List}
-use Prim.Native.Nat.{ℕ}
+use Prim.Native.Nat.{ℕ, _+_, _*_, _≤_}
 use native.Mathlib.Omega.{arith}
-use lib.ListN.{length, take, drop}
+use lib.ListN.{length, getD, take, drop}
 use lib.Dec.{leb, eqb}
 use borrow.Author.Tests.{leb-true, leb-false, le-leb, lt-leb, eqb-true, eqb-false, eq-eqb, ne-eqb}
 use Rattle.lerc_words.specs.declared.Refusal.{Refusal}
-use Rattle.lerc_words.specs.Res.{Res, ok, fail, _>>=_, refuse, require}
+use Rattle.lerc_words.specs.Res.{Res, ok, fail, _>>=_, refuse, placed, require}
 use Rattle.lerc_words.proofs.Binding.{bind-is, require-is, and-is}
-use Rattle.lerc_numeric.specs.Numeric.{same}
+use Rattle.lerc_words.proofs.Marking.{marked-no, marked-fails}
+use Rattle.lerc_numeric.specs.Numeric.{same, finite}
+use Rattle.lerc_numeric.specs.Kinds.{typeSize}
 use Rattle.lerc_header.specs.declared.Header.{Header}
 use Rattle.lerc_header.specs.declared.Extent.{Extent}
 use Rattle.lerc_header.specs.Limits.{depthLimit}
-use Rattle.lerc_header.specs.Header.{headerBytes, rangesAt, shapeOf, extentOf, fieldsRight, withinCeilings, keyRight, headerOf, held, headerSays}
+use Rattle.lerc_header.specs.Header.{headerBytes, rangesAt, shapeOf, extentOf, pairRight, fieldsRight, withinCeilings, keyRight, headerOf, held, headerSays}
 use Rattle.lerc_header.specs.Shape.{pixels, maskLength}
 use Rattle.lerc_header.proofs.Kept.{held-is}
-use Rattle.lerc_mask.specs.Mask.{validBelow, coded}
+use Rattle.lerc_mask.specs.Mask.{validBelow, coded, maskField}
 use Rattle.lerc_mask.proofs.Runs.{coded-six}
-use Rattle.lerc_validity.specs.Validity.{uniform, kept, unrolled, maskSays, findSays, prepareSays}
-use Rattle.lerc_ranges.specs.Ranges.{rangesEnd, codedRanges, pairsRight, rangesSays, rangesInSays, readRangesSays}
-use Rattle.lerc_theorems.specs.Table.{HeldRight, HeldRefused, field-wrong, ceiling-passed, blob-cut, HeaderRefused, header-cut, key-wrong, not-held, UniformMask, MaskWrong, uniform-coded, not-allowed, miscounted, runs-wrong, FindRefused, find-room, section-cut, find-wrong, PrepareRefused, mask-held, mask-room, mask-wrong, RangesRefused, ranges-cut, pairs-wrong, RangesInRefused, depths-many, ranges-not-in, ReadRangesRefused, ranges-held, ranges-wrong}
+use Rattle.lerc_validity.specs.Validity.{uniform, kept, unrolled, maskIn, maskSays, findSays, prepareSays}
+use Rattle.lerc_ranges.specs.Ranges.{maximaAt, rangesEnd, codedRanges, pairsRight, wrongNumberAt, rangesSays, rangesInSays, readRangesSays}
+use Rattle.lerc_theorems.specs.Table.{PairWrong, low-not-finite, high-not-finite, crossed, pair-at, FirstAt, HeldRight, HeldRefused, field-wrong, ceiling-passed, blob-cut, HeaderRefused, header-cut, key-wrong, not-held, UniformMask, MaskWrong, uniform-coded, not-allowed, miscounted, runs-wrong, FindRefused, find-room, section-cut, find-wrong, PrepareRefused, mask-held, mask-room, mask-wrong, RangesRefused, ranges-cut, minimum-wrong, maximum-wrong, RangesInRefused, depths-many, ranges-not-in, ReadRangesRefused, ranges-held, ranges-wrong}
 use Rattle.lerc_theorems.proofs.Masks.{coded-wrong, wrong-coded}
-use Rattle.lerc_theorems.proofs.Wrong.{pairs-not, not-pairs, fields-not, not-fields, ceilings-not, not-ceilings}
-use Rattle.lerc_theorems.proofs.Demands.{demand, reading, reading-one, choosing, not-refused, and-not, and-first, and-second}
+use Rattle.lerc_theorems.proofs.Wrong.{high-wrong, not-pairs, first-at, at-first, fields-not, not-fields, ceilings-not, not-ceilings}
+use Rattle.lerc_theorems.proofs.Demands.{demand, demand-at, reading, reading-one, choosing, not-refused, and-not, and-first, and-second}
 
 module _ (h : Header) (len : ℕ) where
   -- a header is held exactly where it is right
@@ -110,32 +112,39 @@ module _ (s : List ℕ) (h : Header) (reuse : Bool) (old : List ℕ) where
       let c = coded (take (h .mask) (drop headerBytes s)) (pixels (shapeOf h)) (h .valid) in
       reading-one Wrong 6 c _ (coded-six _ (pixels (shapeOf h)) (h .valid)) e (λ d. (refl, runs-wrong u z (coded-wrong _ (pixels (shapeOf h)) (h .valid) d))) (λ m d e. not-refused e)
 
-  mask-refused : {n : Refusal} → maskSays s h reuse old ≡ fail n → Wrong n
-  unfolding maskSays
+  mask-refused : {n : Refusal} → maskIn s h reuse old ≡ fail n → Wrong n
+  unfolding maskIn
   mask-refused e =
       choosing Wrong (eqb (h .valid) 0) _ _ e (λ t e. uniform-refused 0 (inl (eqb-true _ _ t)) e) (λ t e.
       choosing Wrong (eqb (h .valid) (pixels (shapeOf h))) _ _ e (λ u e. uniform-refused 255 (inr (eqb-true _ _ u)) e) (λ u e.
       let v : UniformMask h → ⊥ = ⊎-elim (eqb-false _ _ t) (eqb-false _ _ u) in
       choosing Wrong (eqb (h .mask) 0) _ _ e (λ z e. kept-refused v (eqb-true _ _ z) e) (λ z e. unrolled-refused v (eqb-false _ _ z) e)))
 
-  not-uniform : (UniformMask h → ⊥) → maskSays s h reuse old ≡ cond (eqb (h .mask) 0) (kept h reuse old) (unrolled s h)
-  unfolding maskSays
+  not-uniform : (UniformMask h → ⊥) → maskIn s h reuse old ≡ cond (eqb (h .mask) 0) (kept h reuse old) (unrolled s h)
+  unfolding maskIn
   not-uniform u = rw (ne-eqb (h .valid) 0 (λ e. u (inl e)), ne-eqb (h .valid) (pixels (shapeOf h)) (λ e. u (inr e)))
 
   refused-uniform : (byte : ℕ) → h .mask ≢ 0 → uniform h byte ≡ fail (refuse 6)
   unfolding uniform
   refused-uniform byte z = rw (ne-eqb _ _ z)
 
-  refused-mask : MaskWrong s h reuse old → maskSays s h reuse old ≡ fail (refuse 6)
-  unfolding maskSays kept unrolled
+  refused-mask : MaskWrong s h reuse old → maskIn s h reuse old ≡ fail (refuse 6)
+  unfolding maskIn kept unrolled
   refused-mask (uniform-coded v z) =
       pick (eqb (h .valid) 0) (eqb (h .valid) (pixels (shapeOf h))) _ (refused-uniform 0 z) (refused-uniform 255 z) (⊎-elim (λ e. inl (eq-eqb _ _ e)) (λ e. inr (eq-eqb _ _ e)) v)
   refused-mask (not-allowed u z a) = not-uniform u ∙ rw (eq-eqb _ _ z, a)
   refused-mask (miscounted u z a c) = not-uniform u ∙ rw (eq-eqb _ _ z, a, ne-eqb _ _ c)
   refused-mask (runs-wrong u z c) = not-uniform u ∙ rw (ne-eqb _ _ z, wrong-coded (take (h .mask) (drop headerBytes s)) (pixels (shapeOf h)) (h .valid) c)
 
-  pub mask-exactly : (n : Refusal) → (maskSays s h reuse old ≡ fail n) ↔ ((n ≡ refuse 6) × MaskWrong s h reuse old)
-  mask-exactly n = (mask-refused, λ p. rw (p .0) (refused-mask (p .1)))
+  -- "66 for 6"
+  pub mask-exactly : (n : Refusal) → (maskSays s h reuse old ≡ fail n) ↔ ((n ≡ placed maskField (refuse 6)) × MaskWrong s h reuse old)
+  mask-exactly n = (there, λ p. rw (p .0) (marked-no maskField (refused-mask (p .1))))
+    where
+      there : maskSays s h reuse old ≡ fail n → (n ≡ placed maskField (refuse 6)) × MaskWrong s h reuse old
+      there e =
+          let (q, d, z) = marked-fails maskField (maskIn s h reuse old) e in
+          let (y, w) = mask-refused d in
+          (z ∙ ap (placed maskField) y, w)
 
 module _ (b : List ℕ) (h : Header) (reuse : Bool) (old : List ℕ) (room : ℕ) where
   prepare-refused : {n : Refusal} → prepareSays b h reuse old room ≡ fail n → PrepareRefused b h reuse old room n
@@ -153,7 +162,7 @@ module _ (b : List ℕ) (h : Header) (reuse : Bool) (old : List ℕ) (room : ℕ
   refused-prepare {n} (mask-held d) = rw (held-exactly h (length b) n .1 d)
   refused-prepare (mask-room r s) =
       rw (right-held h (length b) r, ⊎-elim (λ u. and-first _ (leb (maskLength (shapeOf h)) room) (lt-leb _ _ u)) (λ u. and-second (leb (maskLength (shapeOf h)) (length old)) _ (lt-leb _ _ u)) s)
-  refused-prepare (mask-wrong r u v w) = rw (right-held h (length b) r, le-leb _ _ u, le-leb _ _ v, mask-exactly (take (h .size) b) h reuse old (refuse 6) .1 (refl, w))
+  refused-prepare (mask-wrong r u v w) = rw (right-held h (length b) r, le-leb _ _ u, le-leb _ _ v, mask-exactly (take (h .size) b) h reuse old (placed maskField (refuse 6)) .1 (refl, w))
 
   pub prepare-exactly : (n : Refusal) → (prepareSays b h reuse old room ≡ fail n) ↔ PrepareRefused b h reuse old room n
   prepare-exactly n = (prepare-refused, refused-prepare)
@@ -174,7 +183,7 @@ module _ (s : List ℕ) (h : Header) (reuse : Bool) (old : List ℕ) (room : ℕ
   refused-find (find-room t) =
       rw (⊎-elim (λ u. and-first _ (leb (maskLength (shapeOf h)) room) (lt-leb _ _ u)) (λ u. and-second (leb (maskLength (shapeOf h)) (length old)) _ (lt-leb _ _ u)) t)
   refused-find (section-cut u v l) = rw (le-leb _ _ u, le-leb _ _ v, lt-leb _ _ l)
-  refused-find (find-wrong u v l w) = rw (le-leb _ _ u, le-leb _ _ v, le-leb _ _ l, mask-exactly s h reuse old (refuse 6) .1 (refl, w))
+  refused-find (find-wrong u v l w) = rw (le-leb _ _ u, le-leb _ _ v, le-leb _ _ l, mask-exactly s h reuse old (placed maskField (refuse 6)) .1 (refl, w))
 
   pub find-exactly : (n : Refusal) → (findSays s h reuse old room ≡ fail n) ↔ FindRefused s h reuse old room n
   find-exactly n = (find-refused, refused-find)
@@ -182,18 +191,47 @@ module _ (s : List ℕ) (h : Header) (reuse : Bool) (old : List ℕ) (room : ℕ
 -- ---- ranges
 
 module _ (s : List ℕ) (h : Header) where
+  abbrev low : ℕ → ℕ
+  low i = getD (codedRanges s h .min) i 0
+
+  abbrev high : ℕ → ℕ
+  high i = getD (codedRanges s h .max) i 0
+
+  -- where the minimum of a depth stands, or its maximum
+  abbrev numberPlace : Bool → ℕ → ℕ
+  numberPlace maximum i = cond maximum (maximaAt h) (rangesAt h) + i * typeSize (h .kind)
+
+  -- the first wrong pair: its minimum where that is not finite, else its maximum
+  wrong-at : (i : ℕ) (f : Bool) → same (h .min) (h .max) ≡ false → rangesEnd h ≤ length s → FirstAt i (h .depth) (codedRanges s h)
+      → finite (low i) ≡ f → pairRight (low i) (high i) ≡ false → RangesRefused s h (placed (numberPlace f i) (refuse 7))
+  wrong-at i false t l p f w = minimum-wrong i t l p f
+  wrong-at i true t l p f w = maximum-wrong i t l p f (high-wrong _ _ f w)
+
+  pairs-refused : same (h .min) (h .max) ≡ false → rangesEnd h ≤ length s → pairsRight (h .depth) (codedRanges s h) ≡ false
+      → RangesRefused s h (placed (wrongNumberAt h (codedRanges s h)) (refuse 7))
+  unfolding wrongNumberAt
+  pairs-refused t l v = let (p, w) = first-at (h .depth) (codedRanges s h) v in wrong-at _ _ t l p refl w
+
+  refused-pairs : (i : ℕ) (f : Bool) → same (h .min) (h .max) ≡ false → rangesEnd h ≤ length s → FirstAt i (h .depth) (codedRanges s h)
+      → finite (low i) ≡ f → PairWrong (low i) (high i) → rangesSays s h ≡ fail (placed (numberPlace f i) (refuse 7))
+  unfolding rangesSays wrongNumberAt
+  refused-pairs i f t l p e w =
+      let r = codedRanges s h in
+      rw (t, le-leb _ _ l, not-pairs (h .depth) r (pair-at i (p .0) w), at-first (h .depth) r i p w, e)
+
   ranges-refused : {n : Refusal} → rangesSays s h ≡ fail n → RangesRefused s h n
   unfolding rangesSays
   ranges-refused e =
       let P = RangesRefused s h in
       choosing P (same (h .min) (h .max)) _ _ e (λ t e. not-refused e) (λ t e.
-      demand P (leb (rangesEnd h) (length s)) 1 _ e (λ u. ranges-cut t (leb-false _ _ u)) (λ u e.
-      demand P (pairsRight (h .depth) (codedRanges s h)) 7 _ e (λ v. pairs-wrong t (leb-true _ _ u) (pairs-not (h .depth) (codedRanges s h) v)) (λ v e. not-refused e)))
+      demand-at P (rangesAt h) (leb (rangesEnd h) (length s)) 1 _ e (λ u. ranges-cut t (leb-false _ _ u)) (λ u e.
+      demand-at P (wrongNumberAt h (codedRanges s h)) (pairsRight (h .depth) (codedRanges s h)) 7 _ e (pairs-refused t (leb-true _ _ u)) (λ v e. not-refused e)))
 
   refused-ranges : {n : Refusal} → RangesRefused s h n → rangesSays s h ≡ fail n
   unfolding rangesSays
   refused-ranges (ranges-cut t l) = rw (t, lt-leb _ _ l)
-  refused-ranges (pairs-wrong t l p) = rw (t, le-leb _ _ l, not-pairs (h .depth) (codedRanges s h) p)
+  refused-ranges (minimum-wrong i t l p f) = refused-pairs i false t l p f (low-not-finite f)
+  refused-ranges (maximum-wrong i t l p f w) = refused-pairs i true t l p f (⊎-elim high-not-finite crossed w)
 
   pub ranges-exactly : (n : Refusal) → (rangesSays s h ≡ fail n) ↔ RangesRefused s h n
   ranges-exactly n = (ranges-refused, refused-ranges)

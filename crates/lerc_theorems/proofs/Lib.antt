@@ -17,6 +17,7 @@ pub mod DemandOne
 pub mod Bodies
 pub mod Meanings
 pub mod Front
+pub mod Plain
 pub mod Nine
 pub mod Fills
 pub mod OpenedFills

@@ -97,17 +97,17 @@ module _ (b : List ℕ) (h : Header) (w : held h (length b) ≡ ok (extentOf h))
       on (ok d) g = rw (g (d .next))
       on (fail r) g = refl
 
-  way-same : (s maxima : List ℕ) (y : Way) → wayWalked s h maxima m y ≡ wayWalked s h maxima q y
+  way-same : (s maxima : List ℕ) (sweep : ℕ) (y : Way) → wayWalked s h maxima m sweep y ≡ wayWalked s h maxima q sweep y
   unfolding wayWalked
-  way-same s maxima (rawFrom at) = refl
-  way-same s maxima (blocksFrom at) = chain-same s maxima (blockCount (shapeOf h)) 0 at (omega arith)
+  way-same s maxima sweep (rawFrom at) = refl
+  way-same s maxima sweep (blocksFrom at) = chain-same s maxima (blockCount (shapeOf h)) 0 at (omega arith)
 
   body-same : (s maxima : List ℕ) (at : ℕ) → bodyWalked s h maxima m at ≡ bodyWalked s h maxima q at
   unfolding bodyWalked
   body-same s maxima at = on (swept s (h .kind) (h .error) at)
     where
-      on : (y : Res Way) → (y >>= wayWalked s h maxima m) ≡ (y >>= wayWalked s h maxima q)
-      on (ok y) = way-same s maxima y
+      on : (y : Res Way) → (y >>= wayWalked s h maxima m at) ≡ (y >>= wayWalked s h maxima q at)
+      on (ok y) = way-same s maxima at y
       on (fail r) = refl
 
   pub walk-same : (r : Ranges) (entries : ℕ) → walkSays b h r m entries ≡ walkSays b h r q entries

@@ -19,8 +19,8 @@ use Rattle.lerc_header.proofs.Kept.{header-held, held-shaped, held-size, held-p
 use Rattle.lerc_ranges.specs.declared.Ranges.{Ranges}
 use Rattle.lerc_ranges.specs.Ranges.{rangesSays}
 use Rattle.lerc_ranges.proofs.Judged.{RangesKept, ranges-kept}
-use Rattle.lerc_validity.proofs.Prepared.{Right, mask-told}
-use Rattle.lerc_validity.specs.Validity.{MaskInForce, bytesOf, kept as keptMask, maskSays}
+use Rattle.lerc_validity.proofs.Prepared.{Right, mask-right}
+use Rattle.lerc_validity.specs.Validity.{MaskInForce, bytesOf, kept as keptMask, maskIn, maskSays}
 use Rattle.lerc.specs.Meaning.{Meaning, endOf, bodySays, meaningFrom, meaning}
 use Rattle.lerc.specs.Read.{Lent, room, Masked, masked, readSays}
 use Rattle.lerc_theorems.specs.DemandTwo.{Roomy}
@@ -65,7 +65,7 @@ module _ (b : List ℕ) (reuse : Bool) (kept : List ℕ) (m : Meaning) (k : Mean
       (let z : rangesAt (m .header) ≤ length (take (m .header .size) b) = rw (declared) (size .0) in z)
 
   pub mask-kept : maskLength (shapeOf (m .header)) ≤ length kept → Right (take (m .header .size) b) (m .header) kept (m .mask)
-  mask-kept l = rw (k .mask) at (mask-told (take (m .header .size) b) (m .header) kept reuse l)
+  mask-kept l = mask-right (take (m .header .size) b) (m .header) kept reuse (m .mask) l (k .mask)
 
   pub ends : (headerBytes ≤ endOf (m .body)) × (endOf (m .body) ≤ m .header .size) × (m .header .size ≤ length b)
   ends =
@@ -78,12 +78,12 @@ module _ (b : List ℕ) (reuse : Bool) (kept : List ℕ) (m : Meaning) (k : Mean
 -- the kept mask's first bytes alone are looked at, as many as the mask has
 pub kept-front : (b : List ℕ) (reuse : Bool) (kept other : List ℕ) (h : Header) → headerSays b ≡ ok h → take (maskLength (shapeOf h)) kept ≡ take (maskLength (shapeOf h)) other
     → meaning b reuse kept ≡ meaning b reuse other
-unfolding meaning maskSays keptMask
+unfolding meaning maskIn keptMask
 kept-front b reuse kept other h e same = rw (e, same)
 
 -- and without reuse none of it
 pub kept-unread : (b kept other : List ℕ) → meaning b false kept ≡ meaning b false other
-unfolding meaning maskSays keptMask
+unfolding meaning maskIn keptMask
 kept-unread b kept other = refl
 
 -- ---- a whole read with room

@@ -37,7 +37,7 @@ use Rattle.lerc_validity.specs.declared.MaskAnswer.{MaskAnswer}
 use Rattle.lerc_validity.specs.declared.MaskAnswer.the-variants as mask
 use Rattle.lerc_validity.specs.Validity.{Prepared, MaskInForce, reused, new, which, maskSays, prepareSays, inForce}
 use Rattle.lerc_ranges.specs.Ranges.{noRanges, rangesSaid, rangesInSays, readRangesSays, constantWords, constantsSaid}
-use Rattle.lerc_validity.proofs.Prepared.{mask-told, prepared-right}
+use Rattle.lerc_validity.proofs.Prepared.{mask-right, prepared-right}
 use Rattle.lerc.specs.declared.ReadAnswer.the-variants as read
 use Rattle.lerc.specs.Read.{Lent, room, Masked, masked, readSays, refusedAfter, WholeRead}
 use Rattle.lerc_fills.specs.Each.{filledOf, fillEach}
@@ -202,7 +202,7 @@ module _ (b : List ℕ) (reuse : Bool) (l : Lent) where
       rw (← z) (record { header = p; room = require-is _ 5 q; mask = d })
 
   new-length : (h : Header) (m : List ℕ) → NewMask b reuse l h m → length m ≡ maskLength (shapeOf h)
-  new-length h m n = rw (n .mask) at (mask-told (take (h .size) b) h (l .kept) reuse (rooms h l (n .room) .kept)) .size
+  new-length h m n = mask-right (take (h .size) b) h (l .kept) reuse (new m) (rooms h l (n .room) .kept) (n .mask) .size
 
   pub whole-keeps : (after : Lent) (why : Refusal) → WholeRead b reuse (read.Refused why) l after → WholeKeeps b reuse l after
   unfolding refusedAfter

@@ -11,7 +11,7 @@ use lib.Seq.{length-take-le, getD-take, getD-drop}
 use lib.Dec.{leb}
 use borrow.Author.Tests.{le-leb, lt-leb}
 use denote.Ref.{RefT}
-use Rattle.lerc_words.specs.Res.{Res, ok, fail, _>>=_, require, after, little}
+use Rattle.lerc_words.specs.Res.{Res, ok, fail, _>>=_, marked, require, after, little}
 use Rattle.lerc_words.specs.Lists.{over}
 use Rattle.lerc_words.proofs.Binding.{bind-is, bind-counts, require-is}
 use Rattle.lerc_words.proofs.Little.{little-same}
@@ -24,8 +24,8 @@ use Rattle.lerc_header.specs.declared.HeaderAnswer.the-variants as header-answe
 use Rattle.lerc_header.specs.Shape.{blockCount}
 use Rattle.lerc_header.proofs.Kept.{header-held, held-is, held-size}
 use Rattle.lerc_ranges.specs.declared.Ranges.{Ranges}
-use Rattle.lerc_ranges.specs.Ranges.{uniformRanges, rangesEnd, codedRanges, pairsRight, rangesSays, readRangesSays, rangesSaid}
-use Rattle.lerc_validity.specs.Validity.{MaskInForce, unrolled, maskSays, prepareSays, spareWith, which}
+use Rattle.lerc_ranges.specs.Ranges.{uniformRanges, rangesEnd, codedRanges, pairsRight, wrongNumberAt, rangesSays, readRangesSays, rangesSaid}
+use Rattle.lerc_validity.specs.Validity.{MaskInForce, unrolled, maskIn, maskSays, prepareSays, spareWith, which}
 use Rattle.lerc_block.specs.Block.{Block}
 use Rattle.lerc_sweep.specs.Sweep.{blocksFrom}
 use Rattle.lerc_image.specs.declared.WalkAnswer.{WalkAnswer}
@@ -223,7 +223,7 @@ module _ (b c : List ℕ) (h : Header) (long-b : h .size ≤ length b) (long-c :
       go (fail r) d = refl
 
   mask-own : rangesAt h ≤ h .size → SameWithin headerBytes (rangesAt h) b c → (reuse : Bool) (kept : List ℕ) → maskSays (take (h .size) b) h reuse kept ≡ maskSays (take (h .size) c) h reuse kept
-  unfolding maskSays unrolled
+  unfolding maskIn unrolled
   mask-own l same reuse kept =
       let p = length-take-le (h .size) b long-b in
       let q = length-take-le (h .size) c long-c in
@@ -240,7 +240,7 @@ module _ (b c : List ℕ) (h : Header) (long-b : h .size ≤ length b) (long-c :
   ranges-other same = behind-held (λ d e. rangesSays (take (h .size) d) h) (λ e d. rw (length-take-le (h .size) b long-b, length-take-le (h .size) c long-c) (go (decLe (rangesEnd h) (h .size))))
     where
       abbreviated : List ℕ → Bool → Res Ranges
-      abbreviated s x = cond (same' (h .min) (h .max)) (ok (uniformRanges h)) (require x 1 >>= λ _. require (pairsRight (h .depth) (codedRanges s h)) 7 >>= λ _. ok (codedRanges s h))
+      abbreviated s x = cond (same' (h .min) (h .max)) (ok (uniformRanges h)) (marked (rangesAt h) (require x 1) >>= λ _. marked (wrongNumberAt h (codedRanges s h)) (require (pairsRight (h .depth) (codedRanges s h)) 7) >>= λ _. ok (codedRanges s h))
 
       go : Dec (rangesEnd h ≤ h .size) → abbreviated (take (h .size) b) (leb (rangesEnd h) (h .size)) ≡ abbreviated (take (h .size) c) (leb (rangesEnd h) (h .size))
       go (yes l) =

@@ -11,21 +11,22 @@ use lib.ListN.{length, getD, take, drop, length-append, length-drop, List·getD-
 use lib.Dec.{leb, eqb}
 use lib.Seq.{getD-append-add, getD-drop}
 use borrow.Author.Tests.{leb-true}
-use Rattle.lerc_words.specs.Res.{Res, ok, fail, require, after}
+use Rattle.lerc_words.specs.Res.{Res, ok, fail, marked, require, after}
 use Rattle.lerc_words.specs.Lists.{over}
 use Rattle.lerc_words.proofs.Binding.{bind-is, require-is, and-is, ok-is, cond-elim}
+use Rattle.lerc_words.proofs.Marking.{marked-is}
 use Rattle.lerc_bits.specs.declared.CountsAnswer.the-variants as counts
 use Rattle.lerc_bits.specs.Bits.{Counts, Span, CountsDecoded}
 use Rattle.lerc_header.specs.declared.Header.{Header}
 use Rattle.lerc_header.specs.Header.{shapeOf, rangesAt, extentOf, held}
 use Rattle.lerc_header.specs.Shape.{cells, maskLength, blockCount}
 use Rattle.lerc_header.proofs.Kept.{held-is}
-use Rattle.lerc_mask.specs.Mask.{maskBytes, decoded}
+use Rattle.lerc_mask.specs.Mask.{maskBytes, coded, decoded}
 use Rattle.lerc_mask.proofs.Runs.{coded-length}
 use Rattle.lerc_ranges.specs.declared.Ranges.{Ranges}
 use Rattle.lerc_validity.specs.declared.MaskAnswer.{MaskAnswer}
 use Rattle.lerc_validity.specs.Validity.{MaskInForce, reused, new, bytesOf, findSays, prepareSays, spareWith, Prepared}
-use Rattle.lerc_validity.proofs.Prepared.{prepare-found, mask-length, mask-told}
+use Rattle.lerc_validity.proofs.Prepared.{prepare-found, mask-length, mask-right}
 use Rattle.lerc_block.specs.declared.BlockAnswer.the-variants as block
 use Rattle.lerc_block.specs.Block.{Block, tileLimit, readBlockSays, BlockRead}
 use Rattle.lerc_block.proofs.Accepted.{block-words}
@@ -122,12 +123,12 @@ decode-rest (ok c) {n} d i l =
 
 -- ---- one block
 
-read-rest : (s : List ℕ) (at kind error top x n : ℕ) {next : ℕ} {old y : List ℕ} → BlockRead (readBlockSays s at kind error top x n) (block.Block next) old y
+read-rest : (s : List ℕ) (at kind error top x n : ℕ) {next : ℕ} {old y : List ℕ} → BlockRead (marked at (readBlockSays s at kind error top x n)) (block.Block next) old y
     → (i : ℕ) → n ≤ i → getD y i 0 ≡ getD old i 0
 unfolding readBlockSays
 read-rest s at kind error top x n d i l =
-    let (b, e, _) = bind-is (readBlockSays s at kind error top x n) _ (sym (d .says)) in
-    let (_, _, f) = bind-is (require (leb n tileLimit) 8) _ e in
+    let (b, e, _) = bind-is (marked at (readBlockSays s at kind error top x n)) _ (sym (d .says)) in
+    let (_, _, f) = bind-is (require (leb n tileLimit) 8) _ (marked-is at (readBlockSays s at kind error top x n) e) in
     let z = block-words s at kind error top x n f in
     rw (d .words, e) (over-rest (b .words) _ i (rw (z) l))
 
@@ -137,7 +138,7 @@ decoded-is : (s : List ℕ) (count valid room : ℕ) (m : List ℕ) → decoded 
 unfolding decoded
 decoded-is s count valid room m e =
     let (_, p, e) = bind-is (require (leb (maskBytes count) room) 5) _ e in
-    (coded-length s count valid m e, leb-true _ _ (require-is _ 5 p))
+    (coded-length s count valid m (marked-is _ (coded s count valid) e), leb-true _ _ (require-is _ 5 p))
 
 -- a mask of the right length, new or reused
 spare-alike : (n : ℕ) (f : MaskInForce) (spare : List ℕ) → length (bytesOf f) ≡ n → n ≤ length spare → AlikeFrom n spare (spareWith f spare)
@@ -162,8 +163,7 @@ find-writes s h reuse kept {r} {old} {x} p = go (findSays s h reuse kept (length
         let (_, q, e) = bind-is (require (leb n (length kept) && leb n (length old)) 5) _ e in
         let (k, l) = and-is (leb n (length kept)) (leb n (length old)) (require-is _ 5 q) in
         let (_, _, e) = bind-is (require (leb (rangesAt h) (length s)) 1) _ e in
-        let t = rw (e) at (mask-told s h kept reuse (leb-true n (length kept) k)) in
-        rw (d) (spare-alike n f old (t .size) (leb-true n (length old) l))
+        rw (d) (spare-alike n f old (mask-right s h kept reuse f (leb-true n (length kept) k) e .size) (leb-true n (length old) l))
 
 -- ---- the list and the image
 
@@ -287,7 +287,7 @@ pub writes-only : WritesOnly
 writes-only = record {
   decode-plan = λ k a n next x p. decode-rest _ p;
   decode-counts = λ k a n next x p. decode-rest _ p;
-  read-block = λ k a next x p. read-rest _ _ _ _ _ _ _ p;
+  read-block = λ k a next x p. read-rest (a .0 .now) (a .1 .0) (a .1 .1 .0) (a .1 .1 .1 .0) (a .1 .1 .1 .1 .0) (a .1 .1 .1 .1 .1 .0) (a .1 .1 .1 .1 .1 .1 .0) p;
   decode-mask = λ k a r x p. alike-after (maskBytes (a .1 .0)) _ (λ m. m) (decoded-is (a .0 .now) (a .1 .0) (a .1 .1 .0) (length (a .1 .1 .1 .0 .now))) (p .left);
   prepare-mask = λ k a r x p. prepare-writes _ _ _ _ p;
   find-mask = λ k a r x p. find-writes _ _ _ _ p;
@@ -341,7 +341,7 @@ module _ (b : List ℕ) (reuse : Bool) (l : Lent) (x : Lent) where
       let h = k .header in
       let g = masked-is b reuse l k d in
       let r = rooms h l (g .room) in
-      let z : length (bytesOf (k .mask)) ≡ maskLength (shapeOf h) = rw (g .mask) at (mask-told (take (h .size) b) h (l .kept) reuse (r .kept)) .size in
+      let z : length (bytesOf (k .mask)) ≡ maskLength (shapeOf h) = mask-right (take (h .size) b) h (l .kept) reuse (k .mask) (r .kept) (g .mask) .size in
       let f : length (startsOf y) ≤ blockCount (shapeOf h) = body-starts (take (h .size) b) h (bytesOf (k .mask)) y p in
       rw (q, c) (record {
         meaning = record { header = k .header; mask = k .mask; body = y };

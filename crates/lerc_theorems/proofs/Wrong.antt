@@ -1,16 +1,15 @@
 -- What a test that fails says: one of its parts does.
 -- Assumes nothing.
 use mathlib.Core.Path.{_≡_, refl}
-use mathlib.Core.Logic.{⊎-elim}
+use mathlib.Core.Logic.{_⊎_, inl, inr, ⊎-elim}
 use mathlib.Core.Bool.{Bool, true, false, not, _&&_}
-use Prim.Native.Nat.{ℕ, zero, suc, _+_, _*_, _^_, _≤_, _<_}
+use Prim.Native.Nat.{ℕ, _+_, _*_, _^_, _≤_, _<_}
 use native.Mathlib.Omega.{arith}
 use lib.ListN.{length, getD}
 use lib.Dec.{leb, ltb}
 use borrow.Author.Tests.{ltb-true, ltb-false, leb-false, not-true, not-false}
-use Rattle.lerc_words.specs.Lists.{allTo}
 use Rattle.lerc_words.proofs.Binding.{and-is}
-use Rattle.lerc_words.proofs.Tables.{all-fails}
+use Rattle.lerc_words.proofs.Tables.{all-true, all-each}
 use Rattle.lerc_numeric.specs.Numeric.{negative, finite, mag, less}
 use Rattle.lerc_header.specs.declared.Header.{Header}
 use Rattle.lerc_header.specs.Limits.{sideways, depthLimit, cellLimit, sideLimit, sizeLimit}
@@ -18,9 +17,10 @@ use Rattle.lerc_header.specs.Header.{shapeOf, rangesAt, errorRight, pairRight, 
 use Rattle.lerc_header.specs.Shape.{cells, maskLength, blockCount}
 use Rattle.lerc_header.proofs.Kept.{Right, CeilingsKept, fields-right, within-ceilings}
 use Rattle.lerc_ranges.specs.declared.Ranges.{Ranges}
-use Rattle.lerc_ranges.specs.Ranges.{pairsRight}
+use Rattle.lerc_ranges.specs.Ranges.{pairsRight, firstWrong}
+use Rattle.lerc_ranges.proofs.Wrong.{rightAt, pairs-wrong, first-wrong, first-wrong-is}
 use Rattle.lerc.specs.Read.{Lent, room}
-use Rattle.lerc_theorems.specs.Table.{PairWrong, low-not-finite, high-not-finite, crossed, SomePairWrong, pair-at, FieldWrong, no-rows, no-columns, no-depth, no-side, valid-many, kind-large, error-negative, error-large, min-max-wrong, size-small, CeilingPassed, rows-many, columns-many, depth-large, cells-many, side-large, size-large, TooShort, kept-short, spare-short, list-short, image-short}
+use Rattle.lerc_theorems.specs.Table.{PairWrong, low-not-finite, high-not-finite, crossed, SomePairWrong, pair-at, FirstAt, FieldWrong, no-rows, no-columns, no-depth, no-side, valid-many, kind-large, error-negative, error-large, min-max-wrong, size-small, CeilingPassed, rows-many, columns-many, depth-large, cells-many, side-large, size-large, TooShort, kept-short, spare-short, list-short, image-short}
 use Rattle.lerc_theorems.proofs.Meanings.{Rooms, rooms}
 use Rattle.lerc_theorems.proofs.Demands.{and-not}
 
@@ -59,19 +59,30 @@ module _ (low high : ℕ) where
       wrong a b c (high-not-finite f) = never b f
       wrong a b c (crossed d) = never d c
 
-all-not : (n : ℕ) (p : ℕ → Bool) → allTo n p ≡ false → (k : ℕ) × (k < n) × (p k ≡ false)
-unfolding allTo
-all-not zero p e = absurd (let z : _≡_ {A = ℕ} 0 1 = cc in omega arith)
-all-not (suc n) p e = ⊎-elim (λ a. let (k, l, q) = all-not n p a in (k, omega arith, q)) (λ b. (n, omega arith, b)) (and-not (allTo n p) (p n) e)
+  -- the minimum is finite: so the maximum is wrong
+  pub high-wrong : finite low ≡ true → pairRight low high ≡ false → (finite high ≡ false) ⊎ (less high low ≡ true)
+  high-wrong a e = on (pair-not e)
+    where
+      on : PairWrong low high → (finite high ≡ false) ⊎ (less high low ≡ true)
+      on (low-not-finite f) = absurd (never a f)
+      on (high-not-finite f) = inl f
+      on (crossed d) = inr d
 
 module _ (depth : ℕ) (r : Ranges) where
-  pub pairs-not : pairsRight depth r ≡ false → SomePairWrong depth r
+  -- the first depth whose pair is wrong has right ones before it, and no other is the first
+  pub first-at : pairsRight depth r ≡ false → FirstAt (firstWrong depth r) depth r × (rightAt r (firstWrong depth r) ≡ false)
   unfolding pairsRight
-  pairs-not e = let (i, l, w) = all-not depth (λ i. pairRight (getD (r .min) i 0) (getD (r .max) i 0)) e in pair-at i l (pair-not _ _ w)
+  first-at e = let (l, a, w) = first-wrong depth r e in ((l, λ j k. all-each (firstWrong depth r) j (rightAt r) a k), w)
+
+  pub at-first : (i : ℕ) → FirstAt i depth r → PairWrong (getD (r .min) i 0) (getD (r .max) i 0) → firstWrong depth r ≡ i
+  unfolding pairsRight
+  at-first i f w = first-wrong-is depth i r (f .0) (all-true i (rightAt r) (f .1)) (not-pair _ _ w)
+
+  pub pairs-not : pairsRight depth r ≡ false → SomePairWrong depth r
+  pairs-not e = let (f, w) = first-at e in pair-at _ (f .0) (pair-not _ _ w)
 
   pub not-pairs : SomePairWrong depth r → pairsRight depth r ≡ false
-  unfolding pairsRight
-  not-pairs (pair-at i l w) = all-fails depth i (λ i. pairRight (getD (r .min) i 0) (getD (r .max) i 0)) l (not-pair _ _ w)
+  not-pairs (pair-at i l w) = pairs-wrong depth i r l (not-pair _ _ w)
 
 -- ---- the header
 

@@ -1,5 +1,6 @@
 -- The table of refusals for words, values, packed counts and blocks: each line is a demand that fails, with its number;
 -- the demands before it hold, for "the first failing read decides the number".
+-- A word, packed counts and a block tell their refusals at one place each (`At`); a value, and counts by a plan that is given, have none.
 -- Assumes nothing.
 use mathlib.Core.Path.{_≡_}
 use mathlib.Core.Logic.{_≢_}
@@ -8,7 +9,7 @@ use mathlib.Core.List.{List, []}
 use Prim.Native.Nat.{ℕ, _+_, _*_, _/_, _%_, _≤_, _<_}
 use lib.ListN.{length, getD}
 use Rattle.lerc_words.specs.declared.Refusal.{Refusal}
-use Rattle.lerc_words.specs.Res.{ok, refuse, wordAt}
+use Rattle.lerc_words.specs.Res.{ok, refuse, placed, wordAt}
 use Rattle.lerc_numeric.specs.Numeric.{negative, finite}
 use Rattle.lerc_numeric.specs.Kinds.{typeSize, valueOf, whole, bound}
 use Rattle.lerc_numeric.specs.Steps.{stepOf}
@@ -16,6 +17,10 @@ use Rattle.lerc_samples.specs.Samples.{noKind, offsetKinds, offsetKind, sampleA
 use Rattle.lerc_bits.specs.declared.Plan.{Plan}
 use Rattle.lerc_bits.specs.Bits.{countBytes, plainPlan, tablePlan, plan, run, allBelow, keeps, Counts, counts}
 use Rattle.lerc_block.specs.Block.{tileLimit}
+
+-- what is refused here is told at a place
+pub data At (place : ℕ) (Refused : Refusal → Type 0) : Refusal → Type 0 where
+  at-place : {why : Refusal} → Refused why → At place Refused (placed place why)
 
 -- ---- words and values
 

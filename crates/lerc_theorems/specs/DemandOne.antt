@@ -6,7 +6,7 @@ use Rattle.lerc.proofs.read.Reads as read
 use Prim.Native.Nat.{ℕ}
 use Rattle.lerc_theorems.specs.Promises.{lent, HandedBack, NoRoom}
 use Rattle.lerc_theorems.specs.Refusals.{RefusalsKeep, RefusalsEmpty, WholeKeeps}
-use Rattle.lerc_theorems.specs.Numbers.{NumbersExactly, NumbersOnly}
+use Rattle.lerc_theorems.specs.Numbers.{NumbersExactly, PlacesExactly, NumbersOnly}
 use Rattle.lerc_theorems.specs.Writes.{WritesOnly, WholeWrites}
 
 pub record DemandOne : Type 0 where
@@ -14,6 +14,8 @@ pub record DemandOne : Type 0 where
   pub no-room : NoRoom
   -- the table of numbers: "given when", for each number of each public function exactly
   pub numbers-exactly : NumbersExactly
+  -- the table of places: "a place with each number", for each number and each failing demand exactly
+  pub places-exactly : PlacesExactly
   -- which numbers each public function can give at all
   pub numbers-only : NumbersOnly
   -- "It leaves every lent slice unchanged"

@@ -91,7 +91,7 @@ pub record DemandTwo : Type 0 where
   -- given room, a whole read accepts exactly where the blob has a meaning
   pub accepted-iff : (k : _) (a : _) (r : ReadAnswer) (x : _) → read.Post k a r x → Roomy (a .0 .now) (lent a)
       → accepts (readSaid r) ≡ accepts (meaning (a .0 .now) (a .1 .0) (lent a .kept))
-  -- and it is refused with the number that the meaning is refused with
+  -- and it is refused with the number that the meaning is refused with, at its place
   pub refused-as : (k : _) (a : _) (r : ReadAnswer) (x : _) → read.Post k a r x → Roomy (a .0 .now) (lent a)
       → (why : Refusal) → (r ≡ read-answer.Refused why) ↔ (meaning (a .0 .now) (a .1 .0) (lent a .kept) ≡ fail why)
   -- mask, end and every valid cell are that meaning; all other cells keep their words
@@ -140,6 +140,6 @@ pub record DemandTwo : Type 0 where
       → HeaderCall b (header-answer.Read h) → PrepareCall b h reuse kept said spare prepared → HandedCall kept prepared said m → ReadRanges b h r
       → take (maskLength (shapeOf h)) q ≡ m → WalkCall b h r q (walk-answer.Walked n end) old new → WalkMeans b reuse kept h m n end old new
   -- in a whole read 9 comes from a constant body alone: a block's values are clamped to a maximum that was read in the blob's own kind, and so always fit
-  pub nine-only-constant : (b : List ℕ) (reuse : Bool) (kept : List ℕ) → meaning b reuse kept ≡ fail (refuse 9) → Unstored b reuse kept
-  -- and such a body is refused 9
+  pub nine-only-constant : (b : List ℕ) (reuse : Bool) (kept : List ℕ) (why : Refusal) → meaning b reuse kept ≡ fail why → why .number ≡ 9 → Unstored b reuse kept
+  -- and such a body is refused 9, at place 0
   pub nine-constant : (b : List ℕ) (reuse : Bool) (kept : List ℕ) → Unstored b reuse kept → meaning b reuse kept ≡ fail (refuse 9)

@@ -61,53 +61,73 @@ use Rattle.lerc_image.proofs.decode_tiles.Reads as decode-tiles
 use Rattle.lerc.specs.declared.ReadAnswer.the-variants as read-answer
 use Rattle.lerc.proofs.read.Reads as read
 use Rattle.lerc_theorems.specs.Promises.{lent}
-use Rattle.lerc_theorems.specs.BlockTable.{WordRefused, IntegerRefused, KindRefused, SampleRefused, StoredRefused, PlanRefused, CountsRefused, PlannedRefused, ConstantsRefused, BlockPlanRefused, ReadBlockRefused}
+use Rattle.lerc_theorems.specs.BlockTable.{At, WordRefused, IntegerRefused, KindRefused, SampleRefused, StoredRefused, PlanRefused, CountsRefused, PlannedRefused, ConstantsRefused, BlockPlanRefused, ReadBlockRefused}
 use Rattle.lerc_theorems.specs.Table.{HeldRefused, HeaderRefused, RunsRefused, PrepareRefused, FindRefused, PairsRefused, RangesInRefused, ReadRangesRefused, SweepRefused, WalkRefused, FillRefused, CheckRefused, TilesRefused, WholeRefused}
 
 -- an answer that is this refusal
 abbrev pub By : {R : Type 0} → (Refusal → R) → R → Refusal → Type 0
 By Refused r why = r ≡ Refused why
 
--- a promise by which a refusal is given exactly where the table says so
-abbrev pub Exactly : {K A R O : Type 0} → (K → A → R → O → Type 0) → (R → Refusal → Type 0) → (A → Refusal → Type 0) → Type 0
-Exactly {K} {A} {R} {O} Post refuses When = (k : K) (a : A) (r : R) (x : O) → Post k a r x → (why : Refusal) → refuses r why ↔ When a why
+-- what is given is what the table says, number and place
+abbrev pub Exactly : (Refusal → Type 0) → (Refusal → Type 0) → Type 0
+Exactly Given When = (why : Refusal) → Given why ↔ When why
+
+-- a refusal with this number, wherever it is
+abbrev pub WithNumber : (Refusal → Type 0) → ℕ → Type 0
+WithNumber Given n = (why : Refusal) × Given why × (why .number ≡ n)
+
+-- a number is given exactly where the table names it
+abbrev pub ExactlyNumbered : (Refusal → Type 0) → (Refusal → Type 0) → Type 0
+ExactlyNumbered Given When = (n : ℕ) → WithNumber Given n ↔ WithNumber When n
+
+-- a promise by which the refusals that are given agree with the table
+abbrev pub Promised : {K A R O : Type 0} → ((Refusal → Type 0) → (Refusal → Type 0) → Type 0) → (K → A → R → O → Type 0) → (R → Refusal → Type 0) → (A → Refusal → Type 0) → Type 0
+Promised {K} {A} {R} {O} Agree Post refuses When = (k : K) (a : A) (r : R) (x : O) → Post k a r x → Agree (refuses r) (When a)
 
 -- a promise by which no other numbers are given
 abbrev pub Only : {K A R O : Type 0} → (K → A → R → O → Type 0) → (R → Refusal → Type 0) → List ℕ → Type 0
 Only {K} {A} {R} {O} Post refuses numbers = (k : K) (a : A) (r : R) (x : O) → Post k a r x → (why : Refusal) → refuses r why → among numbers (why .number) ≡ true
 
+-- each public function that refuses: its promise, its refusals, and its lines of the table
+pub record EachRefusing (Agree : (Refusal → Type 0) → (Refusal → Type 0) → Type 0) : Type 0 where
+  pub word : Promised Agree word.Post (By word-answer.Refused) (λ a. At (a .1 .0) (WordRefused (a .0 .now) (a .1 .0) (a .1 .1 .0)))
+  pub to-integer : Promised Agree to-integer.Post (By integer-answer.Refused) (λ a. IntegerRefused (a .1 .0) (a .0))
+  pub offset-kind : Promised Agree offset-kind.Post (By offset-answer.Refused) (λ a. KindRefused (a .0) (a .1 .0))
+  pub read-sample : Promised Agree read-sample.Post (By sample-answer.Refused) (λ a. At (a .1 .0) (SampleRefused (a .1 .1 .0) (a .0 .now) (a .1 .0)))
+  pub stored : Promised Agree stored.Post (By stored-answer.Refused) (λ a. StoredRefused (a .1 .0) (a .0))
+  pub inspect : Promised Agree inspect.Post (By plan-answer.Refused) (λ a. At (a .1 .0) (PlanRefused (a .0 .now) (a .1 .0)))
+  pub decode-plan : Promised Agree decode-plan.Post (By counts-answer.Refused) (λ a. PlannedRefused (a .0 .now) (a .1 .0))
+  pub check-plan : Promised Agree check-plan.Post (By counts-answer.Refused) (λ a. PlannedRefused (a .0 .now) (a .1 .0))
+  pub decode-counts : Promised Agree decode-counts.Post (By counts-answer.Refused) (λ a. At (a .1 .0) (CountsRefused (a .0 .now) (a .1 .0)))
+  pub check-counts : Promised Agree check-counts.Post (By counts-answer.Refused) (λ a. At (a .1 .0) (CountsRefused (a .0 .now) (a .1 .0)))
+  pub held : Promised Agree held.Post (By held-answer.Refused) (λ a. HeldRefused (a .0) (a .1 .0))
+  pub open-blob : Promised Agree open-blob.Post (By open-answer.Refused) (λ a. HeaderRefused (a .0 .now))
+  pub read-header : Promised Agree read-header.Post (By header-answer.Refused) (λ a. HeaderRefused (a .0 .now))
+  pub decode-mask : Promised Agree decode-mask.Post (By runs-answer.Refused) (λ a. RunsRefused (a .0 .now) (a .1 .0) (a .1 .1 .0) (length (a .1 .1 .1 .0 .now)))
+  pub prepare-mask : Promised Agree prepare-mask.Post (By mask-answer.Refused) (λ a. PrepareRefused (a .0 .now) (a .1 .0) (a .1 .1 .0) (a .1 .1 .1 .0 .now) (length (a .1 .1 .1 .1 .0 .now)))
+  pub find-mask : Promised Agree find-mask.Post (By mask-answer.Refused) (λ a. FindRefused (a .0 .now) (a .1 .0) (a .1 .1 .0) (a .1 .1 .1 .0 .now) (length (a .1 .1 .1 .1 .0 .now)))
+  pub pairs : Promised Agree pairs.Post (By pairs-answer.Refused) (λ a. PairsRefused (a .0) (a .1 .0))
+  pub ranges-in : Promised Agree ranges-in.Post (λ r. By ranges-answer.Refused (r .answer)) (λ a. RangesInRefused (a .0 .now) (a .1 .0))
+  pub read-ranges : Promised Agree read-ranges.Post (λ r. By ranges-answer.Refused (r .answer)) (λ a. ReadRangesRefused (a .0 .now) (a .1 .0))
+  pub convert : Promised Agree convert.Post (λ r. By constants-answer.Refused (r .answer)) (λ a. ConstantsRefused (a .1 .0) (a .1 .1 .0) (a .0))
+  pub inspect-block : Promised Agree inspect-block.Post (By block-plan-answer.Refused) (λ a. At (a .1 .0) (BlockPlanRefused (a .0 .now) (a .1 .0) (a .1 .1 .0) (a .1 .1 .1 .0) (a .1 .1 .1 .1 .0)))
+  pub block-end : Promised Agree block-end.Post (By block-answer.Refused) (λ a. At (a .1 .0) (BlockPlanRefused (a .0 .now) (a .1 .0) (a .1 .1 .0) (a .1 .1 .1 .0) (a .1 .1 .1 .1 .0)))
+  pub read-block : Promised Agree read-block.Post (By block-answer.Refused) (λ a. At (a .1 .0) (ReadBlockRefused (a .0 .now) (a .1 .0) (a .1 .1 .0) (a .1 .1 .1 .0) (a .1 .1 .1 .1 .0) (a .1 .1 .1 .1 .1 .0) (a .1 .1 .1 .1 .1 .1 .0)))
+  pub check-block : Promised Agree check-block.Post (By block-answer.Refused) (λ a. At (a .1 .0) (ReadBlockRefused (a .0 .now) (a .1 .0) (a .1 .1 .0) (a .1 .1 .1 .0) (a .1 .1 .1 .1 .0) (a .1 .1 .1 .1 .1 .0) (a .1 .1 .1 .1 .1 .1 .0)))
+  pub read-sweep : Promised Agree read-sweep.Post (By way-answer.Refused) (λ a. SweepRefused (a .0 .now) (a .1 .1 .0) (a .1 .1 .1 .0) (a .1 .0))
+  pub walk : Promised Agree walk.Post (By walk-answer.Refused) (λ a. WalkRefused (a .0 .now) (a .1 .0) (a .1 .1 .0) (a .1 .1 .1 .0 .now) (length (a .1 .1 .1 .1 .0 .now)))
+  pub fill : Promised Agree fill.Post (By fill-answer.Refused) (λ a. FillRefused (a .0 .now) (a .1 .0) (a .1 .1 .0) (a .1 .1 .1 .0 .now) (a .1 .1 .1 .1 .0 .now) (a .1 .1 .1 .1 .1 .0) (length (a .1 .1 .1 .1 .1 .1 .0 .now)))
+  pub check-tiles : Promised Agree check-tiles.Post (By walk-answer.Refused) (λ a. CheckRefused (a .0 .now) (a .1 .0) (a .1 .1 .0 .now) (a .1 .1 .1 .0 .now) (a .1 .1 .1 .1 .0))
+  pub decode-tiles : Promised Agree decode-tiles.Post (By walk-answer.Refused) (λ a. TilesRefused (a .0 .now) (a .1 .0) (a .1 .1 .0 .now) (a .1 .1 .1 .0 .now) (a .1 .1 .1 .1 .0) (length (a .1 .1 .1 .1 .1 .0 .now)) (length (a .1 .1 .1 .1 .1 .1 .0 .now)))
+  pub read : Promised Agree read.Post (By read-answer.Refused) (λ a. WholeRefused (a .0 .now) (a .1 .0) (lent a))
+
 -- "given when": each number of each function, exactly
-pub record NumbersExactly : Type 0 where
-  pub word : Exactly word.Post (By word-answer.Refused) (λ a. WordRefused (a .0 .now) (a .1 .0) (a .1 .1 .0))
-  pub to-integer : Exactly to-integer.Post (By integer-answer.Refused) (λ a. IntegerRefused (a .1 .0) (a .0))
-  pub offset-kind : Exactly offset-kind.Post (By offset-answer.Refused) (λ a. KindRefused (a .0) (a .1 .0))
-  pub read-sample : Exactly read-sample.Post (By sample-answer.Refused) (λ a. SampleRefused (a .1 .1 .0) (a .0 .now) (a .1 .0))
-  pub stored : Exactly stored.Post (By stored-answer.Refused) (λ a. StoredRefused (a .1 .0) (a .0))
-  pub inspect : Exactly inspect.Post (By plan-answer.Refused) (λ a. PlanRefused (a .0 .now) (a .1 .0))
-  pub decode-plan : Exactly decode-plan.Post (By counts-answer.Refused) (λ a. PlannedRefused (a .0 .now) (a .1 .0))
-  pub check-plan : Exactly check-plan.Post (By counts-answer.Refused) (λ a. PlannedRefused (a .0 .now) (a .1 .0))
-  pub decode-counts : Exactly decode-counts.Post (By counts-answer.Refused) (λ a. CountsRefused (a .0 .now) (a .1 .0))
-  pub check-counts : Exactly check-counts.Post (By counts-answer.Refused) (λ a. CountsRefused (a .0 .now) (a .1 .0))
-  pub held : Exactly held.Post (By held-answer.Refused) (λ a. HeldRefused (a .0) (a .1 .0))
-  pub open-blob : Exactly open-blob.Post (By open-answer.Refused) (λ a. HeaderRefused (a .0 .now))
-  pub read-header : Exactly read-header.Post (By header-answer.Refused) (λ a. HeaderRefused (a .0 .now))
-  pub decode-mask : Exactly decode-mask.Post (By runs-answer.Refused) (λ a. RunsRefused (a .0 .now) (a .1 .0) (a .1 .1 .0) (length (a .1 .1 .1 .0 .now)))
-  pub prepare-mask : Exactly prepare-mask.Post (By mask-answer.Refused) (λ a. PrepareRefused (a .0 .now) (a .1 .0) (a .1 .1 .0) (a .1 .1 .1 .0 .now) (length (a .1 .1 .1 .1 .0 .now)))
-  pub find-mask : Exactly find-mask.Post (By mask-answer.Refused) (λ a. FindRefused (a .0 .now) (a .1 .0) (a .1 .1 .0) (a .1 .1 .1 .0 .now) (length (a .1 .1 .1 .1 .0 .now)))
-  pub pairs : Exactly pairs.Post (By pairs-answer.Refused) (λ a. PairsRefused (a .0) (a .1 .0))
-  pub ranges-in : Exactly ranges-in.Post (λ r. By ranges-answer.Refused (r .answer)) (λ a. RangesInRefused (a .0 .now) (a .1 .0))
-  pub read-ranges : Exactly read-ranges.Post (λ r. By ranges-answer.Refused (r .answer)) (λ a. ReadRangesRefused (a .0 .now) (a .1 .0))
-  pub convert : Exactly convert.Post (λ r. By constants-answer.Refused (r .answer)) (λ a. ConstantsRefused (a .1 .0) (a .1 .1 .0) (a .0))
-  pub inspect-block : Exactly inspect-block.Post (By block-plan-answer.Refused) (λ a. BlockPlanRefused (a .0 .now) (a .1 .0) (a .1 .1 .0) (a .1 .1 .1 .0) (a .1 .1 .1 .1 .0))
-  pub block-end : Exactly block-end.Post (By block-answer.Refused) (λ a. BlockPlanRefused (a .0 .now) (a .1 .0) (a .1 .1 .0) (a .1 .1 .1 .0) (a .1 .1 .1 .1 .0))
-  pub read-block : Exactly read-block.Post (By block-answer.Refused) (λ a. ReadBlockRefused (a .0 .now) (a .1 .0) (a .1 .1 .0) (a .1 .1 .1 .0) (a .1 .1 .1 .1 .0) (a .1 .1 .1 .1 .1 .0) (a .1 .1 .1 .1 .1 .1 .0))
-  pub check-block : Exactly check-block.Post (By block-answer.Refused) (λ a. ReadBlockRefused (a .0 .now) (a .1 .0) (a .1 .1 .0) (a .1 .1 .1 .0) (a .1 .1 .1 .1 .0) (a .1 .1 .1 .1 .1 .0) (a .1 .1 .1 .1 .1 .1 .0))
-  pub read-sweep : Exactly read-sweep.Post (By way-answer.Refused) (λ a. SweepRefused (a .0 .now) (a .1 .1 .0) (a .1 .1 .1 .0) (a .1 .0))
-  pub walk : Exactly walk.Post (By walk-answer.Refused) (λ a. WalkRefused (a .0 .now) (a .1 .0) (a .1 .1 .0) (a .1 .1 .1 .0 .now) (length (a .1 .1 .1 .1 .0 .now)))
-  pub fill : Exactly fill.Post (By fill-answer.Refused) (λ a. FillRefused (a .0 .now) (a .1 .0) (a .1 .1 .0) (a .1 .1 .1 .0 .now) (a .1 .1 .1 .1 .0 .now) (a .1 .1 .1 .1 .1 .0) (length (a .1 .1 .1 .1 .1 .1 .0 .now)))
-  pub check-tiles : Exactly check-tiles.Post (By walk-answer.Refused) (λ a. CheckRefused (a .0 .now) (a .1 .0) (a .1 .1 .0 .now) (a .1 .1 .1 .0 .now) (a .1 .1 .1 .1 .0))
-  pub decode-tiles : Exactly decode-tiles.Post (By walk-answer.Refused) (λ a. TilesRefused (a .0 .now) (a .1 .0) (a .1 .1 .0 .now) (a .1 .1 .1 .0 .now) (a .1 .1 .1 .1 .0) (length (a .1 .1 .1 .1 .1 .0 .now)) (length (a .1 .1 .1 .1 .1 .1 .0 .now)))
-  pub read : Exactly read.Post (By read-answer.Refused) (λ a. WholeRefused (a .0 .now) (a .1 .0) (lent a))
+abbrev pub NumbersExactly : Type 0
+NumbersExactly = EachRefusing ExactlyNumbered
+
+-- "a place with each number": number and place of each refusal of each function, exactly
+abbrev pub PlacesExactly : Type 0
+PlacesExactly = EachRefusing Exactly
 
 -- the numbers that each function can give at all
 pub record NumbersOnly : Type 0 where

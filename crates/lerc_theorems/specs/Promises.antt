@@ -12,6 +12,7 @@ use Rattle.lerc_words.specs.Res.{ok}
 use Rattle.lerc_header.specs.Header.{shapeOf}
 use Rattle.lerc_header.specs.Shape.{maskLength}
 use Rattle.lerc_validity.specs.Validity.{reused, new, prepareSays, firstOf}
+use Rattle.lerc_words.proofs.Refusal.at.Reads as refusal-at
 use Rattle.lerc_words.proofs.WordAnswer.refusal.Reads as word-refusal
 use Rattle.lerc_words.proofs.peek.Reads as peek
 use Rattle.lerc_words.proofs.bytes.Reads as bytes
@@ -99,6 +100,7 @@ use Rattle.lerc.specs.Read.{Lent}
 use Rattle.lerc.proofs.ReadAnswer.refusal.Reads as read-refusal
 use Rattle.lerc.proofs.read.Reads as read
 use Rattle.lerc_text.proofs.put_line.Reads as put-line
+use Rattle.lerc_text.proofs.put_refusal.Reads as put-refusal
 use Rattle.lerc_text.proofs.put_shape.Reads as put-shape
 use Rattle.lerc_text.proofs.put_cells.Reads as put-cells
 
@@ -141,6 +143,7 @@ lent a = record { kept = a .1 .1 .0 .now; spare = a .1 .1 .1 .0 .now; list = a .
 -- all public functions, from the ground up; the entries for C and the program's `answer` have claims of their own
 pub record NoRoom : Type 0 where
   -- lerc_words
+  pub refusal-at : Answers refusal-at.Pre refusal-at.Post
   pub word-refusal : Answers word-refusal.Pre word-refusal.Post
   pub peek : Answers peek.Pre peek.Post
   pub bytes : Answers bytes.Pre bytes.Post
@@ -240,5 +243,6 @@ pub record NoRoom : Type 0 where
   pub read : Writes read.Pre read.Post lent
   -- lerc_text
   pub put-line : Writes put-line.Pre put-line.Post (λ o. o .0 .now)
+  pub put-refusal : Writes put-refusal.Pre put-refusal.Post (λ o. o .0 .now)
   pub put-shape : Writes put-shape.Pre put-shape.Post (λ o. o .0 .now)
   pub put-cells : Writes put-cells.Pre put-cells.Post (λ o. o .0 .now)

@@ -65,7 +65,7 @@ pub record RefusalsKeep : Type 0 where
   pub tiles-image : RefusalKeeps decode-tiles.Post walked.Refused (λ a. a .1 .1 .1 .1 .1 .1 .0 .now) (λ o. o .1 .1 .1 .1 .1 .1 .0 .now)
 
 -- "A refusal carries its number, and 0 for each count and offset; a part to be handed back is then empty."
--- An answer that is an enum has no place for more than the number where it is a refusal; these are the others.
+-- An answer that is an enum holds nothing but number and place where it is a refusal; these are the others.
 pub record RefusalsEmpty : Type 0 where
   pub ranges-found : (k : _) (a : _) (r : _) (x : _) (why : Refusal) → ranges-in.Post k a r x → r .answer ≡ ranges.Refused why → r .ranges ≡ noRanges
   pub ranges : (k : _) (a : _) (r : _) (x : _) (why : Refusal) → read-ranges.Post k a r x → r .answer ≡ ranges.Refused why → r .ranges ≡ noRanges

@@ -1,4 +1,4 @@
--- The table of refusals, entry by entry: each line is a demand that fails, with its number; the demands before it hold,
+-- The table of refusals, entry by entry: each line is a demand that fails, with its number and its place; the demands before it hold,
 -- for "the first failing read decides the number".
 -- Assumes nothing.
 use mathlib.Core.Path.{_≡_}
@@ -8,25 +8,25 @@ use mathlib.Core.List.{List}
 use Prim.Native.Nat.{ℕ, _+_, _*_, _^_, _≤_, _<_, min}
 use lib.ListN.{length, getD, take, drop}
 use Rattle.lerc_words.specs.declared.Refusal.{Refusal}
-use Rattle.lerc_words.specs.Res.{ok, refuse, wordAt}
+use Rattle.lerc_words.specs.Res.{ok, refuse, placed, wordAt}
 use Rattle.lerc_numeric.specs.Numeric.{negative, finite, mag, less, same}
 use Rattle.lerc_numeric.specs.Kinds.{typeSize}
 use Rattle.lerc_header.specs.declared.Header.{Header}
 use Rattle.lerc_header.specs.Limits.{depthLimit}
-use Rattle.lerc_header.specs.Header.{headerBytes, rangesAt, shapeOf, fieldsRight, withinCeilings, keyRight, headerOf, headerSays}
+use Rattle.lerc_header.specs.Header.{headerBytes, rangesAt, shapeOf, pairRight, fieldsRight, withinCeilings, keyRight, headerOf, headerSays}
 use Rattle.lerc_header.specs.Shape.{pixels, cells, maskLength, blockCount}
 use Rattle.lerc_mask.specs.Mask.{validBelow, maskBytes}
 use Rattle.lerc_ranges.specs.declared.Ranges.{Ranges}
 use Rattle.lerc_validity.specs.Validity.{bytesOf}
-use Rattle.lerc_ranges.specs.Ranges.{rangesEnd, codedRanges, pairsRight, rangesSays}
+use Rattle.lerc_ranges.specs.Ranges.{maximaAt, rangesEnd, codedRanges, pairsRight, rangesSays}
 use Rattle.lerc_sweep.specs.Sweep.{rawFrom, blocksFrom, hasModeByte, swept}
 use Rattle.lerc_image.specs.Geometry.{tileOf, validInTile}
 use Rattle.lerc_image.specs.Blocks.{Chain, chain}
 use Rattle.lerc.specs.Read.{Lent, room, Masked, masked}
 use Rattle.lerc_theorems.specs.MaskTable.{CodedWrong}
-use Rattle.lerc_theorems.specs.BlockTable.{ConstantsRefused, BlockRefused}
+use Rattle.lerc_theorems.specs.BlockTable.{At, ConstantsRefused, BlockRefused}
 
--- ---- tests that fail. All demands with one number have no order among themselves
+-- ---- tests that fail. Demands with one number have no order among themselves, but for ranges that are read: there the place tells which comes first
 
 -- a minimum and a maximum: "a range number not finite, or maximum less than minimum"
 pub data PairWrong (low high : ℕ) : Type 0 where
@@ -37,6 +37,10 @@ pub data PairWrong (low high : ℕ) : Type 0 where
 -- "7 for the pairs below the depth"
 pub data SomePairWrong (depth : ℕ) (r : Ranges) : Type 0 where
   pair-at : (i : ℕ) → i < depth → PairWrong (getD (r .min) i 0) (getD (r .max) i 0) → SomePairWrong depth r
+
+-- the pairs of the depths before are right
+abbrev pub FirstAt : ℕ → ℕ → Ranges → Type 0
+FirstAt i depth r = (i < depth) × ((j : ℕ) → j < i → pairRight (getD (r .min) j 0) (getD (r .max) j 0) ≡ true)
 
 -- "rows, columns, depth, side at least 1; valid at most rows × columns; kind at most 7; error sign clear and below 2^1023;
 -- min, max finite, max not less than min; size at least 70 + mask bytes"
@@ -89,7 +93,7 @@ pub data HeaderRefused (b : List ℕ) : Refusal → Type 0 where
   key-wrong : headerBytes ≤ length b → keyRight b ≡ false → HeaderRefused b (refuse 2)
   not-held : {n : Refusal} → headerBytes ≤ length b → keyRight b ≡ true → HeldRefused (headerOf b) (length b) n → HeaderRefused b n
 
--- ---- the mask: "mask section wrong", "Any breach is 6."
+-- ---- the mask: "mask section wrong", "Any breach is 6."; "66 for 6"
 
 -- all pixels are valid, or none is
 abbrev pub UniformMask : Header → Type 0
@@ -105,29 +109,36 @@ pub data MaskWrong (s : List ℕ) (h : Header) (reuse : Bool) (old : List ℕ) :
   -- "Else runs"
   runs-wrong : (UniformMask h → ⊥) → h .mask ≢ 0 → CodedWrong (take (h .mask) (drop headerBytes s)) (pixels (shapeOf h)) (h .valid) → MaskWrong s h reuse old
 
--- the runs of a section alone: 5 for a slice too short, 6
+-- the runs of a section alone: 5 for a slice too short, 6 at 66 as everywhere
 pub data RunsRefused (s : List ℕ) (count valid room : ℕ) : Refusal → Type 0 where
   runs-room : room < maskBytes count → RunsRefused s count valid room (refuse 5)
-  runs-breach : maskBytes count ≤ room → CodedWrong s count valid → RunsRefused s count valid room (refuse 6)
+  runs-breach : maskBytes count ≤ room → CodedWrong s count valid → RunsRefused s count valid room (placed 66 (refuse 6))
 
 -- prepare a mask: the header's, 5, 6
 pub data PrepareRefused (b : List ℕ) (h : Header) (reuse : Bool) (old : List ℕ) (room : ℕ) : Refusal → Type 0 where
   mask-held : {n : Refusal} → HeldRefused h (length b) n → PrepareRefused b h reuse old room n
   mask-room : HeldRight h (length b) → (length old < maskLength (shapeOf h)) ⊎ (room < maskLength (shapeOf h)) → PrepareRefused b h reuse old room (refuse 5)
   mask-wrong : HeldRight h (length b) → maskLength (shapeOf h) ≤ length old → maskLength (shapeOf h) ≤ room → MaskWrong (take (h .size) b) h reuse old
-      → PrepareRefused b h reuse old room (refuse 6)
+      → PrepareRefused b h reuse old room (placed 66 (refuse 6))
 
 -- the mask in the bytes of a blob that was opened: 5, a section that passes the bytes 1, 6
 pub data FindRefused (s : List ℕ) (h : Header) (reuse : Bool) (old : List ℕ) (room : ℕ) : Refusal → Type 0 where
   find-room : (length old < maskLength (shapeOf h)) ⊎ (room < maskLength (shapeOf h)) → FindRefused s h reuse old room (refuse 5)
   section-cut : maskLength (shapeOf h) ≤ length old → maskLength (shapeOf h) ≤ room → length s < rangesAt h → FindRefused s h reuse old room (refuse 1)
-  find-wrong : maskLength (shapeOf h) ≤ length old → maskLength (shapeOf h) ≤ room → rangesAt h ≤ length s → MaskWrong s h reuse old → FindRefused s h reuse old room (refuse 6)
+  find-wrong : maskLength (shapeOf h) ≤ length old → maskLength (shapeOf h) ≤ room → rangesAt h ≤ length s → MaskWrong s h reuse old → FindRefused s h reuse old room (placed 66 (refuse 6))
 
 -- ---- ranges: "all of which must fit (1) before a number is judged"
 
 pub data RangesRefused (s : List ℕ) (h : Header) : Refusal → Type 0 where
-  ranges-cut : same (h .min) (h .max) ≡ false → length s < rangesEnd h → RangesRefused s h (refuse 1)
-  pairs-wrong : same (h .min) (h .max) ≡ false → rangesEnd h ≤ length s → SomePairWrong (h .depth) (codedRanges s h) → RangesRefused s h (refuse 7)
+  -- "the first range byte where the ranges do not fit"
+  ranges-cut : same (h .min) (h .max) ≡ false → length s < rangesEnd h → RangesRefused s h (placed (rangesAt h) (refuse 1))
+  -- "the first byte of the first wrong number, depth by depth, minimum before maximum"
+  minimum-wrong : (i : ℕ) → same (h .min) (h .max) ≡ false → rangesEnd h ≤ length s → FirstAt i (h .depth) (codedRanges s h)
+      → finite (getD (codedRanges s h .min) i 0) ≡ false → RangesRefused s h (placed (rangesAt h + i * typeSize (h .kind)) (refuse 7))
+  -- "the maximum where it is the lesser"
+  maximum-wrong : (i : ℕ) → same (h .min) (h .max) ≡ false → rangesEnd h ≤ length s → FirstAt i (h .depth) (codedRanges s h)
+      → finite (getD (codedRanges s h .min) i 0) ≡ true → (finite (getD (codedRanges s h .max) i 0) ≡ false) ⊎ (less (getD (codedRanges s h .max) i 0) (getD (codedRanges s h .min) i 0) ≡ true)
+      → RangesRefused s h (placed (maximaAt h + i * typeSize (h .kind)) (refuse 7))
 
 -- the ranges in the bytes of a blob that was opened: more depths than there are entries 4, 1, 7
 pub data RangesInRefused (s : List ℕ) (h : Header) : Refusal → Type 0 where
@@ -143,27 +154,27 @@ pub data ReadRangesRefused (b : List ℕ) (h : Header) : Refusal → Type 0 wher
 pub data PairsRefused (depth : ℕ) (r : Ranges) : Refusal → Type 0 where
   pair-wrong : SomePairWrong (min depth depthLimit) r → PairsRefused depth r (refuse 7)
 
--- ---- sweep and mode byte
+-- ---- sweep and mode byte: "the sweep or mode byte for a fault in it, 10 included, or where the missing one should be"
 
 -- "0 blocks; 1, 2 refused 10; others 8"
 pub data ModeRefused (s : List ℕ) (at : ℕ) : Refusal → Type 0 where
-  mode-cut : length s < at + 1 → ModeRefused s at (refuse 1)
-  mode-wrong : (v : ℕ) → wordAt 1 s at ≡ ok v → 3 ≤ v → ModeRefused s at (refuse 8)
-  mode-coded : (v : ℕ) → wordAt 1 s at ≡ ok v → 1 ≤ v → v ≤ 2 → ModeRefused s at (refuse 10)
+  mode-cut : length s < at + 1 → ModeRefused s at (placed at (refuse 1))
+  mode-wrong : (v : ℕ) → wordAt 1 s at ≡ ok v → 3 ≤ v → ModeRefused s at (placed at (refuse 8))
+  mode-coded : (v : ℕ) → wordAt 1 s at ≡ ok v → 1 ≤ v → v ≤ 2 → ModeRefused s at (placed at (refuse 10))
 
 -- "1 is raw words ..; 0 goes on; others are 8. Kinds 0 and 1 with error exactly 0.5 have a mode byte"
 pub data SweepRefused (s : List ℕ) (kind error at : ℕ) : Refusal → Type 0 where
-  sweep-cut : length s < at + 1 → SweepRefused s kind error at (refuse 1)
-  sweep-wrong : (v : ℕ) → wordAt 1 s at ≡ ok v → 2 ≤ v → SweepRefused s kind error at (refuse 8)
+  sweep-cut : length s < at + 1 → SweepRefused s kind error at (placed at (refuse 1))
+  sweep-wrong : (v : ℕ) → wordAt 1 s at ≡ ok v → 2 ≤ v → SweepRefused s kind error at (placed at (refuse 8))
   mode-refused : {n : Refusal} → wordAt 1 s at ≡ ok 0 → hasModeByte kind error ≡ true → ModeRefused s (at + 1) n → SweepRefused s kind error at n
 
 -- ---- blocks
 
--- block n at a start: its tile's column, its tile's valid pixels, its depth's maximum
+-- block n at a start: its tile's column, its tile's valid pixels, its depth's maximum; "the flag byte for any refusal inside a block"
 abbrev pub BlockAtRefused : List ℕ → Header → List ℕ → List ℕ → ℕ → ℕ → Refusal → Type 0
 BlockAtRefused s h maxima m n at =
     let t = tileOf (shapeOf h) n in
-    BlockRefused s at (h .kind) (h .error) (getD maxima (t .d) 0) (t .x) (validInTile (shapeOf h) m t)
+    At at (BlockRefused s at (h .kind) (h .error) (getD maxima (t .d) 0) (t .x) (validInTile (shapeOf h) m t))
 
 -- f blocks from number n on, the first at `at`: k of them are right, and the next is refused
 pub data ChainRefused (s : List ℕ) (h : Header) (maxima m : List ℕ) (f n at : ℕ) : Refusal → Type 0 where
@@ -175,7 +186,7 @@ pub data ChainRefused (s : List ℕ) (h : Header) (maxima m : List ℕ) (f n at 
 -- the body: sweep and mode byte; "walk on a body not in blocks": 10; the blocks
 pub data WalkBodyRefused (s : List ℕ) (h : Header) (r : Ranges) (m : List ℕ) : Refusal → Type 0 where
   walk-sweep : {n : Refusal} → SweepRefused s (h .kind) (h .error) (r .at) n → WalkBodyRefused s h r m n
-  walk-raw : (at : ℕ) → swept s (h .kind) (h .error) (r .at) ≡ ok (rawFrom at) → WalkBodyRefused s h r m (refuse 10)
+  walk-raw : (at : ℕ) → swept s (h .kind) (h .error) (r .at) ≡ ok (rawFrom at) → WalkBodyRefused s h r m (placed (r .at) (refuse 10))
   walk-blocks : {n : Refusal} (at : ℕ) → swept s (h .kind) (h .error) (r .at) ≡ ok (blocksFrom at) → ChainRefused s h (r .max) m (blockCount (shapeOf h)) 0 at n
       → WalkBodyRefused s h r m n
 
@@ -235,9 +246,10 @@ pub data BodyRefused (s : List ℕ) (h : Header) (m : List ℕ) : Refusal → Ty
   -- a minimum does not fit the kind
   body-constant : {n : Refusal} (r : Ranges) → h .valid ≢ 0 → rangesSays s h ≡ ok r → r .constant ≡ true → ConstantsRefused (h .depth) (h .kind) (r .min) n → BodyRefused s h m n
   body-sweep : {n : Refusal} (r : Ranges) → h .valid ≢ 0 → rangesSays s h ≡ ok r → r .constant ≡ false → SweepRefused s (h .kind) (h .error) (r .at) n → BodyRefused s h m n
-  -- raw words that pass the size
-  body-raw : (r : Ranges) (at : ℕ) → h .valid ≢ 0 → rangesSays s h ≡ ok r → r .constant ≡ false → swept s (h .kind) (h .error) (r .at) ≡ ok (rawFrom at)
-      → length s < at + h .valid * h .depth * typeSize (h .kind) → BodyRefused s h m (refuse 1)
+  -- raw words that pass the size: "the missing raw word's first byte". Word k is the first that is not whole
+  body-raw : (r : Ranges) (at k : ℕ) → h .valid ≢ 0 → rangesSays s h ≡ ok r → r .constant ≡ false → swept s (h .kind) (h .error) (r .at) ≡ ok (rawFrom at)
+      → k < h .valid * h .depth → at + k * typeSize (h .kind) ≤ length s → length s < at + k * typeSize (h .kind) + typeSize (h .kind)
+      → BodyRefused s h m (placed (at + k * typeSize (h .kind)) (refuse 1))
   body-blocks : {n : Refusal} (r : Ranges) (at : ℕ) → h .valid ≢ 0 → rangesSays s h ≡ ok r → r .constant ≡ false → swept s (h .kind) (h .error) (r .at) ≡ ok (blocksFrom at)
       → ChainRefused s h (r .max) m (blockCount (shapeOf h)) 0 at n → BodyRefused s h m n
 
@@ -245,5 +257,5 @@ pub data BodyRefused (s : List ℕ) (h : Header) (m : List ℕ) : Refusal → Ty
 pub data WholeRefused (b : List ℕ) (reuse : Bool) (l : Lent) : Refusal → Type 0 where
   whole-header : {n : Refusal} → HeaderRefused b n → WholeRefused b reuse l n
   whole-room : (h : Header) → headerSays b ≡ ok h → TooShort h l → WholeRefused b reuse l (refuse 5)
-  whole-mask : (h : Header) → headerSays b ≡ ok h → room h l ≡ true → MaskWrong (take (h .size) b) h reuse (l .kept) → WholeRefused b reuse l (refuse 6)
+  whole-mask : (h : Header) → headerSays b ≡ ok h → room h l ≡ true → MaskWrong (take (h .size) b) h reuse (l .kept) → WholeRefused b reuse l (placed 66 (refuse 6))
   whole-body : {n : Refusal} (k : Masked) → masked b reuse l ≡ ok k → BodyRefused (take (k .header .size) b) (k .header) (bytesOf (k .mask)) n → WholeRefused b reuse l n

@@ -1,15 +1,16 @@
--- No promise is empty: a blob or call for each refusal number and for each kind of body, computed by the checker.
+-- No promise is empty: a blob or call for each refusal number, for each rule of its place and for each kind of body, computed by the checker.
 -- Assumes nothing.
 use Prim.Native.Nat.{ℕ, _+_}
 use mathlib.Core.Path.{_≡_, refl}
-use mathlib.Core.Bool.{false}
+use mathlib.Core.Bool.{true, false}
 use mathlib.Core.List.{List, [], _∷_, _++_}
 use lib.ListN.{length, replicate, drop}
 use lib.Ieee.{size, span, climb}
-use Rattle.lerc_words.specs.Res.{Res, ok, fail, _>>=_, refuse, wordAt, little, each}
+use Rattle.lerc_words.specs.declared.Refusal.{Refusal}
+use Rattle.lerc_words.specs.Res.{Res, ok, fail, _>>=_, refuse, placed, wordAt, little, each}
 use Rattle.lerc_words.specs.Lists.{from, count, allTo}
 use Rattle.lerc_numeric.specs.Numeric.{mag, code, sum, countedSum, scaled, less, same, lesser}
-use Rattle.lerc_numeric.specs.Kinds.{integer, valueOf, whole, cut}
+use Rattle.lerc_numeric.specs.Kinds.{integer, widened, valueOf, whole, cut}
 use Rattle.lerc_numeric.specs.Steps.{stepOf}
 use Rattle.lerc_samples.specs.Samples.{sampleAt, stored, offsetKinds, offsetKind}
 use Rattle.lerc_bits.specs.Bits.{tabled, plan, digits, chosen, lookedUp, valuesOf, unpacked, counts}
@@ -17,14 +18,16 @@ use Rattle.lerc_bits.specs.Packing.{bytesOf as bytes}
 use Rattle.lerc_mask.specs.Mask.{pixelValid, validFrom, copyAt, repeatAt, endAt, signedAt, stepAt, runs, coded}
 use Rattle.lerc_header.specs.Shape.{strips}
 use Rattle.lerc_header.specs.Header.{errorRight, pairRight, fieldsRight, withinCeilings, held, keyRight, headerOf, headerSays}
-use Rattle.lerc_validity.specs.Validity.{uniform, kept, unrolled, maskSays}
-use Rattle.lerc_ranges.specs.Ranges.{uniformRanges, numberAt, byDepth, codedRanges, pairsRight, rangesSays, readRangesSays, constantWords}
+use Rattle.lerc_validity.specs.Validity.{uniform, kept, unrolled, maskIn}
+use Rattle.lerc_ranges.specs.declared.Ranges.{Ranges}
+use Rattle.lerc_ranges.specs.Ranges.{uniformRanges, numberAt, byDepth, codedRanges, pairsRight, firstWrong, wrongNumberAt, rangesSays, readRangesSays, constantWords}
 use Rattle.lerc_block.specs.Block.{rawWords, levelBlock, steppedBlock, offsetAt, finiteOffset, offsetBlock, formed, flagAt, blockSays}
 use Rattle.lerc_image.specs.Geometry.{tileOf, pixelOf, blockOf, placeIn, rank, isValidCell}
 use Rattle.lerc_image.specs.Paint.{painted, indexOf}
-use Rattle.lerc_sweep.specs.Sweep.{modeAt, moded, swept}
+use Rattle.lerc_sweep.specs.Sweep.{modeByte, moded, sweepByte, swept}
 use Rattle.lerc_image.specs.Blocks.{blockAt, chain}
 use Rattle.lerc_image.specs.Fill.{fillSays}
+use Rattle.lerc_image.specs.Walk.{wayWalked, bodyWalked, walkSays}
 use Rattle.lerc.specs.Meaning.{rawBody, blockBody, sweptBody, constantBody, bodySays, cellWord, meaningFrom, startsOf, endOf}
 use Rattle.lerc.specs.Read.{Lent, room, masked, readSays, published, refusedAfter, readAfter}
 
@@ -140,20 +143,20 @@ bodies =
 
 -- ---- a call for each number
 
--- a refusal's number; 0 where there is none
-abbrev pub numberOf : {A : Type 0} → Res A → ℕ
-numberOf (ok a) = 0
-numberOf (fail r) = r .number
+-- the refusal; number 0 at place 0 where there is none
+abbrev pub refusalOf : {A : Type 0} → Res A → Refusal
+refusalOf (ok a) = refuse 0
+refusalOf (fail r) = r
 
-abbrev pub refused : ℕ → List ℕ → ℕ
-refused cells b = numberOf (readSays b false (lent 3 cells))
+abbrev pub refused : ℕ → List ℕ → Refusal
+refused cells b = refusalOf (readSays b false (lent 3 cells))
 
--- block n of the whole blob
-abbrev pub fill : ℕ → ℕ
-fill n = numberOf (readRangesSays whole-blob (headerOf whole-blob) >>= λ r. fillSays whole-blob (headerOf whole-blob) r (255 ∷ []) (74 ∷ []) n 3)
+-- block n of the whole blob, its starts listed
+abbrev pub fill : ℕ → List ℕ → Refusal
+fill n starts = refusalOf (readRangesSays whole-blob (headerOf whole-blob) >>= λ r. fillSays whole-blob (headerOf whole-blob) r (255 ∷ []) starts n 3)
 
-abbrev pub numbers : List ℕ
-numbers =
+abbrev pub refusals : List Refusal
+refusals =
     refused 3 []
     ∷ refused 3 (75 ∷ drop 1 whole-blob)
     ∷ refused 3 (row 0 3 ten twelve [] [])
@@ -164,8 +167,108 @@ numbers =
     ∷ refused 3 (row 8 3 ten twelve [] (0x0A ∷ 0x0C ∷ 0x00 ∷ 0x00 ∷ 0x05 ∷ []))
     ∷ refused 3 (row 8 3 threeHundred threeHundred [] [])
     ∷ refused 3 (row 8 3 ten twelve [] (0x0A ∷ 0x0C ∷ 0x00 ∷ 0x01 ∷ []))
-    ∷ fill 1
-    ∷ fill 0
+    ∷ fill 1 (74 ∷ [])
+    ∷ fill 0 (74 ∷ [])
+    ∷ []
+
+-- ---- a call for each rule of the place
+
+-- 1 pixel of depth 2, kind 6 (f32): the minima of depths 0 and 1, then the maxima
+abbrev pub pairs : ℕ → ℕ → ℕ → ℕ → List ℕ
+pairs low0 low1 high0 high1 = blob (record {
+  rows = 1;
+  columns = 1;
+  depth = 2;
+  valid = 1;
+  side = 8;
+  kind = 6;
+  error = 0;
+  min = ten;
+  max = twelve;
+  mask = [];
+  rest = bytes 4 low0 ++ bytes 4 low1 ++ bytes 4 high0 ++ bytes 4 high1;
+})
+
+-- 10, 12 and infinity as words of kind 6
+abbrev pub tenF : ℕ
+tenF = 0x41200000
+
+abbrev pub twelveF : ℕ
+twelveF = 0x41400000
+
+abbrev pub infinityF : ℕ
+infinityF = 0x7F800000
+
+-- 1 row, 3 columns, kind 3 (u16), minimum 10 and maximum 12, sweep byte 1: raw words of two bytes
+abbrev pub rawRow : List ℕ → List ℕ
+rawRow words = blob (record {
+  rows = 1;
+  columns = 3;
+  depth = 1;
+  valid = 3;
+  side = 8;
+  kind = 3;
+  error = 0;
+  min = ten;
+  max = twelve;
+  mask = [];
+  rest = 0x0A ∷ 0x00 ∷ 0x0C ∷ 0x00 ∷ 0x01 ∷ words;
+})
+
+-- a walk with ranges by value
+abbrev pub walked : List ℕ → Ranges → Refusal
+walked b r = refusalOf (walkSays b (headerOf b) r (255 ∷ []) 3)
+
+-- as they were read
+abbrev pub readWalked : List ℕ → Refusal
+readWalked b = refusalOf (readRangesSays b (headerOf b) >>= λ r. walkSays b (headerOf b) r (255 ∷ []) 3)
+
+-- block 0 of a blob, whose ranges by value go from 10 up to a maximum
+abbrev pub filledUpTo : ℕ → List ℕ → Refusal
+filledUpTo most b = refusalOf (fillSays b (headerOf b) (record { at = 72; constant = false; min = ten ∷ []; max = most ∷ [] }) (255 ∷ []) (74 ∷ []) 0 3)
+
+abbrev pub places : List Refusal
+places =
+    -- 6 where the mask has bytes and must have none: the header's count of them
+    refused 3 (row 8 3 ten twelve (0x00 ∷ 0x80 ∷ []) [])
+    -- and where a reused mask has another count: two of three pixels, and all are
+    ∷ refusalOf (readSays (row 8 2 ten twelve [] []) true (lent 3 3))
+    -- ranges that do not fit: the first range byte, behind five mask bytes
+    ∷ refused 3 (row 8 2 ten twelve (0x01 ∷ 0x00 ∷ 0xA0 ∷ 0x00 ∷ 0x80 ∷ []) (0x0A ∷ []))
+    -- depth 0's lesser maximum comes before depth 1's minimum that is not finite, though that stands in front of it
+    ∷ refused 3 (pairs twelveF infinityF tenF twelveF)
+    -- a minimum that is not finite: depth 1's, behind a right pair
+    ∷ refused 3 (pairs tenF infinityF twelveF twelveF)
+    -- of two numbers of a depth that are not finite, the minimum
+    ∷ refused 3 (pairs infinityF tenF infinityF twelveF)
+    -- a maximum that is not finite: depth 1's
+    ∷ refused 3 (pairs tenF tenF twelveF infinityF)
+    -- ranges by value: no place
+    ∷ walked whole-blob (record { at = 72; constant = false; min = twelve ∷ []; max = ten ∷ [] })
+    -- a missing sweep byte: where it should be; a wrong one; one that tells a walk of raw words
+    ∷ refused 3 (row 8 3 ten twelve [] (0x0A ∷ 0x0C ∷ []))
+    ∷ refused 3 (row 8 3 ten twelve [] (0x0A ∷ 0x0C ∷ 0x02 ∷ []))
+    ∷ readWalked (row 8 3 ten twelve [] (0x0A ∷ 0x0C ∷ 0x01 ∷ 0x0A ∷ 0x0B ∷ 0x0C ∷ []))
+    -- looked for where the ranges that are given say
+    ∷ walked whole-blob (record { at = 0xFFFFFFFFFFFFFFFF; constant = false; min = ten ∷ []; max = twelve ∷ [] })
+    -- a walk of a constant or an empty body has none
+    ∷ readWalked (row 8 3 ten ten [] [])
+    ∷ readWalked (row 8 0 ten ten [] [])
+    -- a missing mode byte: where it should be; a wrong one
+    ∷ refused 3 (row 8 3 ten twelve [] (0x0A ∷ 0x0C ∷ 0x00 ∷ []))
+    ∷ refused 3 (row 8 3 ten twelve [] (0x0A ∷ 0x0C ∷ 0x00 ∷ 0x03 ∷ []))
+    -- raw words cut in the middle of the second: its first byte, not the first that is missing
+    ∷ refused 3 (rawRow (0x0A ∷ 0x00 ∷ 0x0B ∷ []))
+    -- raw words that are cut in a block: its flag byte
+    ∷ refused 3 (row 8 3 ten twelve [] (0x0A ∷ 0x0C ∷ 0x00 ∷ 0x00 ∷ 0x00 ∷ 0x0A ∷ []))
+    -- a value that its kind does not hold, beside a maximum by value
+    ∷ filledUpTo threeHundred (row 8 3 ten twelve [] (0x0A ∷ 0x0C ∷ 0x00 ∷ 0x00 ∷ 0x01 ∷ 0xFF ∷ 0x82 ∷ 0x03 ∷ 0x24 ∷ []))
+    -- a missing flag byte: where it should be
+    ∷ refused 3 (row 8 3 ten twelve [] (0x0A ∷ 0x0C ∷ 0x00 ∷ 0x00 ∷ []))
+    -- a fault in the packed counts of the second of two blocks: that block's flag byte
+    ∷ refused 3 (row 2 3 ten twelve [] (0x0A ∷ 0x0C ∷ 0x00 ∷ 0x00 ∷ 0x03 ∷ 0x0B ∷ 0x01 ∷ 0x0A ∷ 0xC2 ∷ []))
+    -- a fill whose listed start is 2^64 - 1: that number
+    ∷ fill 0 (0xFFFFFFFFFFFFFFFF ∷ [])
     ∷ []
 
 pub witnesses :
@@ -175,16 +278,53 @@ pub witnesses :
     ∷ gives 0 70 (255 ∷ []) (7 ∷ 7 ∷ 7 ∷ []) (10 ∷ 10 ∷ 10 ∷ 7 ∷ [])
     ∷ gives 0 70 (0 ∷ []) (7 ∷ 7 ∷ 7 ∷ []) (7 ∷ 7 ∷ 7 ∷ 7 ∷ [])
     ∷ gives 3 79 (255 ∷ []) (74 ∷ 76 ∷ 77 ∷ []) (11 ∷ 0 ∷ 12 ∷ 7 ∷ [])
-    ∷ record { said = fail (refuse 8); left = record { kept = 7 ∷ []; spare = 255 ∷ 7 ∷ []; list = 7 ∷ 7 ∷ 7 ∷ []; image = replicate 4 7 } }
+    ∷ record { said = fail (placed 74 (refuse 8)); left = record { kept = 7 ∷ []; spare = 255 ∷ 7 ∷ []; list = 7 ∷ 7 ∷ 7 ∷ []; image = replicate 4 7 } }
     ∷ gives 8 91 (255 ∷ []) (75 ∷ 77 ∷ 79 ∷ 81 ∷ 83 ∷ 85 ∷ 87 ∷ 89 ∷ []) (1 ∷ 2 ∷ 3 ∷ 4 ∷ 5 ∷ 6 ∷ 7 ∷ 8 ∷ 7 ∷ [])
     ∷ [])
-    × (numbers ≡ 1 ∷ 2 ∷ 3 ∷ 4 ∷ 5 ∷ 6 ∷ 7 ∷ 8 ∷ 9 ∷ 10 ∷ 11 ∷ 0 ∷ [])
+    × (refusals
+    ≡ refuse 1
+    ∷ refuse 2
+    ∷ refuse 3
+    ∷ refuse 4
+    ∷ refuse 5
+    ∷ placed 66 (refuse 6)
+    ∷ placed 71 (refuse 7)
+    ∷ placed 74 (refuse 8)
+    ∷ refuse 9
+    ∷ placed 73 (refuse 10)
+    ∷ refuse 11
+    ∷ refuse 0
+    ∷ [])
+    × (places
+    ≡ placed 66 (refuse 6)
+    ∷ placed 66 (refuse 6)
+    ∷ placed 75 (refuse 1)
+    ∷ placed 78 (refuse 7)
+    ∷ placed 74 (refuse 7)
+    ∷ placed 70 (refuse 7)
+    ∷ placed 82 (refuse 7)
+    ∷ refuse 7
+    ∷ placed 72 (refuse 1)
+    ∷ placed 72 (refuse 8)
+    ∷ placed 72 (refuse 10)
+    ∷ placed 0xFFFFFFFFFFFFFFFF (refuse 1)
+    ∷ refuse 10
+    ∷ refuse 10
+    ∷ placed 73 (refuse 1)
+    ∷ placed 73 (refuse 8)
+    ∷ placed 77 (refuse 1)
+    ∷ placed 74 (refuse 1)
+    ∷ placed 74 (refuse 9)
+    ∷ placed 74 (refuse 1)
+    ∷ placed 76 (refuse 8)
+    ∷ placed 0xFFFFFFFFFFFFFFFF (refuse 1)
+    ∷ [])
 unfolding wordAt little each from count allTo mag code sum countedSum scaled less same lesser integer valueOf whole cut sampleAt stored offsetKinds offsetKind
     bytes counts plan tabled unpacked valuesOf lookedUp digits chosen pixelValid copyAt repeatAt endAt signedAt stepAt runs coded strips errorRight pairRight fieldsRight withinCeilings
-    held keyRight headerOf headerSays uniform kept unrolled maskSays uniformRanges numberAt byDepth codedRanges pairsRight rangesSays constantWords rawWords
-    levelBlock stepOf steppedBlock offsetAt finiteOffset offsetBlock formed flagAt blockSays tileOf pixelOf blockOf placeIn rank isValidCell painted indexOf blockAt chain modeAt moded
-    swept rawBody blockBody sweptBody constantBody bodySays cellWord meaningFrom room masked readSays published refusedAfter size span climb readRangesSays fillSays
-witnesses = (refl, refl)
+    held keyRight headerOf headerSays uniform kept unrolled maskIn uniformRanges numberAt byDepth codedRanges pairsRight firstWrong wrongNumberAt rangesSays constantWords rawWords
+    levelBlock stepOf steppedBlock offsetAt finiteOffset offsetBlock formed flagAt blockSays tileOf pixelOf blockOf placeIn rank isValidCell painted indexOf blockAt chain modeByte moded
+    sweepByte swept rawBody blockBody sweptBody constantBody bodySays cellWord meaningFrom room masked readSays published refusedAfter size span climb widened readRangesSays fillSays walkSays bodyWalked wayWalked
+witnesses = (refl, refl, refl)
 
 -- ---- how many pixels of a part are valid: of the rules' mask of ten pixels, 0, 2 and 9 valid, its spare bits set
 

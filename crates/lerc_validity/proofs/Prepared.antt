@@ -12,7 +12,8 @@ use lib.Dec.{leb, eqb}
 use lib.ListN.{length, take, drop, replicate, length-take, length-append, length-replicate}
 use lib.Seq.{take-append-seam}
 use Rattle.lerc_words.specs.declared.Refusal.{Refusal}
-use Rattle.lerc_words.specs.Res.{Res, ok, fail, _>>=_, refuse, require}
+use Rattle.lerc_words.specs.Res.{Res, ok, fail, _>>=_, refuse, placed, marked, require}
+use Rattle.lerc_words.proofs.Marking.{marked-is, marked-fails}
 use Rattle.lerc_words.specs.Lists.{over}
 use Rattle.lerc_words.proofs.Binding.{bind-is, require-is, cond-elim, and-is}
 use Rattle.lerc_words.proofs.Little.{Bytes}
@@ -21,13 +22,13 @@ use Rattle.lerc_header.specs.declared.Extent.{Extent}
 use Rattle.lerc_header.specs.Header.{shapeOf, extentOf, held, headerBytes}
 use Rattle.lerc_header.specs.Shape.{pixels, maskLength}
 use Rattle.lerc_header.proofs.Kept.{held-is}
-use Rattle.lerc_mask.specs.Mask.{validBelow, coded}
+use Rattle.lerc_mask.specs.Mask.{validBelow, coded, maskField}
 use Rattle.lerc_mask.proofs.Pixels.{valid-uniform-0, valid-uniform-255}
 use Rattle.lerc_mask.proofs.Steps.{bytes-part, bytes-repeat}
 use Rattle.lerc_mask.proofs.Runs.{coded-is, coded-length, coded-bytes, coded-six}
 use Rattle.lerc_validity.specs.declared.MaskAnswer.{MaskAnswer}
 use Rattle.lerc_validity.specs.declared.MaskAnswer.the-variants.{Kept, Spare, Refused}
-use Rattle.lerc_validity.specs.Validity.{MaskInForce, reused, new, bytesOf, uniform, kept, unrolled, maskSays, prepareSays, maskSaid, Prepared, firstOf, inForce}
+use Rattle.lerc_validity.specs.Validity.{MaskInForce, reused, new, bytesOf, uniform, kept, unrolled, maskIn, maskSays, prepareSays, maskSaid, Prepared, firstOf, inForce}
 
 -- a reused mask is the first part of the kept one
 abbrev pub Part : List ℕ → MaskInForce → Type 0
@@ -91,8 +92,8 @@ module _ (s : List ℕ) (h : Header) (old : List ℕ) where
           }
       go (fail r) e = coded-six t (pixels (shapeOf h)) (h .valid) r e
 
-  pub mask-told : (reuse : Bool) → maskLength (shapeOf h) ≤ length old → Told s h old (maskSays s h reuse old)
-  unfolding maskSays
+  mask-told : (reuse : Bool) → maskLength (shapeOf h) ≤ length old → Told s h old (maskIn s h reuse old)
+  unfolding maskIn
   mask-told reuse l =
       let P = Told s h old in
       let p = pixels (shapeOf h) in
@@ -100,6 +101,15 @@ module _ (s : List ℕ) (h : Header) (old : List ℕ) where
       cond-elim P (eqb (h .valid) 0) (λ e. uniform-told 0 (omega arith) (valid-uniform-0 p n ∙ sym (eqb-true _ _ e)))
       (λ _. cond-elim P (eqb (h .valid) p) (λ e. uniform-told 255 (omega arith) (valid-uniform-255 p n (omega arith) ∙ sym (eqb-true _ _ e)))
       (λ _. cond-elim P (eqb (h .mask) 0) (λ _. kept-told reuse l) (λ _. runs-told)))
+
+  -- the same with its place on a refusal
+  pub mask-right : (reuse : Bool) (f : MaskInForce) → maskLength (shapeOf h) ≤ length old → maskSays s h reuse old ≡ ok f → Right s h old f
+  mask-right reuse f l e = rw (marked-is maskField (maskIn s h reuse old) e) at (mask-told reuse l)
+
+  pub mask-six : (reuse : Bool) (r : Refusal) → maskLength (shapeOf h) ≤ length old → maskSays s h reuse old ≡ fail r → r ≡ placed maskField (refuse 6)
+  mask-six reuse r l e =
+      let (q, d, p) = marked-fails maskField (maskIn s h reuse old) e in
+      p ∙ ap (placed maskField) (rw (d) at (mask-told reuse l))
 
 -- ---- prepare a mask
 
@@ -122,7 +132,7 @@ module _ (b : List ℕ) (h : Header) (reuse : Bool) (old : List ℕ) (room : ℕ
 
   module _ (f : MaskInForce) (e : prepareSays b h reuse old room ≡ ok f) where
     pub prepared-right : Right (take (h .size) b) h old f
-    prepared-right = let k = prepare-found f e in rw (k .mask) at (mask-told (take (h .size) b) h old reuse (k .here))
+    prepared-right = let k = prepare-found f e in mask-right (take (h .size) b) h old reuse f (k .here) (k .mask)
 
     pub mask-length : length (bytesOf f) ≡ maskLength (shapeOf h)
     mask-length = prepared-right .size
@@ -134,21 +144,21 @@ module _ (b : List ℕ) (h : Header) (reuse : Bool) (old : List ℕ) (room : ℕ
     mask-bytes p q = prepared-right .bytes (bytes-part b 0 (h .size) p) q
 
   -- a refusal is the header's, or 5, or 6
-  pub prepare-numbers : (r : Refusal) → prepareSays b h reuse old room ≡ fail r → (held h (length b) ≡ fail r) ⊎ ((r ≡ refuse 5) ⊎ (r ≡ refuse 6))
+  pub prepare-numbers : (r : Refusal) → prepareSays b h reuse old room ≡ fail r → (held h (length b) ≡ fail r) ⊎ ((r ≡ refuse 5) ⊎ (r ≡ placed maskField (refuse 6)))
   unfolding prepareSays
   prepare-numbers r e = go (held h (length b)) refl
     where
-      go : (a : Res Extent) → held h (length b) ≡ a → (held h (length b) ≡ fail r) ⊎ ((r ≡ refuse 5) ⊎ (r ≡ refuse 6))
+      go : (a : Res Extent) → held h (length b) ≡ a → (held h (length b) ≡ fail r) ⊎ ((r ≡ refuse 5) ⊎ (r ≡ placed maskField (refuse 6)))
       go (fail x) d = let y = rw (d) at e in let z : x ≡ r = cc in inl (d ∙ ap fail z)
       go (ok x) d = inr (roomy (leb (x .mask) (length old) && leb (x .mask) room) refl (rw (d) at e))
         where
-          roomy : (t : Bool) → (leb (x .mask) (length old) && leb (x .mask) room) ≡ t → (require t 5 >>= λ _. maskSays (take (h .size) b) h reuse old) ≡ fail r → (r ≡ refuse 5) ⊎ (r ≡ refuse 6)
+          roomy : (t : Bool) → (leb (x .mask) (length old) && leb (x .mask) room) ≡ t → (require t 5 >>= λ _. maskSays (take (h .size) b) h reuse old) ≡ fail r → (r ≡ refuse 5) ⊎ (r ≡ placed maskField (refuse 6))
           roomy false l z = inl (cc)
           roomy true l z =
               let (k, _) = and-is (leb (x .mask) (length old)) (leb (x .mask) room) l in
               let i = held-is h (length b) d in
               let n : maskLength (shapeOf h) ≤ length old = rw (i) at (leb-true (x .mask) (length old) k) in
-              inr (rw (z) at (mask-told (take (h .size) b) h old reuse n))
+              inr (mask-six (take (h .size) b) h old reuse r n z)
 
 -- ---- the mask handed back
 

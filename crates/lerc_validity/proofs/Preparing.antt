@@ -1,6 +1,6 @@
 -- One law for each answer of the functions that prepare a mask.
 -- Assumes nothing.
-use mathlib.Core.Path.{_≡_, refl}
+use mathlib.Core.Path.{_≡_, _∙_, sym, ap, refl}
 use mathlib.Core.Bool.{Bool, true, false, _&&_}
 use mathlib.Core.List.{List}
 use Prim.Native.Nat.{ℕ, _≤_, _<_}
@@ -9,7 +9,8 @@ use borrow.Author.Tests.{le-leb, lt-leb, eq-eqb, ne-eqb}
 use lib.ListN.{length, take, drop, replicate, length-take}
 use lib.Dec.{leb}
 use Rattle.lerc_words.specs.declared.Refusal.{Refusal}
-use Rattle.lerc_words.specs.Res.{Res, ok, fail, _>>=_, refuse}
+use Rattle.lerc_words.specs.Res.{Res, ok, fail, _>>=_, refuse, placed, marked}
+use Rattle.lerc_words.proofs.Marking.{marked-after, Bare}
 use Rattle.lerc_words.specs.Lists.{over}
 use Rattle.lerc_header.specs.declared.Header.{Header}
 use Rattle.lerc_header.specs.declared.Extent.{Extent}
@@ -18,12 +19,12 @@ use Rattle.lerc_header.proofs.Kept.{held-is, held-size}
 use Rattle.lerc_header.specs.Shape.{pixels, maskLength}
 use Rattle.lerc_mask.specs.declared.RunsAnswer.{RunsAnswer}
 use Rattle.lerc_mask.specs.declared.RunsAnswer.the-variants as runs
-use Rattle.lerc_mask.specs.Mask.{validBelow, coded, decoded, RunsUnrolled}
+use Rattle.lerc_mask.specs.Mask.{validBelow, maskField, coded, decoded, RunsUnrolled}
 use Rattle.lerc_mask.proofs.Pixels.{valid-take}
-use Rattle.lerc_mask.proofs.Runs.{decoded-coded}
+use Rattle.lerc_mask.proofs.Runs.{coded-bare, decoded-coded}
 use Rattle.lerc_validity.specs.declared.MaskAnswer.{MaskAnswer}
 use Rattle.lerc_validity.specs.declared.MaskAnswer.the-variants.{Kept, Spare, Refused}
-use Rattle.lerc_validity.specs.Validity.{MaskInForce, reused, new, uniform, kept, unrolled, maskSays, findSays, prepareSays, Prepared}
+use Rattle.lerc_validity.specs.Validity.{MaskInForce, reused, new, uniform, kept, unrolled, maskIn, maskSays, findSays, prepareSays, spareWith, maskSaid, which, Prepared}
 
 -- ---- the promise, for each answer
 
@@ -35,6 +36,18 @@ spared bytes n e l d = rw (e, d) (record { says = rw (l); spare = refl })
 
 pub reuses : {m : Res MaskInForce} (bytes : List ℕ) (n : ℕ) {old : List ℕ} → m ≡ ok (reused bytes) → length bytes ≡ n → Prepared m (Kept n) old old
 reuses bytes n e l = rw e (record { says = rw (l); spare = refl })
+
+-- with a place on the answer
+told-at : (p : ℕ) (m : Res MaskInForce) → marked p (m >>= which) ≡ (marked p m >>= which)
+told-at p (ok (reused m)) = refl
+told-at p (ok (new m)) = refl
+told-at p (fail r) = refl
+
+pub prepared-at : {m : Res MaskInForce} {r q : MaskAnswer} (p : ℕ) {old newer : List ℕ} → Prepared m r old newer → maskSaid q ≡ marked p (maskSaid r) → Prepared (marked p m) q old newer
+prepared-at {m} p {old} d e = record {
+  says = e ∙ ap (marked p) (d .says) ∙ told-at p m;
+  spare = d .spare ∙ sym (marked-after p m old (λ f. spareWith f old));
+}
 
 -- ---- a uniform mask
 
@@ -67,41 +80,45 @@ module _ (h : Header) (reuse : Bool) (old : List ℕ) where
 
 -- ---- a mask of runs
 
+-- the place is taken off a refusal, since all of a mask's have one
 abbrev pub fromRuns : RunsAnswer → MaskAnswer
 fromRuns (runs.Mask n) = Spare n
-fromRuns (runs.Refused r) = Refused r
+fromRuns (runs.Refused r) = Refused (placed 0 r)
 
-pub runs-told : (m : Res (List ℕ)) (a : RunsAnswer) {old newer : List ℕ} → RunsUnrolled m a old newer → Prepared (m >>= λ bytes. ok (new bytes)) (fromRuns a) old newer
-runs-told (ok bytes) (runs.Mask n) u = let e : n ≡ length bytes = cc (u .says) in record { says = rw (e); spare = u .left }
-runs-told (ok bytes) (runs.Refused r) u = absurd (let z : _≡_ {A = ℕ} 0 1 = cc (u .says) in omega arith)
-runs-told (fail q) (runs.Mask n) u = absurd (let z : _≡_ {A = ℕ} 0 1 = cc (u .says) in omega arith)
-runs-told (fail q) (runs.Refused r) u = let e : r ≡ q = cc (u .says) in record { says = rw (e); spare = u .left }
+runs-told : (p : ℕ) (m : Res (List ℕ)) → Bare m → (a : RunsAnswer) {old newer : List ℕ} → RunsUnrolled (marked p m) a old newer → Prepared (m >>= λ bytes. ok (new bytes)) (fromRuns a) old newer
+runs-told p (ok bytes) i (runs.Mask n) u = let e : n ≡ length bytes = cc (u .says) in record { says = rw (e); spare = u .left }
+runs-told p (ok bytes) i (runs.Refused r) u = absurd (let z : _≡_ {A = ℕ} 0 1 = cc (u .says) in omega arith)
+runs-told p (fail q) i (runs.Mask n) u = absurd (let z : _≡_ {A = ℕ} 0 1 = cc (u .says) in omega arith)
+runs-told p (fail q) i (runs.Refused r) u =
+    let e : r ≡ placed p q = cc (u .says) in
+    let z : placed 0 q ≡ q = cc (i) in
+    record { says = rw (e) (ap fail z); spare = u .left }
 
 pub unroll-told : (s : List ℕ) (h : Header) (room : ℕ) (a : RunsAnswer) {old newer : List ℕ} → maskLength (shapeOf h) ≤ room
     → RunsUnrolled (decoded (take (h .mask) (drop headerBytes s)) (pixels (shapeOf h)) (h .valid) room) a old newer → Prepared (unrolled s h) (fromRuns a) old newer
 unfolding unrolled
 unroll-told s h room a l u =
     let t = take (h .mask) (drop headerBytes s) in
-    runs-told (coded t (pixels (shapeOf h)) (h .valid)) a (rw (decoded-coded t (pixels (shapeOf h)) (h .valid) room l) at u)
+    runs-told maskField (coded t (pixels (shapeOf h)) (h .valid)) (coded-bare t (pixels (shapeOf h)) (h .valid)) a (rw (decoded-coded t (pixels (shapeOf h)) (h .valid) room l) at u)
 
 -- ---- which of them
 
 module _ (s : List ℕ) (h : Header) (reuse : Bool) (old : List ℕ) where
-  pub says-none : h .valid ≡ 0 → maskSays s h reuse old ≡ uniform h 0
-  unfolding maskSays
+  pub says-none : h .valid ≡ 0 → maskIn s h reuse old ≡ uniform h 0
+  unfolding maskIn
   says-none e = rw (eq-eqb (h .valid) 0 e)
 
-  pub says-all : (h .valid ≡ 0 → ⊥) → h .valid ≡ pixels (shapeOf h) → maskSays s h reuse old ≡ uniform h 255
-  unfolding maskSays
+  pub says-all : (h .valid ≡ 0 → ⊥) → h .valid ≡ pixels (shapeOf h) → maskIn s h reuse old ≡ uniform h 255
+  unfolding maskIn
   says-all d e = rw (ne-eqb (h .valid) 0 d, eq-eqb (h .valid) (pixels (shapeOf h)) e)
 
   module _ (d : h .valid ≡ 0 → ⊥) (f : h .valid ≡ pixels (shapeOf h) → ⊥) where
-    pub says-kept : h .mask ≡ 0 → maskSays s h reuse old ≡ kept h reuse old
-    unfolding maskSays
+    pub says-kept : h .mask ≡ 0 → maskIn s h reuse old ≡ kept h reuse old
+    unfolding maskIn
     says-kept e = rw (ne-eqb (h .valid) 0 d, ne-eqb (h .valid) (pixels (shapeOf h)) f, eq-eqb (h .mask) 0 e)
 
-    pub says-runs : (h .mask ≡ 0 → ⊥) → maskSays s h reuse old ≡ unrolled s h
-    unfolding maskSays
+    pub says-runs : (h .mask ≡ 0 → ⊥) → maskIn s h reuse old ≡ unrolled s h
+    unfolding maskIn
     says-runs e = rw (ne-eqb (h .valid) 0 d, ne-eqb (h .valid) (pixels (shapeOf h)) f, ne-eqb (h .mask) 0 e)
 
 -- ---- room, and the section in the bytes

@@ -7,12 +7,12 @@ use mathlib.Core.List.{List, []}
 use lib.ListN.{length, take, drop, replicate}
 use lib.Dec.{leb, eqb}
 use Rattle.lerc_words.specs.declared.Refusal.{Refusal}
-use Rattle.lerc_words.specs.Res.{Res, ok, fail, _>>=_, refuse, require, after}
+use Rattle.lerc_words.specs.Res.{Res, ok, fail, _>>=_, refuse, marked, require, after}
 use Rattle.lerc_words.specs.Lists.{over}
 use Rattle.lerc_header.specs.declared.Header.{Header}
 use Rattle.lerc_header.specs.Header.{shapeOf, headerBytes, rangesAt, held}
 use Rattle.lerc_header.specs.Shape.{pixels, maskLength}
-use Rattle.lerc_mask.specs.Mask.{validBelow, coded}
+use Rattle.lerc_mask.specs.Mask.{validBelow, coded, maskField}
 use Rattle.lerc_validity.specs.declared.MaskAnswer.{MaskAnswer}
 use Rattle.lerc_validity.specs.declared.MaskAnswer.the-variants.{Kept, Spare, Refused}
 
@@ -45,11 +45,15 @@ unrolled s h = do
   ok (new m)
 
 -- the mask of a blob s whose header is h; "Any breach is 6."
-unfoldable pub maskSays : List ℕ → Header → Bool → List ℕ → Res MaskInForce
-maskSays s h reuse old =
+unfoldable pub maskIn : List ℕ → Header → Bool → List ℕ → Res MaskInForce
+maskIn s h reuse old =
     cond (eqb (h .valid) 0) (uniform h 0)
     (cond (eqb (h .valid) (pixels (shapeOf h))) (uniform h 255)
     (cond (eqb (h .mask) 0) (kept h reuse old) (unrolled s h)))
+
+-- "66 for 6"
+abbrev pub maskSays : List ℕ → Header → Bool → List ℕ → Res MaskInForce
+maskSays s h reuse old = marked maskField (maskIn s h reuse old)
 
 -- the mask in the bytes of a blob that was opened: room for it in both slices (5), its section (1), and what it says
 unfoldable pub findSays : List ℕ → Header → Bool → List ℕ → ℕ → Res MaskInForce

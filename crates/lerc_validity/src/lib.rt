@@ -3,6 +3,7 @@ ghost use mathlib.Core.Path.{_≡_};
 ghost use mathlib.Core.List.{List};
 ghost use Prim.Native.Nat.{ℕ, _+_, _≤_};
 ghost use lib.ListN.{length};
+ghost use Rattle.lerc_words.specs.Res.{marked};
 ghost use Rattle.lerc_header.specs.Header.{shapeOf, rangesAt};
 ghost use Rattle.lerc_header.specs.Shape as Sizes;
 ghost use Rattle.lerc_header.specs.Shape.{maskLength};
@@ -10,6 +11,7 @@ ghost use Rattle.lerc_validity.specs.Validity as Mask;
 use lerc_header::HEADER;
 use lerc_header::Header;
 use lerc_header::HeldAnswer;
+use lerc_mask::MASK_FIELD;
 use lerc_mask::RunsAnswer;
 use lerc_words::Refusal;
 
@@ -26,9 +28,20 @@ impl MaskAnswer {
         ensures { λ r. ⌜ r ≡ Mask.refusalOfMask self ⌝ }
     {
         match self {
-            MaskAnswer::Kept(_n) => Refusal { number: 0 },
-            MaskAnswer::Spare(_n) => Refusal { number: 0 },
+            MaskAnswer::Kept(_n) => Refusal { number: 0, at: 0 },
+            MaskAnswer::Spare(_n) => Refusal { number: 0, at: 0 },
             MaskAnswer::Refused(why) => why,
+        }
+    }
+
+    // the same answer, refused at a place
+    fn at(self, place: usize) -> MaskAnswer
+        ensures { λ r. ⌜ Mask.maskSaid r ≡ marked place (Mask.maskSaid self) ⌝ }
+    {
+        match self {
+            MaskAnswer::Kept(n) => MaskAnswer::Kept(n),
+            MaskAnswer::Spare(n) => MaskAnswer::Spare(n),
+            MaskAnswer::Refused(why) => MaskAnswer::Refused(why.at(place)),
         }
     }
 }
@@ -39,7 +52,7 @@ fn put_uniform(h: Header, n: usize, byte: u8, spare: &mut [u8]) -> MaskAnswer
     ensures { λ r. ⌜ Mask.Prepared (Mask.uniform h byte) r (now (spare .entry)) (now (spare .exit)) ⌝ }
 {
     if h.mask != 0 {
-        return MaskAnswer::Refused(Refusal { number: 6 });
+        return MaskAnswer::Refused(Refusal { number: 6, at: 0 });
     }
     lerc_slices::fill_bytes(byte, &mut spare[..n]);
     MaskAnswer::Spare(n)
@@ -51,10 +64,10 @@ fn take_kept(h: Header, pixels: usize, n: usize, reuse: bool, kept: &[u8]) -> Ma
     ensures { λ r. ⌜ ((spare : List ℕ) → Mask.Prepared (Mask.kept h reuse (now (kept .entry))) r spare spare) ⌝ }
 {
     if !reuse {
-        return MaskAnswer::Refused(Refusal { number: 6 });
+        return MaskAnswer::Refused(Refusal { number: 6, at: 0 });
     }
     if lerc_mask::count(kept, pixels) != h.valid as usize {
-        return MaskAnswer::Refused(Refusal { number: 6 });
+        return MaskAnswer::Refused(Refusal { number: 6, at: 0 });
     }
     MaskAnswer::Kept(n)
 }
@@ -67,7 +80,8 @@ fn unroll(s: &[u8], h: Header, pixels: usize, spare: &mut [u8]) -> MaskAnswer
     let end = HEADER + h.mask as usize;
     let answer = lerc_mask::decode(&s[HEADER..end], pixels, h.valid as usize, spare);
     let RunsAnswer::Mask(n) = answer else {
-        return MaskAnswer::Refused(answer.refusal());
+        let why = answer.refusal();
+        return MaskAnswer::Refused(why.at(0));
     };
     MaskAnswer::Spare(n)
 }
@@ -83,7 +97,7 @@ fn find(
     spare: &mut [u8],
 ) -> MaskAnswer
     requires { ⌜ (pixels ≡ Sizes.pixels (shapeOf h)) × (n ≡ maskLength (shapeOf h)) × (rangesAt h ≤ length (now s)) × (n ≤ length (now kept)) × (n ≤ length (now spare)) ⌝ }
-    ensures { λ r. ⌜ Mask.Prepared (Mask.maskSays (now (s .entry)) h reuse (now (kept .entry))) r (now (spare .entry)) (now (spare .exit)) ⌝ }
+    ensures { λ r. ⌜ Mask.Prepared (Mask.maskIn (now (s .entry)) h reuse (now (kept .entry))) r (now (spare .entry)) (now (spare .exit)) ⌝ }
 {
     if h.valid == 0 {
         return put_uniform(h, n, 0, spare);
@@ -98,7 +112,8 @@ fn find(
 }
 
 // Finds the mask in the bytes of a blob that was opened: its header is not held to the rules again.
-// Both slices must have room (5), and the section must lie in the bytes (1).
+// Both slices must have room (5), and the section must lie in the bytes (1). A breach of its rules (6) is told at the count of
+// mask bytes.
 pub fn find_mask(s: &[u8], h: Header, reuse: bool, kept: &[u8], spare: &mut [u8]) -> MaskAnswer
     ensures { λ r. ⌜ Mask.Prepared (Mask.findSays (now (s .entry)) h reuse (now (kept .entry)) (length (now (spare .entry)))) r (now (spare .entry)) (now (spare .exit)) ⌝ }
 {
@@ -106,12 +121,13 @@ pub fn find_mask(s: &[u8], h: Header, reuse: bool, kept: &[u8], spare: &mut [u8]
     let n = (pixels + 7) / 8;
     let room = (n <= kept.len()) & (n <= spare.len());
     if !room {
-        return MaskAnswer::Refused(Refusal { number: 5 });
+        return MaskAnswer::Refused(Refusal { number: 5, at: 0 });
     }
     if s.len() < HEADER + h.mask as usize {
-        return MaskAnswer::Refused(Refusal { number: 1 });
+        return MaskAnswer::Refused(Refusal { number: 1, at: 0 });
     }
-    find(s, h, pixels, n, reuse, kept, spare)
+    let found = find(s, h, pixels, n, reuse, kept, spare);
+    found.at(MASK_FIELD)
 }
 
 // Finds the mask of a blob whose header is h, and says where it stands: a reused one in `kept`, a new one in `spare`.

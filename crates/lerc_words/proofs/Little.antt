@@ -4,11 +4,13 @@ use mathlib.Core.Path.{_≡_, _∙_, sym, ap, refl}
 use mathlib.Core.List.{List, _++_}
 use Prim.Native.Nat.{ℕ, zero, suc, _+_, _-_, _*_, _/_, _%_, _^_, _≤_, _<_, min}
 use native.Mathlib.Decide.{decLe}
+use lib.Dec.{leb}
 use native.Mathlib.Omega.{arith}
 use native.Mathlib.Nat.{pow-suc, pow-succ', pow-zero, pow-le-pow-right, mul-assoc, mul-zero, zero-add, add-assoc, add-zero, suc-add, add-suc, one-mul, add-mul-mod-self-left, add-mul-div-left, div-eq-of-lt, mod-eq-of-lt, one-le-pow}
 use lib.ListN.{length, getD, List·getD-eq-default}
 use lib.Seq.{getD-append-add}
-use Rattle.lerc_words.specs.Res.{ok, fail, refuse, little, wordAt, wordSays, wordSaid, refusalOfWord}
+use Rattle.lerc_words.specs.Res.{ok, fail, refuse, placed, marked, little, wordAt, wordSays, wordSaid, refusalOfWord}
+use Rattle.lerc_words.proofs.Marking.{marked-is, Bare, bare-then, bare-no}
 use Rattle.lerc_words.specs.declared.WordAnswer.{WordAnswer}
 use Rattle.lerc_words.specs.declared.WordAnswer.the-variants as word
 use Rattle.lerc_words.specs.declared.Refusal.{Refusal}
@@ -169,14 +171,6 @@ wordAt-is n s at v e = go (decLe (at + n) (length s))
     go (yes p) = record { inside = p; value = (cc (wordAt-ok n s at p)) }
     go (no q) = absurd (let h : length s < at + n = omega arith in let w = wordAt-no n s at h in let z : _≡_ {A = ℕ} 0 1 = cc in omega arith)
 
--- what an answer that was taken apart says of the bytes
-pub read-ok : (s : List ℕ) (at size : ℕ) {r : WordAnswer} {v : ℕ} → size ≤ 8 → wordSaid r ≡ wordSays s at size → r ≡ word.Word v → wordAt size s at ≡ ok v
-read-ok s at size h e d = sym (word-at s at size h) ∙ sym e ∙ ap wordSaid d
-
-pub read-no : (s : List ℕ) (at size : ℕ) {r : WordAnswer} {q why : Refusal} → size ≤ 8 → wordSaid r ≡ wordSays s at size → r ≡ word.Refused q → why ≡ refusalOfWord r
-    → wordAt size s at ≡ fail why
-read-no s at size h e d f = sym (word-at s at size h) ∙ sym e ∙ ap wordSaid d ∙ ap fail (sym (f ∙ ap refusalOfWord d))
-
 pub byte-lt : (s : List ℕ) (at v : ℕ) → Bytes s → wordAt 1 s at ≡ ok v → v < 256
 byte-lt s at v b e = rw (wordAt-is 1 s at v e .value) (little-lt 1 s at b)
 
@@ -205,3 +199,31 @@ wordAt-fails n s at {r} e = go (decLe (at + n) (length s))
     go : Dec (at + n ≤ length s) → length s < at + n
     go (yes p) = absurd (let h = wordAt-ok n s at p in let z : _≡_ {A = ℕ} 0 1 = cc in omega arith)
     go (no q) = omega arith
+
+-- ---- what an answer of `word` that was taken apart says of the bytes
+
+-- a word tells no place by itself
+pub wordAt-bare : (n : ℕ) (s : List ℕ) (at : ℕ) → Bare (wordAt n s at)
+unfolding wordAt
+wordAt-bare n s at = bare-then (leb (at + n) (length s)) 1 _ refl
+
+answered : (s : List ℕ) (at size : ℕ) {r : WordAnswer} {m : WordAnswer} → size ≤ 8 → wordSaid r ≡ marked at (wordSays s at size) → r ≡ m → marked at (wordAt size s at) ≡ wordSaid m
+answered s at size h e d = ap (marked at) (sym (word-at s at size h)) ∙ sym e ∙ ap wordSaid d
+
+module _ (s : List ℕ) (at size : ℕ) {r : WordAnswer} (h : size ≤ 8) (e : wordSaid r ≡ marked at (wordSays s at size)) where
+  pub read-ok : {v : ℕ} → r ≡ word.Word v → wordAt size s at ≡ ok v
+  read-ok d = marked-is at _ (answered s at size h e d)
+
+  -- refused, and the place taken off
+  pub read-no : {q why : Refusal} → r ≡ word.Refused q → why ≡ placed 0 (refusalOfWord r) → wordAt size s at ≡ fail why
+  read-no d f = bare-no at _ (wordAt-bare size s at) (answered s at size h e d) (f ∙ ap (λ x. placed 0 (refusalOfWord x)) d)
+
+  -- refused: 1, at the word's first byte
+  pub read-cut : {q : Refusal} → r ≡ word.Refused q → wordAt size s at ≡ fail (refuse 1)
+  read-cut d = wordAt-no size s at (wordAt-fails size s at (read-no d refl))
+
+  pub read-why : {q why : Refusal} → r ≡ word.Refused q → why ≡ refusalOfWord r → why ≡ placed at (refuse 1)
+  read-why {q} d f =
+      let g : marked at (fail (refuse 1)) ≡ wordSaid (word.Refused q) = ap (marked at) (sym (read-cut d)) ∙ answered s at size h e d in
+      let z : q ≡ placed at (refuse 1) = cc in
+      f ∙ ap refusalOfWord d ∙ z

@@ -10,7 +10,7 @@ use Rattle.lerc_words.specs.declared.Refusal.{Refusal}
 use Rattle.lerc_words.specs.declared.WordAnswer.{WordAnswer}
 use Rattle.lerc_words.specs.declared.WordAnswer.the-variants.{Word, Refused}
 
--- "A refusal carries its number"
+-- "A refusal carries its number", and "a place with each number"
 pub data Res (A : Type 0) : Type 0 where
   ok : A → Res A
   fail : Refusal → Res A
@@ -21,8 +21,18 @@ abbrev pub _>>=_ : {A B : Type 0} → Res A → (A → Res B) → Res B
 _>>=_ (ok a) k = k a
 _>>=_ (fail r) k = fail r
 
+-- a number alone: its place is 0, as is that of "all else"
 abbrev pub refuse : ℕ → Refusal
-refuse n = record { number = n }
+refuse n = record { number = n; at = 0 }
+
+-- the same number at a place
+abbrev pub placed : ℕ → Refusal → Refusal
+placed p why = record { number = why .number; at = p }
+
+-- "a place with each number": an answer whose refusal, if it is one, is at a place. What is accepted, and each number, are the unmarked answer's (law `unmarked`)
+abbrev pub marked : {A : Type 0} → ℕ → Res A → Res A
+marked p (ok a) = ok a
+marked p (fail why) = fail (placed p why)
 
 -- the test must hold, else n is the refusal's number
 abbrev pub require : Bool → ℕ → Res Bool

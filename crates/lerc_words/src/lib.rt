@@ -2,11 +2,25 @@
 ghost use mathlib.Core.Path.{_≡_};
 ghost use Prim.Native.Nat.{ℕ, _+_, _-_, _*_, _^_, _≤_, _<_, min};
 ghost use lib.ListN.{length};
-ghost use Rattle.lerc_words.specs.Res.{little, wordSaid, wordSays, refusalOfWord};
+ghost use Rattle.lerc_words.specs.Res.{little, placed, marked, wordSaid, wordSays, refusalOfWord};
 ghost use Rattle.lerc_words.specs.Lists.{tabulate};
 
 pub struct Refusal {
     pub number: u32,
+    // where in the bytes; 0 where no place is told
+    pub at: usize,
+}
+
+impl Refusal {
+    // the same number at a place
+    pub fn at(self, place: usize) -> Refusal
+        ensures { λ r. ⌜ r ≡ placed place self ⌝ }
+    {
+        Refusal {
+            number: self.number,
+            at: place,
+        }
+    }
 }
 
 pub enum WordAnswer {
@@ -20,7 +34,7 @@ impl WordAnswer {
         ensures { λ r. ⌜ r ≡ refusalOfWord self ⌝ }
     {
         match self {
-            WordAnswer::Word(_v) => Refusal { number: 0 },
+            WordAnswer::Word(_v) => Refusal { number: 0, at: 0 },
             WordAnswer::Refused(why) => why,
         }
     }
@@ -87,18 +101,18 @@ pub fn bytes(s: &[u8], at: usize, size: usize) -> u64
     v % base
 }
 
-// the word of `size` bytes at `at`; more than eight bytes, or past the end: 1
+// the word of `size` bytes at `at`; more than eight bytes, or past the end: 1 at its first byte
 pub fn word(s: &[u8], at: usize, size: usize) -> WordAnswer
-    ensures { λ r. ⌜ wordSaid r ≡ wordSays (now (s .entry)) at size ⌝ }
+    ensures { λ r. ⌜ wordSaid r ≡ marked at (wordSays (now (s .entry)) at size) ⌝ }
 {
     if 8 < size {
-        return WordAnswer::Refused(Refusal { number: 1 });
+        return WordAnswer::Refused(Refusal { number: 1, at });
     }
     if s.len() < size {
-        return WordAnswer::Refused(Refusal { number: 1 });
+        return WordAnswer::Refused(Refusal { number: 1, at });
     }
     if s.len() - size < at {
-        return WordAnswer::Refused(Refusal { number: 1 });
+        return WordAnswer::Refused(Refusal { number: 1, at });
     }
     WordAnswer::Word(bytes(s, at, size))
 }

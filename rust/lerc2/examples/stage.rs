@@ -6,6 +6,7 @@
 
 use lerc2::{fill, prepare_mask, read_header, read_ranges, walk, Header, Refusal};
 use std::io::Read;
+use std::process::ExitCode;
 
 /// What others may look at.
 #[derive(Default)]
@@ -63,7 +64,8 @@ impl Published {
     }
 }
 
-fn main() -> Result<(), Box<dyn std::error::Error>> {
+/// Fails where the blob is refused, with its number, its place and a sentence.
+fn main() -> Result<ExitCode, Box<dyn std::error::Error>> {
     if !lerc2::float_ready() {
         return Err("the float unit rounds otherwise or flushes small numbers".into());
     }
@@ -76,11 +78,14 @@ fn main() -> Result<(), Box<dyn std::error::Error>> {
     let before = published.image.clone();
     let cut = &blob[..blob.len().saturating_sub(1)];
     if let Err(refusal) = published.publish(&mut stage, cut) {
-        println!("one byte short: {refusal}");
+        println!("one byte short: {refusal}: {}", refusal.where_to_look());
     }
     assert_eq!(published.image, before);
 
-    answer?;
+    if let Err(refusal) = answer {
+        println!("{refusal}: {}", refusal.where_to_look());
+        return Ok(ExitCode::FAILURE);
+    }
     let header = published.header.ok_or("nothing was published")?;
     for (cell, &word) in published.image.iter().enumerate().take(10) {
         let pixel = cell / header.depth as usize;
@@ -91,5 +96,5 @@ fn main() -> Result<(), Box<dyn std::error::Error>> {
         }
     }
     println!("{} cells", header.cells());
-    Ok(())
+    Ok(ExitCode::SUCCESS)
 }

@@ -39,7 +39,8 @@ impl Kind {
     /// does not fit, binary32 takes the nearest, ties to even.
     pub fn stored(self, number: f64) -> Result<u64, Refusal> {
         let mut said = [0; raw::STORED];
-        Refusal::judge(raw::stored(number.to_bits(), self as u32, &mut said))?;
+        let bits = number.to_bits();
+        Refusal::judge(|place| raw::stored(bits, self as u32, &mut said, place))?;
         Ok(said[0])
     }
 }
@@ -139,6 +140,6 @@ impl Header {
 /// Reads a header and holds it to the rules.
 pub fn read_header(blob: &[u8]) -> Result<Header, Refusal> {
     let mut record = [0; raw::HEADER];
-    Refusal::judge(raw::read_header(blob, &mut record))?;
+    Refusal::judge(|place| raw::read_header(blob, &mut record, place))?;
     Ok(Header::from_record(&record))
 }

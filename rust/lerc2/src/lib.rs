@@ -7,8 +7,9 @@
 //! a header tells: [`Header::mask_length`], [`Header::blocks`],
 //! [`Header::cells`]; longer is fine.
 //!
-//! A [`Refusal`] leaves every lent slice as it was, except that [`read`] leaves
-//! an accepted new mask in the spare.
+//! A [`Refusal`] has a number and a place in the blob, "refused 8 at 74"; it
+//! leaves every lent slice as it was, except that [`read`] leaves an accepted
+//! new mask in the spare.
 //!
 //! Cells are words: the sample's own bits, zero-extended. The word of pixel
 //! `p` at depth `d` stands at `p * depth + d`; [`Kind::number`] gives its
@@ -55,5 +56,5 @@ pub use arithmetic::{float_ready, narrow, scaled, sum};
 pub use header::{read_header, Header, Kind};
 pub use mask::{is_valid, prepare_mask, Mask};
 pub use ranges::{read_ranges, Ranges, MOST_DEPTH};
-pub use refusal::Refusal;
+pub use refusal::{Refusal, Why};
 pub use steps::{fill, read, walk, Walked, Whole};

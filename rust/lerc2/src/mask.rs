@@ -38,8 +38,8 @@ pub fn prepare_mask<'a>(
     spare: &'a mut [u8],
 ) -> Result<Mask<'a>, Refusal> {
     let mut said = [0; raw::MASK];
-    let returned = raw::prepare_mask(blob, &header.record(), reuse, kept, spare, &mut said);
-    Refusal::judge(returned)?;
+    let header = header.record();
+    Refusal::judge(|place| raw::prepare_mask(blob, &header, reuse, kept, spare, &mut said, place))?;
     let [which, length] = said.map(|number| number as usize);
     Ok(match which {
         1 => Mask::Kept(&kept[..length]),

@@ -46,6 +46,7 @@ impl Ranges {
 /// Reads the ranges, which begin after the mask section.
 pub fn read_ranges(blob: &[u8], header: &Header) -> Result<Ranges, Refusal> {
     let mut record = [0; raw::RANGES];
-    Refusal::judge(raw::read_ranges(blob, &header.record(), &mut record))?;
+    let header = header.record();
+    Refusal::judge(|place| raw::read_ranges(blob, &header, &mut record, place))?;
     Ok(Ranges::from_record(&record))
 }

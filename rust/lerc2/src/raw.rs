@@ -1,10 +1,15 @@
 //! The entries of the C interface as they are, with slices in place of
 //! pointers and lengths.
 //!
-//! Those that can refuse return 0 or the number of a refusal. Records are slices of 64-bit
-//! numbers: a header 11, ranges 130, what an entry says 1, 2 or 13. A record
-//! that is too short is refused 5, then a number that its field cannot hold 3,
-//! both before anything else. After a refusal the records are as they were.
+//! Those that can refuse return 0 or the number of a refusal, and are lent a
+//! slice for its place, the last one. Without room for a number it is refused 5
+//! before anything else, and nothing is written. Else the first number of it is
+//! written in every outcome: the place of the refusal, or 0. The rest stays.
+//!
+//! Records are slices of 64-bit numbers: a header 11, ranges 130, what an entry
+//! says 1, 2 or 13. A record that is too short is refused 5, then a number that
+//! its field cannot hold 3, both before anything else but the place, and both
+//! at place 0. After a refusal the records are as they were.
 //!
 //! All `unsafe` of this crate is here. Each call hands over the pointer and
 //! the length of a slice that lives through it; slices that are written do not
@@ -27,10 +32,19 @@ pub const FILL: usize = 1;
 pub const STORED: usize = 1;
 /// Numbers that [`read`] says: the header's, how many blocks, the body's end.
 pub const READ: usize = 13;
+/// Numbers of a place.
+pub const PLACE: usize = 1;
 
 mod c {
     extern "C" {
-        pub fn lerc2_read_header(blob: *const u8, n: usize, header: *mut u64, m: usize) -> u32;
+        pub fn lerc2_read_header(
+            blob: *const u8,
+            n: usize,
+            header: *mut u64,
+            m: usize,
+            place: *mut u64,
+            place_n: usize,
+        ) -> u32;
         pub fn lerc2_prepare_mask(
             blob: *const u8,
             n: usize,
@@ -43,6 +57,8 @@ mod c {
             spare_n: usize,
             said: *mut u64,
             said_n: usize,
+            place: *mut u64,
+            place_n: usize,
         ) -> u32;
         pub fn lerc2_read_ranges(
             blob: *const u8,
@@ -51,6 +67,8 @@ mod c {
             m: usize,
             ranges: *mut u64,
             ranges_n: usize,
+            place: *mut u64,
+            place_n: usize,
         ) -> u32;
         pub fn lerc2_walk(
             blob: *const u8,
@@ -65,6 +83,8 @@ mod c {
             list_n: usize,
             said: *mut u64,
             said_n: usize,
+            place: *mut u64,
+            place_n: usize,
         ) -> u32;
         pub fn lerc2_fill(
             blob: *const u8,
@@ -82,6 +102,8 @@ mod c {
             image_n: usize,
             said: *mut u64,
             said_n: usize,
+            place: *mut u64,
+            place_n: usize,
         ) -> u32;
         pub fn lerc2_read(
             blob: *const u8,
@@ -97,19 +119,37 @@ mod c {
             image_n: usize,
             said: *mut u64,
             said_n: usize,
+            place: *mut u64,
+            place_n: usize,
         ) -> u32;
         pub fn lerc2_float_ready(mix: u64) -> bool;
         pub fn lerc2_sum(a: u64, b: u64) -> u64;
         pub fn lerc2_scaled(a: u64, q: u32) -> u64;
         pub fn lerc2_narrow(v: u64) -> u32;
         pub fn lerc2_number(word: u64, kind: u32) -> u64;
-        pub fn lerc2_stored(v: u64, kind: u32, said: *mut u64, said_n: usize) -> u32;
+        pub fn lerc2_stored(
+            v: u64,
+            kind: u32,
+            said: *mut u64,
+            said_n: usize,
+            place: *mut u64,
+            place_n: usize,
+        ) -> u32;
     }
 }
 
 /// The header of a blob into its record.
-pub fn read_header(blob: &[u8], header: &mut [u64]) -> u32 {
-    unsafe { c::lerc2_read_header(blob.as_ptr(), blob.len(), header.as_mut_ptr(), header.len()) }
+pub fn read_header(blob: &[u8], header: &mut [u64], place: &mut [u64]) -> u32 {
+    unsafe {
+        c::lerc2_read_header(
+            blob.as_ptr(),
+            blob.len(),
+            header.as_mut_ptr(),
+            header.len(),
+            place.as_mut_ptr(),
+            place.len(),
+        )
+    }
 }
 
 /// The mask in force, written to the spare unless the kept mask is reused.
@@ -120,6 +160,7 @@ pub fn prepare_mask(
     kept: &[u8],
     spare: &mut [u8],
     said: &mut [u64],
+    place: &mut [u64],
 ) -> u32 {
     unsafe {
         c::lerc2_prepare_mask(
@@ -134,12 +175,14 @@ pub fn prepare_mask(
             spare.len(),
             said.as_mut_ptr(),
             said.len(),
+            place.as_mut_ptr(),
+            place.len(),
         )
     }
 }
 
 /// The ranges of each depth into their record.
-pub fn read_ranges(blob: &[u8], header: &[u64], ranges: &mut [u64]) -> u32 {
+pub fn read_ranges(blob: &[u8], header: &[u64], ranges: &mut [u64], place: &mut [u64]) -> u32 {
     unsafe {
         c::lerc2_read_ranges(
             blob.as_ptr(),
@@ -148,6 +191,8 @@ pub fn read_ranges(blob: &[u8], header: &[u64], ranges: &mut [u64]) -> u32 {
             header.len(),
             ranges.as_mut_ptr(),
             ranges.len(),
+            place.as_mut_ptr(),
+            place.len(),
         )
     }
 }
@@ -160,6 +205,7 @@ pub fn walk(
     mask: &[u8],
     list: &mut [usize],
     said: &mut [u64],
+    place: &mut [u64],
 ) -> u32 {
     unsafe {
         c::lerc2_walk(
@@ -175,6 +221,8 @@ pub fn walk(
             list.len(),
             said.as_mut_ptr(),
             said.len(),
+            place.as_mut_ptr(),
+            place.len(),
         )
     }
 }
@@ -190,6 +238,7 @@ pub fn fill(
     number: usize,
     image: &mut [u64],
     said: &mut [u64],
+    place: &mut [u64],
 ) -> u32 {
     unsafe {
         c::lerc2_fill(
@@ -208,11 +257,14 @@ pub fn fill(
             image.len(),
             said.as_mut_ptr(),
             said.len(),
+            place.as_mut_ptr(),
+            place.len(),
         )
     }
 }
 
 /// Reads a whole blob.
+#[allow(clippy::too_many_arguments)]
 pub fn read(
     blob: &[u8],
     reuse: bool,
@@ -221,6 +273,7 @@ pub fn read(
     list: &mut [usize],
     image: &mut [u64],
     said: &mut [u64],
+    place: &mut [u64],
 ) -> u32 {
     unsafe {
         c::lerc2_read(
@@ -237,6 +290,8 @@ pub fn read(
             image.len(),
             said.as_mut_ptr(),
             said.len(),
+            place.as_mut_ptr(),
+            place.len(),
         )
     }
 }
@@ -267,7 +322,17 @@ pub fn number(word: u64, kind: u32) -> u64 {
     unsafe { c::lerc2_number(word, kind) }
 }
 
-/// A binary64 number, as bits, as a stored word of the kind.
-pub fn stored(v: u64, kind: u32, said: &mut [u64]) -> u32 {
-    unsafe { c::lerc2_stored(v, kind, said.as_mut_ptr(), said.len()) }
+/// A binary64 number, as bits, as a stored word of the kind. The place is
+/// always 0.
+pub fn stored(v: u64, kind: u32, said: &mut [u64], place: &mut [u64]) -> u32 {
+    unsafe {
+        c::lerc2_stored(
+            v,
+            kind,
+            said.as_mut_ptr(),
+            said.len(),
+            place.as_mut_ptr(),
+            place.len(),
+        )
+    }
 }

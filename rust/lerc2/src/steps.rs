@@ -35,15 +35,8 @@ pub fn walk(
     list: &mut [usize],
 ) -> Result<Walked, Refusal> {
     let mut said = [0; raw::WALK];
-    let returned = raw::walk(
-        blob,
-        &header.record(),
-        &ranges.record(),
-        mask,
-        list,
-        &mut said,
-    );
-    Refusal::judge(returned)?;
+    let (header, ranges) = (header.record(), ranges.record());
+    Refusal::judge(|place| raw::walk(blob, &header, &ranges, mask, list, &mut said, place))?;
     let [blocks, end] = said.map(|number| number as usize);
     Ok(Walked { blocks, end })
 }
@@ -60,17 +53,12 @@ pub fn fill(
     image: &mut [u64],
 ) -> Result<usize, Refusal> {
     let mut said = [0; raw::FILL];
-    let returned = raw::fill(
-        blob,
-        &header.record(),
-        &ranges.record(),
-        mask,
-        list,
-        number,
-        image,
-        &mut said,
-    );
-    Refusal::judge(returned)?;
+    let (header, ranges) = (header.record(), ranges.record());
+    Refusal::judge(|place| {
+        raw::fill(
+            blob, &header, &ranges, mask, list, number, image, &mut said, place,
+        )
+    })?;
     Ok(said[0] as usize)
 }
 
@@ -86,8 +74,7 @@ pub fn read(
     image: &mut [u64],
 ) -> Result<Whole, Refusal> {
     let mut said = [0; raw::READ];
-    let returned = raw::read(blob, reuse, kept, spare, list, image, &mut said);
-    Refusal::judge(returned)?;
+    Refusal::judge(|place| raw::read(blob, reuse, kept, spare, list, image, &mut said, place))?;
     Ok(Whole {
         header: Header::from_record(&said),
         blocks: said[raw::HEADER] as usize,

@@ -2,7 +2,7 @@
 //! refusal leaves behind.
 
 use lerc2::{
-    fill, prepare_mask, read, read_header, read_ranges, walk, Header, Kind, Mask, Refusal,
+    fill, prepare_mask, read, read_header, read_ranges, walk, Header, Kind, Mask, Refusal, Why,
 };
 
 const BODY: [u8; 9] = [0x0A, 0x0C, 0, 0, 1, 0x0A, 0x82, 3, 0x24];
@@ -21,6 +21,10 @@ fn blob(valid: u32, mask: &[u8], after: &[u8]) -> Vec<u8> {
     blob.extend_from_slice(mask);
     blob.extend_from_slice(after);
     blob
+}
+
+fn refused<T>(why: Why, place: usize) -> Result<T, Refusal> {
+    Err(Refusal { why, place })
 }
 
 fn header() -> Header {
@@ -81,7 +85,7 @@ fn step_by_step() {
         assert_eq!(image, [10, 11, 12]);
     }
     let past = fill(&blob, &header, &ranges, mask, &list, 1, &mut image);
-    assert_eq!(past, Err(Refusal::NoSuchBlock));
+    assert_eq!(past, refused(Why::NoSuchBlock, 0));
 }
 
 #[test]
@@ -93,7 +97,7 @@ fn a_kept_mask_is_reused() {
     assert_eq!(mask, Ok(Mask::Kept(&[0b1010_0000])));
     assert_eq!(spare, [7]);
     let mask = prepare_mask(&blob, &header, false, &kept, &mut spare);
-    assert_eq!(mask, Err(Refusal::WrongMask));
+    assert_eq!(mask, refused(Why::WrongMask, 66));
     let (mut kept, mut list, mut image) = (kept, [0], [9; 3]);
     read(&blob, true, &mut kept, &mut spare, &mut list, &mut image).unwrap();
     assert_eq!(image, [11, 9, 11]);
@@ -102,10 +106,12 @@ fn a_kept_mask_is_reused() {
 #[test]
 fn a_refusal_leaves_the_spare_mask_alone_changed() {
     // The mask is right, the block is not.
-    let blob = blob(2, &[1, 0, 0xA0, 0, 0x80], &[0x0A, 0x0C, 0, 0, 5, 11]);
+    let mask = [1, 0, 0xA0, 0, 0x80];
+    let blob = blob(2, &mask, &[0x0A, 0x0C, 0, 0, 5, 11]);
     let (mut kept, mut spare, mut list, mut image) = ([1], [2], [7], [9; 3]);
     let answer = read(&blob, false, &mut kept, &mut spare, &mut list, &mut image);
-    assert_eq!(answer, Err(Refusal::WrongBlock));
+    let flag = 70 + mask.len() + 4;
+    assert_eq!(answer, refused(Why::WrongBlock, flag));
     assert_eq!((kept, spare, list, image), ([1], [0xA0], [7], [9; 3]));
 }
 
@@ -116,7 +122,7 @@ fn every_cut_is_refused() {
         let (mut kept, mut spare, mut list, mut image) = ([1], [2], [7], [9; 3]);
         let cut = &blob[..length];
         let answer = read(cut, false, &mut kept, &mut spare, &mut list, &mut image);
-        assert_eq!(answer, Err(Refusal::PassesSize), "{length} bytes");
+        assert_eq!(answer, refused(Why::PassesSize, 0), "{length} bytes");
         assert_eq!((kept, spare, list, image), ([1], [2], [7], [9; 3]));
     }
 }
@@ -129,7 +135,7 @@ fn every_slice_needs_room() {
         let (mut kept, mut spare) = (vec![0; room(0, 1)], vec![0; room(1, 1)]);
         let (mut list, mut image) = (vec![0; room(2, 1)], vec![0; room(3, 3)]);
         let answer = read(&blob, false, &mut kept, &mut spare, &mut list, &mut image);
-        assert_eq!(answer, Err(Refusal::NoRoom));
+        assert_eq!(answer, refused(Why::NoRoom, 0));
     }
 }
 
@@ -141,12 +147,15 @@ fn a_header_by_hand_is_held_to_the_rules() {
         change(&mut header);
         read_ranges(&blob, &header)
     };
-    assert_eq!(wrong(|header| header.side = 0), Err(Refusal::WrongField));
-    assert_eq!(wrong(|header| header.side = 17), Err(Refusal::Ceiling));
-    assert_eq!(wrong(|header| header.size = 80), Err(Refusal::PassesSize));
+    assert_eq!(wrong(|header| header.side = 0), refused(Why::WrongField, 0));
+    assert_eq!(wrong(|header| header.side = 17), refused(Why::Ceiling, 0));
+    assert_eq!(
+        wrong(|header| header.size = 80),
+        refused(Why::PassesSize, 0)
+    );
     assert_eq!(
         wrong(|header| header.max = f64::NAN),
-        Err(Refusal::WrongField)
+        refused(Why::WrongField, 0)
     );
 }
 
@@ -154,16 +163,18 @@ fn a_header_by_hand_is_held_to_the_rules() {
 fn records_of_any_length() {
     use lerc2::raw;
     let blob = blob(3, &[], &BODY);
-    let mut short = [5; raw::HEADER - 1];
-    assert_eq!(raw::read_header(&blob, &mut short), 5);
-    assert_eq!(short, [5; raw::HEADER - 1]);
-    let mut long = [5; raw::HEADER + 1];
-    assert_eq!(raw::read_header(&blob, &mut long), 0);
+    let (mut short, mut place) = ([5; raw::HEADER - 1], [7; 2]);
+    assert_eq!(raw::read_header(&blob, &mut short, &mut place), 5);
+    assert_eq!((short, place), ([5; raw::HEADER - 1], [0, 7]));
+    let (mut long, mut place) = ([5; raw::HEADER + 1], [7; 2]);
+    assert_eq!(raw::read_header(&blob, &mut long, &mut place), 0);
     assert_eq!(long[..4], [1, 3, 1, 3]);
-    assert_eq!(long[raw::HEADER], 5);
+    assert_eq!((long[raw::HEADER], place), (5, [0, 7]));
     // A number that its field cannot hold.
     long[0] = 1 << 32 | 1;
-    assert_eq!(raw::read_ranges(&blob, &long, &mut [0; raw::RANGES]), 3);
+    let (mut ranges, mut place) = ([5; raw::RANGES], [7; 2]);
+    assert_eq!(raw::read_ranges(&blob, &long, &mut ranges, &mut place), 3);
+    assert_eq!((ranges, place), ([5; raw::RANGES], [0, 7]));
 }
 
 #[test]
@@ -180,6 +191,6 @@ fn arithmetic() {
     assert_eq!(Kind::I8.number(0x80), -128.0);
     assert_eq!(Kind::F32.number(0x3F80_0000), 1.0);
     assert_eq!(Kind::I8.stored(-128.5), Ok(128));
-    assert_eq!(Kind::I8.stored(128.0), Err(Refusal::DoesNotFit));
+    assert_eq!(Kind::I8.stored(128.0), refused(Why::DoesNotFit, 0));
     assert_eq!(Kind::U8.stored(-0.5), Ok(0));
 }

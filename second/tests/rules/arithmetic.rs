@@ -1,7 +1,7 @@
 //! The fast functions against the exact ones, and single cases.
 
 use crate::random::Random;
-use second::{exact, is_finite, less, narrow, number, same, scaled, stored, sum};
+use second::{exact, is_finite, less, narrow, number, same, scaled, stored, sum, Refusal};
 
 const INFINITY: u64 = 0x7FF0_0000_0000_0000;
 const SIGN: u64 = 1 << 63;
@@ -280,6 +280,9 @@ fn every_sort_of_binary32_comes_back() {
     }
 }
 
+/// A number by itself has no place.
+const OUTSIDE: Result<u64, Refusal> = Err(Refusal::of(9));
+
 /// Least and greatest number of the integer kinds.
 const LIMITS: [(f64, f64); 6] = [
     (-128.0, 127.0),
@@ -296,15 +299,15 @@ fn integers_end_where_the_kind_ends() {
         let fits = |value: f64| stored(value.to_bits(), kind).is_ok();
         assert!(fits(least) && fits(greatest));
         assert!(fits((least - 1.0).next_up()) && fits((greatest + 1.0).next_down()));
-        assert_eq!(stored((least - 1.0).to_bits(), kind), Err(9));
-        assert_eq!(stored((greatest + 1.0).to_bits(), kind), Err(9));
+        assert_eq!(stored((least - 1.0).to_bits(), kind), OUTSIDE);
+        assert_eq!(stored((greatest + 1.0).to_bits(), kind), OUTSIDE);
         for word in [
             INFINITY,
             SIGN | INFINITY,
             INFINITY | 1,
             SIGN | INFINITY | 1 << 51,
         ] {
-            assert_eq!(stored(word, kind), Err(9));
+            assert_eq!(stored(word, kind), OUTSIDE);
         }
         for value in [0.0f64, -0.0, 0.9, -0.9, 5e-324, -5e-324] {
             assert_eq!(stored(value.to_bits(), kind), Ok(0));
@@ -324,7 +327,7 @@ fn integers_are_cut_by_their_bits() {
 }
 
 /// Cut with whole numbers only.
-fn cut(v: u64, kind: u32) -> Result<u64, u32> {
+fn cut(v: u64, kind: u32) -> Result<u64, Refusal> {
     let negative = v & SIGN != 0;
     let field = (v >> 52 & 2047) as i32;
     let significand = i128::from(v & ((1 << 52) - 1) | 1 << 52);
@@ -342,7 +345,7 @@ fn cut(v: u64, kind: u32) -> Result<u64, u32> {
         (0, 1i128 << bits)
     };
     if value < least || value >= limit {
-        return Err(9);
+        return OUTSIDE;
     }
     Ok((value & ((1 << bits) - 1)) as u64)
 }

@@ -3,7 +3,7 @@
 use crate::blob::{hex, Blob};
 use crate::lent::{accepted, cells, whole_and_steps, Lent, IMAGE, KEPT, LIST, SPARE};
 use crate::refusals::OFFSET_KINDS;
-use second::{number, packed_counts, stored, word_size};
+use second::{number, packed_counts, stored, word_size, Refusal};
 
 #[test]
 fn empty_body_whatever_min_and_max_are() {
@@ -419,7 +419,7 @@ fn a_new_mask_replaces_the_kept_one_only_on_acceptance() {
         let mut wrong = bytes.clone();
         wrong[78] = 7;
         let mut lent = Lent::to_read(&wrong);
-        assert_eq!(lent.read(&wrong, reuse), Err(8));
+        assert_eq!(lent.read_number(&wrong, reuse), Err(8));
         assert_eq!(lent.kept[..2], [KEPT, KEPT]);
         assert_eq!(lent.spare[..2], [0xA1, SPARE]);
     }
@@ -434,7 +434,7 @@ fn a_refusal_after_reuse_leaves_everything() {
     let mut lent = Lent::to_read(&blob.bytes());
     lent.kept[0] = 0xA0;
     let before = lent.clone();
-    assert_eq!(lent.read(&blob.bytes(), true), Err(8));
+    assert_eq!(lent.read_number(&blob.bytes(), true), Err(8));
     assert_eq!(lent, before);
 }
 
@@ -474,7 +474,8 @@ fn counts_of_every_width() {
             assert!(counts[n..].iter().all(|&count| count == 7));
             if !run.is_empty() {
                 bytes.pop();
-                assert_eq!(packed_counts(&bytes, 1, &mut counts), Err(1));
+                let refused = packed_counts(&bytes, 1, &mut counts);
+                assert_eq!(refused, Err(Refusal::at(1, 1)));
             }
         }
     }
@@ -505,7 +506,8 @@ fn tables_of_every_length() {
             bytes.truncate(4 + (entries - 1).wrapping_mul(10).div_ceil(8));
             bytes.extend(packed(&wrong, width));
             let before = counts;
-            assert_eq!(packed_counts(&bytes, 0, &mut counts), Err(8));
+            let refused = packed_counts(&bytes, 0, &mut counts);
+            assert_eq!(refused, Err(Refusal::of(8)));
             assert_eq!(counts, before);
         }
     }
@@ -527,8 +529,10 @@ pub fn packed(values: &[u64], bits: usize) -> Vec<u8> {
 fn packed_counts_past_the_slice() {
     let mut counts = [7; 256];
     for at in [3, 4, usize::MAX] {
-        assert_eq!(packed_counts(&hex("82 03 39"), at, &mut counts), Err(1));
+        let refused = packed_counts(&hex("82 03 39"), at, &mut counts);
+        assert_eq!(refused, Err(Refusal::at(1, at)));
     }
-    assert_eq!(packed_counts(&[], 0, &mut counts), Err(1));
+    let refused = packed_counts(&[], 0, &mut counts);
+    assert_eq!(refused, Err(Refusal::of(1)));
     assert_eq!(counts, [7; 256]);
 }

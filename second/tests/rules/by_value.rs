@@ -2,11 +2,13 @@
 //! they refuse.
 
 use crate::blob::{header_bytes, hex, Blob};
+use crate::given::Given;
 use crate::lent::{Lent, IMAGE, LIST, SPARE};
-use second::{fill, prepare_mask, read_header, read_ranges, walk, Header, Mask, Ranges};
+use second::{fill, prepare_mask, read_header, read_ranges, walk};
+use second::{Header, Mask, Ranges, Refusal};
 
 /// What each step answers for a header by value, with room for anything small.
-fn every_step(bytes: &[u8], header: &Header) -> [Option<u32>; 4] {
+fn every_step(bytes: &[u8], header: &Header) -> [Option<Refusal>; 4] {
     let whole = Blob::whole();
     let ranges = read_ranges(&whole.bytes(), &whole.header()).unwrap();
     let mut lent = Lent::of(8, 8, 64);
@@ -24,9 +26,10 @@ fn refused_by_all(change: impl Fn(&mut Header)) -> u32 {
     let answers = every_step(&Blob::whole().bytes(), &header);
     let refusal = answers[0].unwrap();
     assert_eq!(answers, [Some(refusal); 4]);
-    // The same number as for a blob with such a header.
+    // The same number as for a blob with such a header, and no place.
     assert_eq!(read_header(&header_bytes(&header)), Err(refusal));
-    refusal
+    assert_eq!(refusal.place, 0);
+    refusal.number
 }
 
 #[test]
@@ -75,7 +78,7 @@ fn headers_are_held_to_r1() {
     // No room either, but the slice is judged before.
     assert_eq!(refused_by_all(|h| (h.size, h.rows) = (80, 4096)), 1);
     let header = Blob::whole().header();
-    assert_eq!(every_step(&[], &header), [Some(1); 4]);
+    assert_eq!(every_step(&[], &header), [Some(Refusal::of(1)); 4]);
 }
 
 #[test]
@@ -98,11 +101,11 @@ fn masks_need_room_in_both() {
         let mut spare = [SPARE; 2];
         assert_eq!(
             prepare_mask(&bytes, &header, reuse, &[0; 1], &mut spare),
-            Err(5)
+            Err(Refusal::of(5))
         );
         assert_eq!(
             prepare_mask(&bytes, &header, reuse, &[0; 2], &mut spare[..1]),
-            Err(5)
+            Err(Refusal::of(5))
         );
         assert_eq!(spare, [SPARE; 2]);
         // With a section it is never the kept mask.
@@ -124,11 +127,11 @@ fn room_comes_before_the_mask_section() {
     let (bytes, header) = (blob.bytes(), blob.header());
     assert_eq!(
         prepare_mask(&bytes, &header, false, &[0; 1], &mut [0; 2]),
-        Err(5)
+        Err(Refusal::of(5))
     );
     assert_eq!(
         prepare_mask(&bytes, &header, false, &[0; 2], &mut [0; 2]),
-        Err(6)
+        Err(Refusal::at(6, 66))
     );
 }
 
@@ -153,8 +156,9 @@ fn masks_reused_and_new() {
         prepare(3, true, [0xA0, 0x7F, 9]),
         (Ok(Mask::Kept(2)), untouched)
     );
-    assert_eq!(prepare(3, true, [0xA0, 0xC0, 9]), (Err(6), untouched));
-    assert_eq!(prepare(3, false, [0xA0, 0x40, 9]), (Err(6), untouched));
+    let wrong = (Err(Refusal::at(6, 66)), untouched);
+    assert_eq!(prepare(3, true, [0xA0, 0xC0, 9]), wrong);
+    assert_eq!(prepare(3, false, [0xA0, 0x40, 9]), wrong);
     for reuse in [false, true] {
         let none = (Ok(Mask::Spare(2)), [0, 0, SPARE]);
         let all = (Ok(Mask::Spare(2)), [255, 255, SPARE]);
@@ -205,61 +209,13 @@ fn ranges_do_not_look_at_valid() {
         ..Blob::row(3, &hex(body))
     };
     let read = |body: &str| read_ranges(&blob(body).bytes(), &blob(body).header());
-    assert_eq!(read("0A").err(), Some(1));
-    assert_eq!(read("0A 09").err(), Some(7));
+    assert_eq!(read("0A").err(), Some(Refusal::at(1, 70)));
+    assert_eq!(read("0A 09").err(), Some(Refusal::at(7, 71)));
     assert_eq!(read("0A 0C").map(|ranges| ranges.place), Ok(72));
     assert_eq!(read("0A 0A").map(|ranges| ranges.constant), Ok(true));
     // The whole read does.
     let (_, blocks, end, _) = crate::lent::accepted(&blob("0A 09").bytes());
     assert_eq!((blocks, end), (0, 70));
-}
-
-/// Walk and fill of the 79 bytes, with anything changed.
-struct Given {
-    bytes: Vec<u8>,
-    header: Header,
-    ranges: Ranges,
-    mask: Vec<u8>,
-    list: Vec<usize>,
-    image: Vec<u64>,
-}
-
-impl Given {
-    fn new() -> Given {
-        let bytes = Blob::whole().bytes();
-        let header = Blob::whole().header();
-        Given {
-            ranges: read_ranges(&bytes, &header).unwrap(),
-            bytes,
-            header,
-            mask: vec![255; 1],
-            list: vec![LIST; 1],
-            image: vec![IMAGE; 3],
-        }
-    }
-
-    fn walk(&mut self) -> Result<(usize, usize), u32> {
-        let before = self.list.clone();
-        let list = &mut self.list;
-        let answer = walk(&self.bytes, &self.header, &self.ranges, &self.mask, list);
-        assert!(answer.is_ok() || *list == before);
-        answer
-    }
-
-    fn fill(&mut self, number: usize) -> Result<usize, u32> {
-        let before = self.image.clone();
-        let answer = fill(
-            &self.bytes,
-            &self.header,
-            &self.ranges,
-            &self.mask,
-            &self.list,
-            number,
-            &mut self.image,
-        );
-        assert!(answer.is_ok() || self.image == before);
-        answer
-    }
 }
 
 #[test]
@@ -391,7 +347,7 @@ fn ranges_of_other_depths_count_for_fill() {
     let list = [75, 77];
     assert_eq!(
         fill(&bytes, &header, &ranges, &[255], &list, 0, &mut image),
-        Err(7)
+        Err(Refusal::of(7))
     );
     ranges.max[1] = 12f64.to_bits();
     assert_eq!(
@@ -476,7 +432,7 @@ fn fill_needs_the_whole_list() {
     let mut image = [IMAGE; 9];
     assert_eq!(
         fill(&bytes, &header, &ranges, &[255; 2], &[73], 0, &mut image),
-        Err(5)
+        Err(Refusal::of(5))
     );
     assert_eq!(
         fill(&bytes, &header, &ranges, &[255; 2], &[73, 0], 0, &mut image),
@@ -490,7 +446,7 @@ fn fill_needs_the_whole_list() {
     assert_eq!(image[8], 11);
     assert_eq!(
         fill(&bytes, &header, &ranges, &[255; 2], &[0, 75], 2, &mut image),
-        Err(11)
+        Err(Refusal::of(11))
     );
 }
 

@@ -46,6 +46,11 @@ impl Lent {
         }
     }
 
+    /// As [`Lent::read`], by the number alone.
+    pub fn read_number(&mut self, bytes: &[u8], reuse: bool) -> Result<(), u32> {
+        self.read(bytes, reuse).map(|_| ()).map_err(u32::from)
+    }
+
     pub fn read(&mut self, bytes: &[u8], reuse: bool) -> Result<(Header, usize, usize), Refusal> {
         read(
             bytes,
@@ -72,12 +77,20 @@ pub fn cells(bytes: &[u8]) -> Vec<u64> {
 }
 
 /// The number of a blob that must be refused before its mask is accepted.
-pub fn refused(bytes: &[u8]) -> Refusal {
-    refused_with(bytes, None)
+/// Nothing of a header has a place, and every 6 has the same one.
+pub fn refused(bytes: &[u8]) -> u32 {
+    let Refusal { number, place } = refused_with(bytes, None);
+    assert_eq!(place, if number == 6 { 66 } else { 0 }, "refused {number}");
+    number
 }
 
 /// The number of a blob that must be refused once its mask is accepted.
-pub fn refused_after(bytes: &[u8], mask: &[u8]) -> Refusal {
+pub fn refused_after(bytes: &[u8], mask: &[u8]) -> u32 {
+    refused_at(bytes, mask).number
+}
+
+/// Number and place of a blob that must be refused once its mask is accepted.
+pub fn refused_at(bytes: &[u8], mask: &[u8]) -> Refusal {
     refused_with(bytes, Some(mask))
 }
 
@@ -88,7 +101,7 @@ fn refused_with(bytes: &[u8], mask: Option<&[u8]>) -> Refusal {
         expected.spare[..mask.len()].copy_from_slice(mask);
     }
     let refusal = lent.read(bytes, false).expect_err("a refusal");
-    assert_eq!(lent, expected, "refused {refusal}, and slices changed");
+    assert_eq!(lent, expected, "{refusal}, and slices changed");
     refusal
 }
 
@@ -137,7 +150,7 @@ enum Steps {
 fn read_in_steps(bytes: &[u8], reuse: bool, lent: &mut Lent) -> Steps {
     match blocks_in_steps(bytes, reuse, lent) {
         Ok((header, blocks, end)) => Steps::Done(header, blocks, end),
-        Err(10) => Steps::NotBlocks,
+        Err(refusal) if refusal.number == 10 => Steps::NotBlocks,
         Err(refusal) => Steps::Refused(refusal),
     }
 }

@@ -36,11 +36,15 @@ fn whole_blob() {
 fn refusals() {
     let mut bytes = Blob::whole().bytes();
     bytes[72] = 2;
-    assert_eq!(program_text(&bytes), "refused 8\n");
-    assert_eq!(run(&bytes), "refused 8\n");
-    assert_eq!(run(&[]), "refused 1\n");
-    assert_eq!(run(&bytes[..78]), "refused 1\n");
-    assert_eq!(run(&[0; 70]), "refused 2\n");
+    assert_eq!(program_text(&bytes), "refused 8 at 72\n");
+    assert_eq!(run(&bytes), "refused 8 at 72\n");
+    bytes[72] = 0;
+    // Other check bits in the flag byte.
+    bytes[74] = 5;
+    assert_eq!(run(&bytes), "refused 8 at 74\n");
+    assert_eq!(run(&[]), "refused 1 at 0\n");
+    assert_eq!(run(&bytes[..78]), "refused 1 at 0\n");
+    assert_eq!(run(&[0; 70]), "refused 2 at 0\n");
 }
 
 #[test]
@@ -49,10 +53,10 @@ fn input_too_long() {
     bytes.resize(16_384, 0);
     assert_eq!(run(&bytes), WHOLE);
     bytes.push(0);
-    assert_eq!(run(&bytes), "refused 4\n");
+    assert_eq!(run(&bytes), "refused 4 at 0\n");
     // Before anything else is looked at.
-    assert_eq!(run(&[0; 16_385]), "refused 4\n");
-    assert_eq!(run(&vec![0; 1 << 20]), "refused 4\n");
+    assert_eq!(run(&[0; 16_385]), "refused 4 at 0\n");
+    assert_eq!(run(&vec![0; 1 << 20]), "refused 4 at 0\n");
 }
 
 #[test]
@@ -70,14 +74,14 @@ fn too_many_cells() {
     assert_eq!(lines(program_text(&blob(64, 64, 1).bytes())), 4096 + 3);
     assert_eq!(lines(program_text(&blob(1, 64, 64).bytes())), 4096 + 3);
     assert_eq!(lines(program_text(&blob(4096, 1, 1).bytes())), 4096 + 3);
-    assert_eq!(program_text(&blob(17, 241, 1).bytes()), "refused 5\n");
-    assert_eq!(program_text(&blob(1, 65, 64).bytes()), "refused 5\n");
+    assert_eq!(program_text(&blob(17, 241, 1).bytes()), "refused 5 at 0\n");
+    assert_eq!(program_text(&blob(1, 65, 64).bytes()), "refused 5 at 0\n");
     // Header refusals come first, and the mask later.
     let mut large = blob(17, 241, 1);
     large.valid = 5;
-    assert_eq!(program_text(&large.bytes()), "refused 5\n");
+    assert_eq!(program_text(&large.bytes()), "refused 5 at 0\n");
     large.side = 17;
-    assert_eq!(program_text(&large.bytes()), "refused 4\n");
+    assert_eq!(program_text(&large.bytes()), "refused 4 at 0\n");
 }
 
 #[test]
@@ -86,7 +90,7 @@ fn no_reuse() {
         valid: 2,
         ..Blob::row(3, &hex("0A 0C 00 03 0A"))
     };
-    assert_eq!(program_text(&blob.bytes()), "refused 6\n");
+    assert_eq!(program_text(&blob.bytes()), "refused 6 at 66\n");
 }
 
 #[test]

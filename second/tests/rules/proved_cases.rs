@@ -2,7 +2,7 @@
 
 use crate::blob::{hex, Blob};
 use crate::lent::{accepted, LIST};
-use second::{is_valid, narrow, packed_counts, prepare_mask, stored, sum, Mask};
+use second::{is_valid, narrow, packed_counts, prepare_mask, stored, sum, Mask, Refusal};
 
 fn counts(text: &str) -> Result<Vec<u32>, u32> {
     let bytes = hex(text);
@@ -15,7 +15,8 @@ fn counts(text: &str) -> Result<Vec<u32>, u32> {
         }
         Err(refusal) => {
             assert_eq!(counts, [u32::MAX; 256]);
-            Err(refusal)
+            assert_eq!(refusal.place, 0);
+            Err(refusal.number)
         }
     }
 }
@@ -84,7 +85,7 @@ fn p10_narrowing_ties_to_even() {
 #[test]
 fn p11_cut_toward_zero() {
     assert_eq!(stored((-128.5f64).to_bits(), 0), Ok(128));
-    assert_eq!(stored(128f64.to_bits(), 0), Err(9));
+    assert_eq!(stored(128f64.to_bits(), 0), Err(Refusal::of(9)));
 }
 
 #[test]

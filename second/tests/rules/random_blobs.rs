@@ -5,7 +5,7 @@ use crate::bodies::packed;
 use crate::lent::{whole_and_steps, Lent, IMAGE, LIST};
 use crate::random::Random;
 use crate::refusals::OFFSET_KINDS;
-use second::{exact, is_finite, less, number, read_header, stored, word_size};
+use second::{exact, is_finite, less, number, read_header, stored, word_size, Refusal};
 
 /// A blob put together block by block, and what must come of it.
 struct Made {
@@ -51,7 +51,10 @@ fn random_changes_do_no_harm() {
             let lent = Lent::to_read(&changed);
             match whole_and_steps(&changed, random.chance(2), &lent) {
                 Ok(_) => accepted += 1,
-                Err(refusal) => refused[refusal as usize] += 1,
+                Err(refusal) => {
+                    check_place(&changed, refusal);
+                    refused[refusal.number as usize] += 1;
+                }
             }
         }
     }
@@ -61,6 +64,23 @@ fn random_changes_do_no_harm() {
     }
     // Room is never short here, and fill is given only numbers in the list.
     assert_eq!((refused[0], refused[5], refused[11]), (0, 0, 0));
+}
+
+/// What every place of a whole read is held to, wherever it comes from.
+fn check_place(bytes: &[u8], refusal: Refusal) {
+    let Refusal { number, place } = refusal;
+    match number {
+        2..=5 | 9 => assert_eq!(place, 0, "{refusal}"),
+        6 => assert_eq!(place, 66, "{refusal}"),
+        1 if place == 0 => assert!(read_header(bytes).is_err(), "{refusal}"),
+        _ => {
+            let header = read_header(bytes).expect("a body that is refused");
+            let first = 70 + header.mask as usize;
+            // A missing byte may stand just behind the last one.
+            let last = header.size as usize - usize::from(number != 1);
+            assert!((first..=last).contains(&place), "{refusal}");
+        }
+    }
 }
 
 fn changed(random: &mut Random, bytes: &[u8]) -> Vec<u8> {
@@ -414,7 +434,7 @@ fn random_headers_are_judged_alike_by_value_and_in_a_blob() {
         bytes.resize(90, 0);
         let by_value = second::prepare_mask(&bytes, &header, false, &[], &mut []);
         match read_header(&bytes) {
-            Ok(read) => assert_eq!((read, by_value), (header, Err(5))),
+            Ok(read) => assert_eq!((read, by_value), (header, Err(Refusal::of(5)))),
             Err(refusal) => assert_eq!(by_value, Err(refusal)),
         }
     }

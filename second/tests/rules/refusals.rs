@@ -3,7 +3,7 @@
 
 use crate::blob::{header_bytes, hex, Blob};
 use crate::lent::{accepted, cells, refused, refused_after, Lent};
-use second::read_header;
+use second::{read_header, Refusal};
 
 const ALL_VALID: [u8; 1] = [255];
 
@@ -16,7 +16,7 @@ fn row_refused(columns: u32, body: &str) -> u32 {
 fn r1_slice_shorter_than_the_header() {
     let bytes = Blob::whole().bytes();
     for length in 0..70 {
-        assert_eq!(read_header(&bytes[..length]), Err(1));
+        assert_eq!(read_header(&bytes[..length]), Err(Refusal::of(1)));
         assert_eq!(refused(&bytes[..length]), 1);
     }
     // Before the key is looked at.
@@ -290,19 +290,22 @@ fn short_by_one(bytes: &[u8], reuse: bool) {
             _ => lent.image.truncate(full.image.len() - 1),
         }
         let before = lent.clone();
-        assert_eq!(lent.read(bytes, reuse), Err(5));
+        assert_eq!(lent.read(bytes, reuse), Err(Refusal::of(5)));
         assert_eq!(lent, before);
     }
-    assert_ne!(full.clone().read(bytes, reuse), Err(5));
+    assert_ne!(full.clone().read_number(bytes, reuse), Err(5));
 }
 
 #[test]
 fn r5_after_the_header_refusals() {
     let mut none = Lent::of(0, 0, 0);
-    assert_eq!(none.read(&Blob::whole().bytes()[..78], false), Err(1));
-    assert_eq!(none.read(&changed(|b| b.side = 0), false), Err(3));
-    assert_eq!(none.read(&changed(|b| b.side = 17), false), Err(4));
-    assert_eq!(none.read(&Blob::whole().bytes(), false), Err(5));
+    assert_eq!(
+        none.read_number(&Blob::whole().bytes()[..78], false),
+        Err(1)
+    );
+    assert_eq!(none.read_number(&changed(|b| b.side = 0), false), Err(3));
+    assert_eq!(none.read_number(&changed(|b| b.side = 17), false), Err(4));
+    assert_eq!(none.read_number(&Blob::whole().bytes(), false), Err(5));
 }
 
 /// A row of `columns` with `valid` pixels by a mask section.
@@ -409,7 +412,7 @@ fn r6_kept_mask_with_another_count() {
     let mut lent = Lent::to_read(&bytes);
     lent.kept[..2].copy_from_slice(&[0xA0, 0x3F]);
     let before = lent.clone();
-    assert_eq!(lent.read(&bytes, true), Err(6));
+    assert_eq!(lent.read(&bytes, true), Err(Refusal::at(6, 66)));
     assert_eq!(lent, before);
     lent.kept[1] = 0x7F;
     assert!(lent.read(&bytes, true).is_ok());

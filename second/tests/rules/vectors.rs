@@ -242,7 +242,10 @@ fn refuse(path: &Path, number: u32) {
     let bytes = fs::read(path).unwrap();
     let lent = Lent::to_read(&bytes);
     let answer = whole_and_steps(&bytes, false, &lent);
-    assert_eq!(answer, Err(number), "{path:?}");
+    let refusal = answer.expect_err("a refusal");
+    assert_eq!(refusal.number, number, "{path:?}");
+    // The mode byte is the second one of the body; no other has a place here.
+    assert_eq!(refusal.place > 71, number == 10, "{path:?}");
 }
 
 #[test]
@@ -315,7 +318,7 @@ fn found(bytes: &[u8]) -> String {
     let lent = Lent::to_read(bytes);
     let after = match whole_and_steps(bytes, false, &lent) {
         Ok(after) => after,
-        Err(refusal) => return format!("refused {refusal}"),
+        Err(refusal) => return format!("refused {}", refusal.number),
     };
     let header = read_header(bytes).unwrap();
     let mut pixels: Vec<(String, usize)> = Vec::new();

@@ -6,20 +6,23 @@ use lerc2::raw;
 use second::refusal::{NO_ROOM, WRONG_FIELD};
 use second::{Header, Ranges};
 
-/// `second`, which the comparison calls the plain one.
+/// `second`, which the comparison calls the plain one. Its place is dropped,
+/// since this reader tells none.
 pub fn slow(case: &Case) -> After {
-    plain_side(case)
+    let mut after = plain_side(case);
+    after.lent.place.clone_from(&case.place);
+    after
 }
 
 /// This reader.
 pub fn fast(case: &Case) -> After {
     let mut lent = case.clone();
-    let done = match case.op {
+    let done = room(&case.place, raw::PLACE).and_then(|()| match case.op {
         Op::Walk => walk(&mut lent),
         Op::Fill => fill(&mut lent),
         Op::Read => read(&mut lent),
         _ => unreachable!("{} is that of second", case.op.name()),
-    };
+    });
     After {
         answer: done.err().unwrap_or(0),
         word: 0,

@@ -1,8 +1,8 @@
 use borrow.Author.Needs.{needs}
-use mathlib.Core.Path.{_≡_, _∙_, sym}
+use mathlib.Core.Path.{_≡_, _∙_, sym, ap}
 use native.Mathlib.Omega.{arith}
 use denote.Ref.{now}
-use Rattle.lerc_words.specs.Res.{ok, wordAt}
+use Rattle.lerc_words.specs.Res.{ok, wordAt, placed}
 use Rattle.lerc_words.proofs.Little.{Bytes, read-ok, read-no, byte-lt, wordAt-is}
 use Rattle.lerc_bits.proofs.Returns.{tabled-zero, tabled-no, tabled-few, tabled-more}
 use Rattle.lerc_bits.proofs.inspect_table.Statement.{statement}
@@ -15,9 +15,9 @@ returns c =
 
 returns-2 : tie.Need-returns-2
 returns-2 c =
-    let a = c .before .before .before .before .before .before .args in
+    let a = c .before .before .before .before .before .before .before .args in
     let s = now (a .s) in
-    sym (tabled-no s (a .at) (a .n) (a .bits) (omega arith) (read-no s (a .at) 1 (omega arith) (c .before .before .before .word .ensures) (c .before .enum-told .given .1) (c .refusal .ensures)))
+    sym (tabled-no s (a .at) (a .n) (a .bits) (omega arith) (read-no s (a .at) 1 (omega arith) (c .before .before .before .before .word .ensures) (c .before .before .enum-told .given .1) (c .at .ensures ∙ ap (placed 0) (c .before .refusal .ensures))))
 
 -- the byte `entries` was read
 entries : (c : tie.After-a) → wordAt 1 (now (c .before .before .before .before .before .args .s)) (c .before .before .before .before .before .args .at) ≡ ok (c .a .given .0 .0)
@@ -56,6 +56,7 @@ inspect-table-spec =
     (λ c κs. search needs)
     (λ c. search needs)
     (λ c. search needs)
+    (λ c κs. search needs)
     (λ c κs. search needs)
     returns-2
     returns-3

@@ -1,40 +1,23 @@
-use Rattle.lerc_words.specs.declared.Refusal.{Refusal}
-use Rattle.lerc.specs.Read.{Lent, refusalOfRead}
-use Rattle.lerc_c.proofs.Entries.{read-short, read-refused, read-whole}
-use denote.Ref.{now}
-use mathlib.Core.Path.{_∙_, ap}
 use borrow.Author.Needs.{needs}
+use borrow.Author.Tests.{le-leb, lt-leb}
+use mathlib.Core.Path.{refl}
+use lib.ListN.{length}
+use denote.Ref.{now}
+use Rattle.lerc.specs.Read.{refusedAfter}
+use Rattle.lerc_c.proofs.Entries.{nowhere, somewhere}
 use Rattle.lerc_c.proofs.lerc2_read.Statement.{statement}
 use Rattle.lerc_c.proofs.lerc2_read.Tie as tie
 
 returns : tie.Need-returns
+unfolding refusedAfter
 returns c =
-    let a = c .before .before .before .before .before .before .before .args in
-    let l : Lent = record { kept = now (a .kept); spare = now (a .spare); list = now (a .list); image = now (a .image) } in
-    read-short (now (a .blob)) (a .reuse) l (now (a .said)) (c .if1 .taken)
+    let p = now (c .before .before .before .before .before .before .before .before .args .place) in
+    nowhere p (c .if1 .taken) (rw (lt-leb 1 (length p) (c .if1 .taken)) (record { why = refl; lent = refl; said = refl }))
 
 returns-2 : tie.Need-returns-2
 returns-2 c =
-    let lent = c .before .before .before .before .before .before .before .before in
-    let read = lent .before .before .before in
-    let roomy = read .before .before .before .before .before in
-    let a = roomy .before .before .before .before .before .before .before .args in
-    let l : Lent = record { kept = now (a .kept); spare = now (a .spare); list = now (a .list); image = now (a .image) } in
-    let told = c .before .enum-told .given .1 in
-    read-refused (now (a .blob)) (a .reuse) l (now (a .said)) (roomy .if1 .left) (rw (told) at (read .read .ensures))
-    (ap (λ (w : Refusal). w .number) (c .refusal .ensures ∙ ap refusalOfRead told))
-
-returns-3 : tie.Need-returns-3
-returns-3 c =
-    let put = c .before .before .before .before .before .before .before in
-    let told = put .before .before .before in
-    let lent = told .before .before .before .before .before .before .before .before in
-    let read = lent .before .before in
-    let roomy = read .before .before .before .before .before in
-    let a = roomy .before .before .before .before .before .before .before .args in
-    let l : Lent = record { kept = now (a .kept); spare = now (a .spare); list = now (a .list); image = now (a .image) } in
-    read-whole (now (a .blob)) (a .reuse) l (now (a .said)) (roomy .if1 .left)
-    (rw (told .answer .given .1) at (read .read .ensures)) (put .put-header .ensures) (c .before .before .put .ensures)
+    let p = now (c .before .before .before .before .before .before .before .before .before .before .before .before .before .before .before .before .before .before .before .before .before .before .before .before .args .place) in
+    somewhere p (c .before .before .before .before .before .before .before .before .before .before .read .result) (rw (le-leb 1 (length p) (c .before .before .before .before .before .before .before .before .before .before .before .before .before .before .before .before .if1 .left)) (c .before .before .before .before .before .before .before .before .before .before .read .ensures))
 
 pub lerc2-read-spec : {M : Type 1} → statement M
 lerc2-read-spec =
@@ -44,18 +27,9 @@ lerc2-read-spec =
     (λ c κs. search needs)
     (λ c. search needs)
     (λ c. search needs)
-    (λ c κs. search needs)
-    (λ c. search needs)
-    (λ c. search needs)
-    (λ c. search needs)
-    (λ c. search needs)
-    returns-2
-    (λ c κs. search needs)
-    (λ c. search needs)
-    (λ c κs. search needs)
     (λ c. search needs)
     (λ c. search needs)
     (λ c. search needs)
     (λ c. search needs)
     (λ c. search needs)
-    returns-3)
+    returns-2)

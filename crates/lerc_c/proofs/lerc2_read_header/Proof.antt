@@ -1,37 +1,23 @@
-use Rattle.lerc_words.specs.declared.Refusal.{Refusal}
-use Rattle.lerc_c.proofs.Entries.{header-short, header-no, header-read}
-use Rattle.lerc_header.specs.Header.{headerSaid, refusalOfHeader}
-use denote.Ref.{now}
-use mathlib.Core.Path.{_∙_, sym, ap}
 use borrow.Author.Needs.{needs}
+use borrow.Author.Tests.{le-leb, lt-leb}
+use mathlib.Core.Path.{refl}
+use lib.ListN.{length}
+use denote.Ref.{now}
+use Rattle.lerc_c.proofs.Entries.{nowhere, somewhere}
 use Rattle.lerc_c.proofs.lerc2_read_header.Statement.{statement}
 use Rattle.lerc_c.proofs.lerc2_read_header.Tie as tie
 
 returns : tie.Need-returns
-returns c = header-short (now (c .before .before .before .args .blob)) _ (c .if1 .taken)
+returns c =
+    let p = now (c .before .before .before .before .args .place) in
+    nowhere p (c .if1 .taken) (rw (lt-leb 1 (length p) (c .if1 .taken)) (record { why = refl; header = refl }))
 
 returns-2 : tie.Need-returns-2
 returns-2 c =
-    let a = c .before .before .before .before .before .before .before .args in
-    let told = c .before .enum-told .given .1 in
-    header-no (now (a .blob)) (now (a .header)) (c .before .before .before .before .if1 .left) (sym (c .before .before .before .read-header .ensures) ∙ ap headerSaid told) (ap (λ (w : Refusal). w .number) (c .refusal .ensures ∙ ap refusalOfHeader told))
-
-returns-3 : tie.Need-returns-3
-returns-3 c =
-    let far = c .before .before .before .before .before .before .before .before in
-    let a = far .before .before .before .args in
-    header-read (now (a .blob)) (now (a .header)) (c .before .before .before .before .before .before .before .before .if1 .left) (sym (c .before .before .before .before .before .before .before .read-header .ensures) ∙ ap headerSaid (c .before .before .before .before .before .found .given .1)) (c .before .before .put-header .ensures)
+    let p = now (c .before .before .before .before .before .before .before .before .args .place) in
+    somewhere p (c .before .before .read-header .result) (rw (le-leb 1 (length p) (c .before .before .before .before .if1 .left)) (c .before .before .read-header .ensures))
 
 pub lerc2-read-header-spec : {M : Type 1} → statement M
 lerc2-read-header-spec =
     tie.close
-    (tie.spec
-    returns
-    (λ c κs. search needs)
-    (λ c. search needs)
-    (λ c. search needs)
-    (λ c κs. search needs)
-    returns-2
-    (λ c κs. search needs)
-    (λ c. search needs)
-    returns-3)
+    (tie.spec returns (λ c κs. search needs) (λ c. search needs) (λ c. search needs) (λ c. search needs) returns-2)

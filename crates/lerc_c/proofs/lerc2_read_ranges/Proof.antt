@@ -1,66 +1,23 @@
-use Rattle.lerc_c.specs.Records.{headerRoom, rangesRoom}
-use Rattle.lerc_c.proofs.RecordParts.{both-long}
-use Rattle.lerc_c.proofs.Entries.{ranges-short, ranges-wide, ranges-no, ranges-done}
-use Rattle.lerc_ranges.specs.Ranges.{refusalOfRanges}
-use Rattle.lerc_ranges.proofs.Judged.{ranges-read, ranges-refused}
-use Rattle.lerc_words.specs.declared.Refusal.{Refusal}
-use Rattle.lerc_header.specs.Header.{headerSaid, refusalOfHeader}
-use borrow.Author.Tests.{not-true, not-false}
-use denote.Ref.{now}
-use mathlib.Core.Path.{_∙_, sym, ap}
 use borrow.Author.Needs.{needs}
+use borrow.Author.Tests.{le-leb, lt-leb}
+use mathlib.Core.Path.{refl}
+use lib.ListN.{length}
+use denote.Ref.{now}
+use Rattle.lerc_c.proofs.Entries.{nowhere, somewhere}
 use Rattle.lerc_c.proofs.lerc2_read_ranges.Statement.{statement}
 use Rattle.lerc_c.proofs.lerc2_read_ranges.Tie as tie
 
 returns : tie.Need-returns
 returns c =
-    let a = c .before .before .before .before .args in ranges-short (now (a .blob)) (now (a .header)) (now (a .ranges)) (not-true _ (c .if1 .taken))
-
-header-from-requires : tie.Need-header-from-requires
-header-from-requires c κs =
-    let a = c .before .before .before .before .args in
-    both-long headerRoom rangesRoom (now (a .header)) (now (a .ranges)) (not-false _ (c .if1 .left)) .0
+    let p = now (c .before .before .before .before .before .args .place) in
+    nowhere p (c .if1 .taken) (rw (lt-leb 1 (length p) (c .if1 .taken)) (record { why = refl; ranges = refl }))
 
 returns-2 : tie.Need-returns-2
 returns-2 c =
-    let a = c .before .before .before .before .before .before .before .before .args in let told = c .before .enum-told .given .1 in
-    ranges-wide (now (a .blob)) (now (a .header)) (now (a .ranges)) (not-false _ (c .before .before .before .before .if1 .left)) (sym (c .before .before .before .header-from .ensures) ∙ ap headerSaid told) (ap (λ (w : Refusal). w .number) (c .refusal .ensures ∙ ap refusalOfHeader told))
-
-returns-3 : tie.Need-returns-3
-returns-3 c =
-    let far = c .before .before .before .before .before .before .before .before in
-    let a = far .before .before .before .before .args in let told = c .before .enum-told3 .given .1 in
-    ranges-no (now (a .blob)) (now (a .header)) (now (a .ranges)) (not-false _ (c .before .before .before .before .before .before .before .before .if1 .left)) (sym (c .before .before .before .before .before .before .before .header-from .ensures) ∙ ap headerSaid (c .before .before .before .before .before .found .given .1))
-    (ranges-refused _ (c .before .before .before .read-ranges .ensures) told) (ap (λ (w : Refusal). w .number) (c .refusal2 .ensures ∙ ap refusalOfRanges told))
-
-put-ranges-requires : tie.Need-put-ranges-requires
-put-ranges-requires c κs =
-    let far = c .before .before .before .before .before .before .before .before in
-    let a = far .before .before .before .before .before .args in
-    both-long headerRoom rangesRoom (now (a .header)) (now (a .ranges)) (not-false _ (far .before .if1 .left)) .1
-
-returns-4 : tie.Need-returns-4
-returns-4 c =
-    let far = c .before .before .before .before .before .before .before .before in
-    let a = far .before .before .before .before .before .before .before .before .args in
-    ranges-done (now (a .blob)) (now (a .header)) (now (a .ranges)) (not-false _ (far .before .before .before .before .if1 .left)) (sym (far .before .before .before .header-from .ensures) ∙ ap headerSaid (far .before .found .given .1))
-    (ranges-read _ (c .before .before .before .before .before .before .before .read-ranges .ensures) (c .before .before .before .before .before .enum-told2 .given .1)) (c .before .before .put-ranges .ensures)
+    let p = now (c .before .before .before .before .before .before .before .before .before .args .place) in
+    somewhere p (c .before .before .read-ranges .result) (rw (le-leb 1 (length p) (c .before .before .before .before .if1 .left)) (c .before .before .read-ranges .ensures))
 
 pub lerc2-read-ranges-spec : {M : Type 1} → statement M
 lerc2-read-ranges-spec =
     tie.close
-    (tie.spec
-    returns
-    header-from-requires
-    (λ c. search needs)
-    (λ c. search needs)
-    (λ c κs. search needs)
-    returns-2
-    (λ c κs. search needs)
-    (λ c. search needs)
-    (λ c. search needs)
-    (λ c κs. search needs)
-    returns-3
-    put-ranges-requires
-    (λ c. search needs)
-    returns-4)
+    (tie.spec returns (λ c κs. search needs) (λ c. search needs) (λ c. search needs) (λ c. search needs) returns-2)

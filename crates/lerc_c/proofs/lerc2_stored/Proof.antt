@@ -1,35 +1,23 @@
-use Rattle.lerc_c.proofs.Entries.{stored-short, stored-no, stored-done}
-use Rattle.lerc_words.specs.declared.Refusal.{Refusal}
-use Rattle.lerc_samples.specs.Samples.{storedSaid, refusalOfStored}
-use denote.Ref.{now}
-use mathlib.Core.Path.{refl, _∙_, sym, ap}
 use borrow.Author.Needs.{needs}
+use borrow.Author.Tests.{le-leb, lt-leb}
+use mathlib.Core.Path.{refl}
+use lib.ListN.{length}
+use denote.Ref.{now}
+use Rattle.lerc_c.proofs.Entries.{nowhere, somewhere}
 use Rattle.lerc_c.proofs.lerc2_stored.Statement.{statement}
 use Rattle.lerc_c.proofs.lerc2_stored.Tie as tie
 
 returns : tie.Need-returns
 returns c =
-    let a = c .before .before .args in stored-short (a .kind) (a .v) (now (a .said)) (c .if1 .taken)
+    let p = now (c .before .before .before .args .place) in
+    nowhere p (c .if1 .taken) (rw (lt-leb 1 (length p) (c .if1 .taken)) (record { why = refl; said = refl }))
 
 returns-2 : tie.Need-returns-2
 returns-2 c =
-    let a = c .before .before .before .before .before .before .args in let told = c .before .enum-told .given .1 in
-    stored-no (a .kind) (a .v) (now (a .said)) (c .before .before .before .before .if1 .left) (sym (c .before .before .before .stored .ensures) ∙ ap storedSaid told) (ap (λ (w : Refusal). w .number) (c .refusal .ensures ∙ ap refusalOfStored told))
-
-returns-3 : tie.Need-returns-3
-returns-3 c =
-    let a = c .before .before .before .before .before .before .args in stored-done (a .kind) (a .v) (now (a .said)) (c .before .before .before .before .if1 .left) (sym (c .before .before .before .stored .ensures) ∙ ap storedSaid (c .before .answer .given .1)) refl
+    let p = now (c .before .before .before .before .before .before .before .args .place) in
+    somewhere p (c .before .before .stored .result) (rw (le-leb 1 (length p) (c .before .before .before .before .if1 .left)) (c .before .before .stored .ensures))
 
 pub lerc2-stored-spec : {M : Type 1} → statement M
 lerc2-stored-spec =
     tie.close
-    (tie.spec
-    returns
-    (λ c κs. search needs)
-    (λ c. search needs)
-    (λ c. search needs)
-    (λ c κs. search needs)
-    returns-2
-    (λ c. search needs)
-    (λ c. search needs)
-    returns-3)
+    (tie.spec returns (λ c κs. search needs) (λ c. search needs) (λ c. search needs) (λ c. search needs) returns-2)

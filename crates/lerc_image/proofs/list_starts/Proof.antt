@@ -5,6 +5,8 @@ use native.Mathlib.Omega.{arith}
 use denote.Ref.{now}
 use lib.ListN.{length-set}
 use borrow.Author.Needs.{needs}
+use Rattle.lerc_words.specs.Res.{marked}
+use Rattle.lerc_words.proofs.Marking.{marked-is, marked-fails}
 use Rattle.lerc_block.specs.Block.{blockSaid}
 use Rattle.lerc_image.specs.Tiles.{blockEnd}
 use Rattle.lerc_image.proofs.Standing.{here-in, here-end, Standing, standing-none, standing-tile, standing-within, standing-few, standing-next}
@@ -18,14 +20,14 @@ Inv-loop s at h e mask list₀ shape p₀ k₀ start₀ list p k start = Standin
 abbrev μ-loop : tie.MeasureT-loop
 μ-loop s at h e mask list₀ shape p₀ k₀ start₀ list p k start = e .blocks - k
 
--- where block k ends
+-- where block k ends; a refusal is at its start
 ends : (c : tie.After-end-at Inv-loop μ-loop) →
     let b = c .before .before .before .before in
     let a = b .before .before .before .before .before .before .args in
-    blockSaid (c .end-at .result) ≡ blockEnd (now (a .s)) (a .h) (now (a .mask)) (b .loop .k) (b .loop .start)
+    blockSaid (c .end-at .result) ≡ marked (b .loop .start) (blockEnd (now (a .s)) (a .h) (now (a .mask)) (b .loop .k) (b .loop .start))
 ends c =
-    let i = c .before .before .before .before .loop .inv in
-    c .end-at .ensures ∙ here-end (standing-tile (i .0) (c .before .before .if1 .taken) (c .before .current .ensures)) _ _ _
+    let l = c .before .before .before .before .loop in
+    c .end-at .ensures ∙ here-end (standing-tile (l .inv .0) (c .before .before .if1 .taken) (c .before .current .ensures)) _ _ _
 
 loop-holds : tie.Need-loop-holds Inv-loop μ-loop
 loop-holds c =
@@ -50,7 +52,8 @@ same-length c = simp length-set (c .before .before .before .before .before .befo
 returns : tie.Need-returns Inv-loop μ-loop
 returns c =
     let i = c .before .before .before .before .before .before .loop .inv in
-    heads-no (i .1) (c .before .before .before .before .if1 .taken) (sym (ends (c .before .before)) ∙ ap blockSaid (c .enum-told .given .1))
+    let (_, d, _) = marked-fails _ _ (sym (ends (c .before .before)) ∙ ap blockSaid (c .enum-told .given .1)) in
+    heads-no (i .1) (c .before .before .before .before .if1 .taken) d
 
 advance-requires : tie.Need-advance-requires Inv-loop μ-loop
 advance-requires c κs =
@@ -64,7 +67,7 @@ loop-again : tie.Need-loop-again Inv-loop μ-loop
 loop-again c =
     let i = c .before .before .before .before .before .before .before .before .loop .inv in
     let l = c .before .before .before .before .before .before .if1 .taken in
-    (rw (c .advance .ensures) (standing-next (i .0) l), heads-next (i .1) l (sym (ends (c .before .before .before .before)) ∙ ap blockSaid (c .before .before .got .given .1)))
+    (rw (c .advance .ensures) (standing-next (i .0) l), heads-next (i .1) l (marked-is _ _ (sym (ends (c .before .before .before .before)) ∙ ap blockSaid (c .before .before .got .given .1))))
 
 same-length-2 : tie.Need-same-length-2 Inv-loop μ-loop
 same-length-2 c = c .before .before .loop .inv .1 .listing .long

@@ -1,8 +1,7 @@
-use mathlib.Core.Path.{_∙_, sym, ap}
+use mathlib.Core.Path.{_∙_, sym}
 use native.Mathlib.Omega.{arith}
 use denote.Ref.{now}
-use Rattle.lerc_words.specs.Res.{wordSaid}
-use Rattle.lerc_words.proofs.Little.{Bytes, Stands, wordAt-is, wordAt-fails, word-at, read-ok, little-lt}
+use Rattle.lerc_words.proofs.Little.{Bytes, Stands, wordAt-is, wordAt-fails, read-ok, read-cut, little-lt}
 use Rattle.lerc_mask.proofs.Steps.{step-told, step-short, step-end, step-copy, step-repeat}
 use borrow.Author.Needs.{needs}
 use Rattle.lerc_mask.proofs.read_step.Statement.{statement}
@@ -21,7 +20,7 @@ returns : tie.Need-returns
 returns c =
     let a = c .before .before .before .before .args in
     let s = now (a .s) in
-    let e = sym (word-at s (a .at) 2 (omega arith)) ∙ sym (c .before .before .word .ensures) ∙ ap wordSaid (c .enum-told .given .1) in
+    let e = read-cut s (a .at) 2 (omega arith) (c .before .before .word .ensures) (c .enum-told .given .1) in
     step-told s (a .at) (a .left) (bytes (c .before .before .before)) (sym (step-short s (a .at) (a .left) (wordAt-fails 2 s (a .at) e)))
 
 add-end-at : tie.Need-add-end-at

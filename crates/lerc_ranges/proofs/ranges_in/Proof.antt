@@ -17,26 +17,35 @@ returns-2 c = rw (c .uniform .ensures, le-leb _ _ (c .before .before .before .if
 returns-3 : tie.Need-returns-3
 unfolding rangesInSays rangesSays
 returns-3 c =
-    let d = c .before .before .before .before in
+    let t = c .before .before in
+    let d = t .before .before .before in
     rw (
       c .refused2 .ensures,
       le-leb _ _ (d .before .before .if1 .left),
       sym (d .before .same .ensures) ∙ d .if2 .left,
-      lt-leb _ _ (rw (c .before .before .before .width .ensures .0) at (c .before .if3 .taken)),
+      lt-leb _ _ (rw (t .before .before .width .ensures .0) at (t .if3 .taken)),
     )
+
+-- it is asked only of ranges whose pairs are not all right
+wrong-number-requires : tie.Need-wrong-number-requires
+wrong-number-requires c κs =
+    let d = c .before .before .before .before .before .before .before in
+    (d .before .before .if1 .left, sym (c .before .pairs-right .ensures) ∙ not-true _ (c .if4 .taken))
 
 returns-4 : tie.Need-returns-4
 unfolding rangesInSays rangesSays
 returns-4 c =
-    let t = c .before .before .before .before in
+    let w = c .before in
+    let t = w .before .before .before .before in
     let d = t .before .before .before .before in
     rw (
       c .refused3 .ensures,
+      w .wrong-number .ensures,
       le-leb _ _ (d .before .before .if1 .left),
       sym (d .before .same .ensures) ∙ d .if2 .left,
       le-leb _ _ (rw (t .before .before .before .width .ensures .0) at (t .before .if3 .left)),
       ← t .coded .ensures,
-      sym (c .before .before .pairs-right .ensures) ∙ not-true _ (c .before .if4 .taken),
+      sym (w .before .before .pairs-right .ensures) ∙ not-true _ (w .before .if4 .taken),
     )
 
 returns-5 : tie.Need-returns-5
@@ -67,11 +76,14 @@ ranges-in-spec =
     (λ c. search needs)
     (λ c. search needs)
     (λ c. search needs)
+    (λ c. search needs)
+    (λ c. search needs)
     (λ c κs. search needs)
     returns-3
     (λ c κs. search needs)
     (λ c. search needs)
     (λ c κs. search needs)
+    wrong-number-requires
     (λ c κs. search needs)
     returns-4
     returns-5)

@@ -1,26 +1,28 @@
 use native.Mathlib.Omega.{arith}
 use borrow.Author.Tests.{lt-ltb, le-ltb, eq-eqb, ne-eqb}
 use denote.Ref.{now}
-use Rattle.lerc_words.proofs.Little.{read-ok, read-no, wordAt-is}
-use Rattle.lerc_sweep.specs.Sweep.{modeAt}
+use Rattle.lerc_words.proofs.Little.{read-ok, read-cut, read-why, wordAt-is}
+use Rattle.lerc_sweep.specs.Sweep.{modeByte}
 use borrow.Author.Needs.{needs}
 use Rattle.lerc_sweep.proofs.read_mode.Statement.{statement}
 use Rattle.lerc_sweep.proofs.read_mode.Tie as tie
 
 returns : tie.Need-returns
-unfolding modeAt
+unfolding modeByte
 returns c =
     let a = c .before .before .before .before .before .args in
-    rw (read-no (now (a .s)) (a .at) 1 (omega arith) (c .before .before .before .word .ensures) (c .before .enum-told .given .1) (c .refusal .ensures))
+    let e = c .before .before .before .word .ensures in
+    let d = c .before .enum-told .given .1 in
+    rw (read-why (now (a .s)) (a .at) 1 (omega arith) e d (c .refusal .ensures), read-cut (now (a .s)) (a .at) 1 (omega arith) e d)
 
 returns-2 : tie.Need-returns-2
-unfolding modeAt
+unfolding modeByte
 returns-2 c =
     let a = c .before .before .before .before .before .before .args in
     rw (read-ok (now (a .s)) (a .at) 1 (omega arith) (c .before .before .before .before .word .ensures) (c .before .before .a .given .1), le-ltb _ 3 (c .if1 .taken))
 
 returns-3 : tie.Need-returns-3
-unfolding modeAt
+unfolding modeByte
 returns-3 c =
     let a = c .before .before .before .before .before .before .before .args in
     rw (read-ok (now (a .s)) (a .at) 1 (omega arith) (c .before .before .before .before .before .word .ensures) (c .before .before .before .a .given .1), lt-ltb _ 3 (c .before .if1 .left), ne-eqb _ 0 (c .if2 .taken))
@@ -32,7 +34,7 @@ add-t9 c =
     omega (arith, c .before .before .before .before .before .before .before .good)
 
 returns-4 : tie.Need-returns-4
-unfolding modeAt
+unfolding modeByte
 returns-4 c =
     let a = c .before .before .before .before .before .before .before .args in
     rw (read-ok (now (a .s)) (a .at) 1 (omega arith) (c .before .before .before .before .before .word .ensures) (c .before .before .before .a .given .1), lt-ltb _ 3 (c .before .if1 .left), eq-eqb _ 0 (c .if2 .left))

@@ -1,20 +1,22 @@
 use native.Mathlib.Omega.{arith}
 use borrow.Author.Tests.{lt-ltb, le-ltb, eq-eqb, ne-eqb}
 use denote.Ref.{now}
-use Rattle.lerc_words.proofs.Little.{read-ok, read-no, wordAt-is}
-use Rattle.lerc_sweep.specs.Sweep.{swept}
+use Rattle.lerc_words.proofs.Little.{read-ok, read-cut, read-why, wordAt-is}
+use Rattle.lerc_sweep.specs.Sweep.{swept, sweepByte}
 use borrow.Author.Needs.{needs}
 use Rattle.lerc_sweep.proofs.read_sweep.Statement.{statement}
 use Rattle.lerc_sweep.proofs.read_sweep.Tie as tie
 
 returns : tie.Need-returns
-unfolding swept
+unfolding swept sweepByte
 returns c =
     let a = c .before .before .before .before .before .args in
-    rw (read-no (now (a .s)) (a .at) 1 (omega arith) (c .before .before .before .word .ensures) (c .before .enum-told .given .1) (c .refusal .ensures))
+    let e = c .before .before .before .word .ensures in
+    let d = c .before .enum-told .given .1 in
+    rw (read-why (now (a .s)) (a .at) 1 (omega arith) e d (c .refusal .ensures), read-cut (now (a .s)) (a .at) 1 (omega arith) e d)
 
 returns-2 : tie.Need-returns-2
-unfolding swept
+unfolding swept sweepByte
 returns-2 c =
     let a = c .before .before .before .before .before .before .args in
     rw (read-ok (now (a .s)) (a .at) 1 (omega arith) (c .before .before .before .before .word .ensures) (c .before .before .a .given .1), le-ltb _ 2 (c .if1 .taken))
@@ -26,7 +28,7 @@ add-t10 c =
     omega (arith, c .before .before .before .before .before .before .before .good)
 
 returns-3 : tie.Need-returns-3
-unfolding swept
+unfolding swept sweepByte
 returns-3 c =
     let a = c .before .before .before .before .before .before .before .args in
     rw (read-ok (now (a .s)) (a .at) 1 (omega arith) (c .before .before .before .before .before .word .ensures) (c .before .before .before .a .given .1), lt-ltb _ 2 (c .before .if1 .left), eq-eqb _ 1 (c .if2 .taken))
@@ -38,7 +40,7 @@ add-after-sweep c =
     omega (arith, c .before .before .before .before .before .before .before .good)
 
 returns-4 : tie.Need-returns-4
-unfolding swept
+unfolding swept sweepByte
 returns-4 c =
     let a = c .before .before .before .before .before .before .before .before .args in
     rw (read-ok (now (a .s)) (a .at) 1 (omega arith) (c .before .before .before .before .before .before .word .ensures) (c .before .before .before .before .a .given .1), lt-ltb _ 2 (c .before .before .if1 .left), ne-eqb _ 1 (c .before .if2 .left)) (c .after-sweep .ensures)

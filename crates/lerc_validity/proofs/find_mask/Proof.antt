@@ -6,7 +6,8 @@ use denote.Ref.{now}
 use lib.ListN.{length}
 use Rattle.lerc_words.proofs.Binding.{and-is}
 use Rattle.lerc_header.proofs.Sizes.{product-fits, pixels-fit}
-use Rattle.lerc_validity.proofs.Preparing.{refused, find-room, find-short, find-says}
+use Rattle.lerc_mask.specs.Mask.{maskField}
+use Rattle.lerc_validity.proofs.Preparing.{refused, prepared-at, find-room, find-short, find-says}
 use Rattle.lerc_validity.proofs.find_mask.Statement.{statement}
 use Rattle.lerc_validity.proofs.find_mask.Tie as tie
 
@@ -37,9 +38,9 @@ find-requires c κs =
 
 returns-3 : tie.Need-returns-3
 returns-3 c =
-    let t = c .before .before .before .before in
+    let t = c .before .before .before .before .before in
     let a = t .before .before .before .before .before .before .before .before .args in
-    rw (find-says (now (a .s)) (a .h) (a .reuse) (now (a .kept)) (length (now (a .spare))) (not-false _ (t .before .before .if1 .left)) (t .if2 .left)) (c .before .before .find .ensures)
+    rw (find-says (now (a .s)) (a .h) (a .reuse) (now (a .kept)) (length (now (a .spare))) (not-false _ (t .before .before .if1 .left)) (t .if2 .left)) (prepared-at maskField (c .before .before .before .find .ensures) (c .at .ensures))
 
 pub find-mask-spec : {M : Type 1} → statement M
 find-mask-spec =
@@ -54,5 +55,6 @@ find-mask-spec =
     (λ c. search needs)
     returns-2
     find-requires
+    (λ c κs. search needs)
     (λ c. search needs)
     returns-3)

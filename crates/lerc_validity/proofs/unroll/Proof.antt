@@ -4,6 +4,7 @@ use mathlib.Core.Path.{_≡_, _∙_, ap}
 use native.Mathlib.Omega.{arith}
 use denote.Ref.{now}
 use lib.ListN.{length}
+use Rattle.lerc_words.specs.Res.{placed}
 use Rattle.lerc_mask.specs.Mask.{refusalOfRuns}
 use Rattle.lerc_validity.specs.Validity.{unrolled, Prepared}
 use Rattle.lerc_validity.proofs.Preparing.{fromRuns, unroll-told}
@@ -19,8 +20,8 @@ told c =
 
 returns : tie.Need-returns
 returns c =
-    let q = c .refusal .ensures ∙ ap refusalOfRuns (c .before .enum-told .given .1) in
-    rw (q) (rw (c .before .enum-told .given .1) at (told (c .before .before .before .before .before)))
+    let q = c .at .ensures ∙ ap (placed 0) (c .before .refusal .ensures ∙ ap refusalOfRuns (c .before .before .enum-told .given .1)) in
+    rw (q) (rw (c .before .before .enum-told .given .1) at (told (c .before .before .before .before .before .before)))
 
 returns-2 : tie.Need-returns-2
 returns-2 c = rw (c .before .answer .given .1) at (told (c .before .before .before .before .before))
@@ -38,6 +39,7 @@ unroll-spec =
     (λ c κs. search needs)
     (λ c. search needs)
     (λ c. search needs)
+    (λ c κs. search needs)
     (λ c κs. search needs)
     (λ c. search needs)
     returns

@@ -19,13 +19,13 @@ mul-bytes-2 c =
 
 returns : tie.Need-returns
 returns c =
-    let a = c .before .before .before .before .before .before .args in
-    λ words. raw-no (now (a .s)) (a .h) (a .at) (now (a .mask)) words (rw (← c .before .size .ensures) (omega arith))
+    let a = c .before .before .before .before .before .before .before .args in
+    λ words. rw (c .missing-word .ensures) (raw-no (now (a .s)) (a .h) (a .at) (now (a .mask)) words (rw (← c .before .before .size .ensures) (omega arith)))
 
 returns-2 : tie.Need-returns-2
 returns-2 c =
-    let a = c .before .before .before .before .before .before .before .args in
-    λ words. raw-no (now (a .s)) (a .h) (a .at) (now (a .mask)) words (rw (← c .before .before .size .ensures) (omega arith))
+    let a = c .before .before .before .before .before .before .before .before .args in
+    λ words. rw (c .missing-word2 .ensures) (raw-no (now (a .s)) (a .h) (a .at) (now (a .mask)) words (rw (← c .before .before .before .size .ensures) (omega arith)))
 
 returns-3 : tie.Need-returns-3
 returns-3 c =
@@ -41,8 +41,10 @@ check-raw-spec =
     mul-bytes
     (λ c κs. search needs)
     mul-bytes-2
+    (λ c κs. search needs)
     returns
     (λ c. search needs)
+    (λ c κs. search needs)
     returns-2
     (λ c. search needs)
     returns-3)

@@ -11,18 +11,18 @@ returns : tie.Need-returns
 returns c =
     let k = c .before .before .before in
     let a = k .before .before .args in
-    next-no (answered-no _ _ _ _ _ (k .inspect-block .ensures) (a .error) (a .maximum) (c .before .enum-told .given .1) (c .refusal .ensures))
+    next-no (answered-no _ _ _ _ _ (k .plan-block .ensures) (a .error) (a .maximum) (c .before .enum-told .given .1) (c .refusal .ensures))
 
 check-planned-requires : tie.Need-check-planned-requires
 check-planned-requires c κs =
     let k = c .before .before .before in
-    answered-sound _ _ _ _ _ (k .inspect-block .ensures) (c .before .a .given .1) (λ j. omega (arith, k .before .shared-slice-known .given j))
+    answered-sound _ _ _ _ _ (k .plan-block .ensures) (c .before .a .given .1) (λ j. omega (arith, k .before .shared-slice-known .given j))
 
 returns-2 : tie.Need-returns-2
 returns-2 c =
     let k = c .before .before .before .before in
     let a = k .before .before .args in
-    c .check-planned .ensures ∙ sym (ap nextBlock (answered-words _ _ _ _ _ (k .inspect-block .ensures) (c .before .before .a .given .1) (a .error) (a .maximum)))
+    c .check-planned .ensures ∙ sym (ap nextBlock (answered-words _ _ _ _ _ (k .plan-block .ensures) (c .before .before .a .given .1) (a .error) (a .maximum)))
 
 pub check-any-spec : {M : Type 1} → statement M
 check-any-spec =

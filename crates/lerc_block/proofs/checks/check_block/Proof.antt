@@ -1,22 +1,14 @@
 use borrow.Author.Needs.{needs}
-use mathlib.Core.Path.{_∙_, sym}
-use native.Mathlib.Omega.{arith}
 use denote.Ref.{now}
-use Rattle.lerc_words.proofs.Little.{Bytes}
-use Rattle.lerc_block.proofs.Usual.{both, found-next}
+use Rattle.lerc_block.specs.Block.{readBlockSays}
+use Rattle.lerc_block.proofs.Returns.{next-at}
 use Rattle.lerc_block.proofs.checks.check_block.Statement.{statement}
 use Rattle.lerc_block.proofs.checks.check_block.Tie as tie
 
 returns : tie.Need-returns
 returns c =
-    let k = c .before .before .before in
-    let f = k .before .before in
-    let i = f .before .before in
-    let (l, e) = both _ _ _ (c .if2 .taken) in
-    let bytes : Bytes (now (i .args .s)) = λ j. omega (arith, f .before .shared-slice-known .given j) in
-    found-next (now (i .args .s)) (i .args .at) (i .args .kind) (i .args .x) (k .usual-head .ensures) l bytes (i .args .error) (i .args .maximum) (i .args .n)
-    (sym (f .steps-fit .ensures) ∙ k .before .if1 .taken) e
+    let a = c .before .before .before .args in
+    next-at (readBlockSays (now (a .s)) (a .at) (a .kind) (a .error) (a .maximum) (a .x) (a .n)) (c .before .check-words .result) (c .at .result) (a .at) (c .before .check-words .ensures) (c .at .ensures)
 
 pub check-block-spec : {M : Type 1} → statement M
-check-block-spec =
-    tie.close (tie.spec (λ c κs. search needs) (λ c κs. search needs) returns (λ c κs. search needs) (λ c. search needs))
+check-block-spec = tie.close (tie.spec (λ c κs. search needs) (λ c κs. search needs) returns)

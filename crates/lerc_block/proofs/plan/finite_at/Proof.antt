@@ -2,7 +2,7 @@ use borrow.Author.Needs.{needs}
 use mathlib.Core.Path.{_≡_, _∙_, sym, ap}
 use Prim.Native.Nat.{_≤_}
 use denote.Ref.{now}
-use Rattle.lerc_words.specs.Res.{ok, wordAt, wordSaid, refusalOfWord}
+use Rattle.lerc_words.specs.Res.{ok, wordAt, placed}
 use Rattle.lerc_words.proofs.Little.{read-ok, read-no}
 use Rattle.lerc_numeric.specs.Kinds.{typeSize}
 use Rattle.lerc_numeric.proofs.Integers.{size-le}
@@ -23,11 +23,10 @@ read k =
 
 returns : tie.Need-returns
 returns c =
-    let z = c .before .before .before in
+    let z = c .before .before .before .before .before in
     let a = z .before .before .args in
-    let e = c .enum-told .given .1 in
-    let w = read-no (now (a .s)) (a .at) (z .size .result) (small z) (c .before .before .word .ensures) e (sym (ap refusalOfWord e)) in
-    ap wordSaid e ∙ word-no (a .kind) (now (a .s)) (a .at) (rw (z .size .ensures) at w)
+    let w = read-no (now (a .s)) (a .at) (z .size .result) (small z) (c .before .before .before .before .word .ensures) (c .before .before .enum-told .given .1) (c .at .ensures ∙ ap (placed 0) (c .before .refusal .ensures)) in
+    word-no (a .kind) (now (a .s)) (a .at) (rw (z .size .ensures) at w)
 
 returns-2 : tie.Need-returns-2
 returns-2 c =
@@ -49,6 +48,8 @@ finite-at-spec =
     (λ c κs. search needs)
     (λ c. search needs)
     (λ c. search needs)
+    (λ c κs. search needs)
+    (λ c κs. search needs)
     returns
     (λ c κs. search needs)
     returns-2

@@ -1,9 +1,9 @@
 use borrow.Author.Needs.{needs}
 use Prim.Native.Nat.{ℕ}
-use mathlib.Core.Path.{_≡_, _∙_, sym, ap}
+use mathlib.Core.Path.{_≡_, _∙_, ap}
 use native.Mathlib.Omega.{arith}
 use denote.Ref.{now}
-use Rattle.lerc_words.specs.Res.{ok, wordAt, wordSaid, refusalOfWord}
+use Rattle.lerc_words.specs.Res.{ok, wordAt, placed}
 use Rattle.lerc_words.proofs.Little.{read-ok, read-no}
 use Rattle.lerc_block.proofs.Returns.{flag-many, flag-no, flag-strange, flag-ok}
 use Rattle.lerc_block.proofs.plan.flag_at.Statement.{statement}
@@ -22,10 +22,9 @@ returns c = let a = c .before .before .args in flag-many (now (a .s)) (a .at) (a
 
 returns-2 : tie.Need-returns-2
 returns-2 c =
-    let k = c .before .before in
+    let k = c .before .before .before .before in
     let a = k .before .before .before .args in
-    let e = c .enum-told .given .1 in
-    ap wordSaid e ∙ flag-no (now (a .s)) (a .at) (a .x) (a .n) (k .before .if1 .left) (read-no (now (a .s)) (a .at) 1 (omega arith) (k .word .ensures) e (sym (ap refusalOfWord e)))
+    flag-no (now (a .s)) (a .at) (a .x) (a .n) (k .before .if1 .left) (read-no (now (a .s)) (a .at) 1 (omega arith) (k .word .ensures) (c .before .before .enum-told .given .1) (c .at .ensures ∙ ap (placed 0) (c .before .refusal .ensures)))
 
 returns-3 : tie.Need-returns-3
 returns-3 c =
@@ -42,4 +41,4 @@ returns-4 c =
 pub flag-at-spec : {M : Type 1} → statement M
 flag-at-spec =
     tie.close
-    (tie.spec returns (λ c κs. search needs) (λ c. search needs) (λ c. search needs) returns-2 returns-3 returns-4)
+    (tie.spec returns (λ c κs. search needs) (λ c. search needs) (λ c. search needs) (λ c κs. search needs) (λ c κs. search needs) returns-2 returns-3 returns-4)

@@ -4,7 +4,7 @@ use mathlib.Core.Path.{_≡_}
 use mathlib.Core.List.{List}
 use Prim.Native.Nat.{ℕ}
 use Rattle.lerc_words.specs.declared.Refusal.{Refusal}
-use Rattle.lerc_words.specs.Res.{ok, fail, refuse}
+use Rattle.lerc_words.specs.Res.{ok, fail, refuse, placed}
 use Rattle.lerc_header.specs.declared.Header.{Header}
 use Rattle.lerc_image.specs.declared.WalkAnswer.{WalkAnswer}
 use Rattle.lerc_image.specs.declared.WalkAnswer.the-variants as answer
@@ -15,7 +15,7 @@ use Rattle.lerc_image.specs.Parts.{BodyListed}
 use Rattle.lerc_image.proofs.Stages.{listed-refused}
 
 module _ (s : List ℕ) (h : Header) (maxima m : List ℕ) (at : ℕ) where
-  pub body-raw : {to : ℕ} {list : List ℕ} → swept s (h .kind) (h .error) at ≡ ok (rawFrom to) → BodyListed h (bodyWalked s h maxima m at) (answer.Refused (refuse 10)) list list
+  pub body-raw : {to : ℕ} {list : List ℕ} → swept s (h .kind) (h .error) at ≡ ok (rawFrom to) → BodyListed h (bodyWalked s h maxima m at) (answer.Refused (placed at (refuse 10))) list list
   unfolding bodyWalked wayWalked
   body-raw e = listed-refused (rw (e))
 

@@ -1,0 +1,3 @@
+pub mod Bare
+pub mod Plain
+pub mod Unplaced

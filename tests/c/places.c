@@ -1,0 +1,132 @@
+/* What every function that can refuse does with its last slice, the place: each is called on the rules' own blob, which comes
+ * from standard input (crates/lerc2/stdin), with no room for a place, with a record that is too short, rightly, and on a blob
+ * whose block is wrong.
+ * Exit status: 0 as expected, 1 not so, 2 there is another blob on standard input. */
+#include "../../include/lerc2.h"
+
+#include <inttypes.h>
+#include <stdio.h>
+#include <string.h>
+
+/* the blob's size, and where its one block begins */
+enum { SIZE = 79, FLAG = 74, MARK = 7 };
+
+static uint8_t right[SIZE + 1], wrong[SIZE];
+
+/* all that is lent, with marks */
+struct lent {
+    uint64_t header[LERC2_HEADER], ranges[LERC2_RANGES], image[4], said[LERC2_RANGES], place[3];
+    uint8_t kept[4], spare[4]; /* no padding, since all of it is compared */
+    size_t list[2];
+};
+
+/* how a function is called: the blob, and how many numbers said and place have room for */
+struct how {
+    const uint8_t *blob;
+    size_t said, place;
+};
+
+typedef uint32_t call(struct lent *l, struct how h);
+
+static uint32_t read_header(struct lent *l, struct how h) {
+    return lerc2_read_header(h.blob, SIZE, l->said, h.said, l->place, h.place);
+}
+
+static uint32_t read_all(struct lent *l, struct how h) {
+    return lerc2_read(h.blob, SIZE, false, l->kept, 4, l->spare, 4, l->list, 2, l->image, 4, l->said, h.said, l->place,
+                      h.place);
+}
+
+static uint32_t prepare_mask(struct lent *l, struct how h) {
+    return lerc2_prepare_mask(h.blob, SIZE, l->header, LERC2_HEADER, false, l->kept, 4, l->spare, 4, l->said, h.said, l->place,
+                              h.place);
+}
+
+static uint32_t read_ranges(struct lent *l, struct how h) {
+    return lerc2_read_ranges(h.blob, SIZE, l->header, LERC2_HEADER, l->said, h.said, l->place, h.place);
+}
+
+static uint32_t walk(struct lent *l, struct how h) {
+    const uint8_t mask[1] = {0xE0};
+    return lerc2_walk(h.blob, SIZE, l->header, LERC2_HEADER, l->ranges, LERC2_RANGES, mask, 1, l->list, 2, l->said, h.said,
+                      l->place, h.place);
+}
+
+static uint32_t fill_at(struct lent *l, struct how h, size_t start) {
+    const uint8_t mask[1] = {0xE0};
+    const size_t list[1] = {start};
+    return lerc2_fill(h.blob, SIZE, l->header, LERC2_HEADER, l->ranges, LERC2_RANGES, mask, 1, list, 1, 0, l->image, 4, l->said,
+                      h.said, l->place, h.place);
+}
+
+static uint32_t fill(struct lent *l, struct how h) { return fill_at(l, h, FLAG); }
+
+static uint32_t fill_far(struct lent *l, struct how h) { return fill_at(l, h, SIZE_MAX); }
+
+/* a number that fits its kind, or one that does not, by the blob */
+static uint32_t stored(struct lent *l, struct how h) {
+    return lerc2_stored(h.blob == right ? 0x4024000000000000 : 0x4072C00000000000, 1, l->said, h.said, l->place, h.place);
+}
+
+/* the numbers that a function says, and what it gives on the wrong blob */
+static const struct entry {
+    const char *name;
+    call *function;
+    size_t said;
+    uint32_t number;
+    uint64_t place;
+} entries[] = {{"read_header", read_header, LERC2_HEADER, 0, 0}, {"read", read_all, LERC2_READ, 8, FLAG},
+               {"prepare_mask", prepare_mask, 2, 0, 0},          {"read_ranges", read_ranges, LERC2_RANGES, 0, 0},
+               {"walk", walk, 2, 8, FLAG},                       {"fill", fill, 1, 8, FLAG},
+               {"fill far out", fill_far, 1, 1, SIZE_MAX},       {"stored", stored, 1, 9, 0}};
+
+/* marks everywhere, but for the records that are read */
+static struct lent marked(void) {
+    struct lent l;
+    uint64_t place;
+    memset(&l, MARK, sizeof l);
+    lerc2_read_header(right, SIZE, l.header, LERC2_HEADER, &place, 1);
+    lerc2_read_ranges(right, SIZE, l.header, LERC2_HEADER, l.ranges, LERC2_RANGES, &place, 1);
+    return l;
+}
+
+/* whether the number, the place and the marks behind it are those expected, and after a refusal of a record all else is kept */
+static bool one(const struct entry *e, const char *what, struct how h, uint32_t number, uint64_t place, bool kept) {
+    struct lent before = marked(), after = before, expected = before;
+    expected.place[0] = h.place == 0 ? before.place[0] : place;
+    uint32_t said = e->function(&after, h);
+    bool places = memcmp(after.place, expected.place, sizeof after.place) == 0;
+    bool same = said == number && places && (!kept || memcmp(&after, &expected, sizeof after) == 0);
+    if (!same) {
+        printf("%s, %s: %" PRIu32 " at %" PRIu64 "\n", e->name, what, said, after.place[0]);
+    }
+    return same;
+}
+
+/* a fill far out is refused on any blob */
+static bool all(const struct entry *e) {
+    bool far = e->function == fill_far, same = true;
+    struct how usual = {right, e->said, 3};
+    same &= one(e, "no place", (struct how){right, e->said, 0}, 5, 0, true);
+    same &= one(e, "no place, nor a record", (struct how){right, 0, 0}, 5, 0, true);
+    same &= one(e, "a short record", (struct how){right, e->said - 1, 3}, 5, 0, true);
+    same &= one(e, "a place of one number", (struct how){right, e->said, 1}, far ? 1 : 0, far ? e->place : 0, far);
+    same &= one(e, "the right blob", usual, far ? 1 : 0, far ? e->place : 0, far);
+    usual.blob = wrong;
+    return same & one(e, "the wrong blob", usual, e->number, e->place, false);
+}
+
+int main(void) {
+    if (fread(right, 1, SIZE + 1, stdin) != SIZE || right[FLAG] != 1) {
+        fprintf(stderr, "places: standard input is not the rules' own blob, crates/lerc2/stdin\n");
+        return 2;
+    }
+    memcpy(wrong, right, SIZE);
+    wrong[FLAG] ^= 4; /* other check bits */
+    bool same = true;
+    for (size_t n = 0; n < sizeof entries / sizeof *entries; n++) {
+        same &= all(&entries[n]);
+    }
+    printf(same ? "as expected\n" : "not as expected\n");
+    return same ? 0 : 1;
+}
