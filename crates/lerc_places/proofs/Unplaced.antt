@@ -9,6 +9,7 @@ use Rattle.lerc_words.specs.Res.{Res, ok, fail, _>>=_, marked, after}
 use Rattle.lerc_words.specs.Lists.{over}
 use Rattle.lerc_words.proofs.Marking.{Bare, marked-ok, marked-is, marked-accepts, marked-after}
 use Rattle.lerc_header.specs.declared.Header.{Header}
+use Rattle.lerc_header.specs.declared.HeaderAnswer.{HeaderAnswer}
 use Rattle.lerc_header.specs.Header.{shapeOf}
 use Rattle.lerc_validity.specs.declared.MaskAnswer.{MaskAnswer}
 use Rattle.lerc_validity.specs.Validity as mask
@@ -26,10 +27,10 @@ use Rattle.lerc_image.specs.Fill.{fillCount, fillSays, fillImage}
 use Rattle.lerc.specs.declared.ReadAnswer.{ReadAnswer}
 use Rattle.lerc.specs.Meaning.{Meaning}
 use Rattle.lerc.specs.Read.{Lent, Masked, masked, readSays, refusedAfter, readAfter, readCount}
-use Rattle.lerc_theorems.specs.Calls.{WalkCall, FillCall, ReadCall}
+use Rattle.lerc_theorems.specs.Calls.{HeaderCall, WalkCall, FillCall, ReadCall}
 use Rattle.lerc_theorems.proofs.Calls.{promise, header-call, prepare-call, ranges-call, walk-call, fill-call, read-call}
 use Rattle.lerc_places.specs.Without.{walkPlain, fillPlain, maskedPlain, readPlain}
-use Rattle.lerc_places.specs.Unplaced.{numberOf, OnlyPlaces, FindCall, RangesInCall, MaskAsPlain, RangesAsPlain, WalkAsPlain, FillAsPlain, ReadAsPlain, Unplaced}
+use Rattle.lerc_places.specs.Unplaced.{numberOf, OnlyPlaces, FindCall, RangesInCall, HeaderAsPlain, MaskAsPlain, RangesAsPlain, WalkAsPlain, FillAsPlain, ReadAsPlain, Unplaced}
 use Rattle.lerc_places.proofs.Bare.{header-bare}
 use Rattle.lerc_places.proofs.Plain.{ranges-in-plain, read-ranges-plain, find-plain, prepare-plain, walk-plain, fill-plain, meaning-plain, masked-plain, read-plain}
 
@@ -88,6 +89,9 @@ after-unplaced (fail r) (fail q) l = refl
 
 -- ---- the operations
 
+read-header : (b : List ℕ) (r : HeaderAnswer) → HeaderCall b r → HeaderAsPlain b r
+read-header b r c = rw (header-call c) (header-bare b)
+
 walk : (b : List ℕ) (h : Header) (g : Ranges) (m : List ℕ) (r : WalkAnswer) (old new : List ℕ) → WalkCall b h g m r old new → WalkAsPlain h (walkPlain b h g m (length old)) r old new
 unfolding walkList
 walk b h g m r old new call =
@@ -112,7 +116,7 @@ read b reuse r old new call =
 pub unplaced : Unplaced
 unplaced = record {
   any-answer = record { header = only-places Header; mask = only-places MaskInForce; ranges = only-places Ranges; chain = only-places Chain; block = only-places Block; meaning = only-places Meaning };
-  read-header = λ b r c. rw (header-call c) (header-bare b);
+  read-header = read-header;
   prepare-mask = λ b h reuse kept r old new c. mask-as-plain (prepareSays b h reuse kept (length old)) (prepare-plain b h reuse kept (length old)) (prepare-call c);
   find-mask = λ s h reuse kept r old new c. mask-as-plain (findSays s h reuse kept (length old)) (find-plain s h reuse kept (length old)) (find-call c);
   read-ranges = λ b h r c. ranges-as-plain (readRangesSays b h) (read-ranges-plain b h) (ranges-call c);

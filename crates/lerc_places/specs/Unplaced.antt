@@ -71,6 +71,9 @@ RangesInCall s h said = Call {S = List ℕ × Header} {T = Unit {0}} ranges-in.P
 
 -- ---- the answer with its place taken off, and what is left, are those of an answer without places
 
+abbrev pub HeaderAsPlain : List ℕ → HeaderAnswer → Type 0
+HeaderAsPlain b r = marked 0 (headerSaid r) ≡ headerSays b
+
 abbrev pub MaskAsPlain : Res MaskInForce → MaskAnswer → List ℕ → List ℕ → Type 0
 MaskAsPlain m r old new = (marked 0 (maskSaid r) ≡ (m >>= which)) × (new ≡ after m old (λ f. spareWith f old))
 
@@ -97,7 +100,7 @@ pub record Unplaced : Type 0 where
   -- a place on any answer
   pub any-answer : AnyAnswer
   -- "read header": it tells no place, so that it is its own
-  pub read-header : (b : List ℕ) (r : HeaderAnswer) → HeaderCall b r → marked 0 (headerSaid r) ≡ headerSays b
+  pub read-header : (b : List ℕ) (r : HeaderAnswer) → HeaderCall b r → HeaderAsPlain b r
   -- "prepare a mask": the answer, and the spare afterwards; then the same in the bytes of a blob that was opened
   pub prepare-mask : (b : List ℕ) (h : Header) (reuse : Bool) (kept : List ℕ) (r : MaskAnswer) (old new : List ℕ) → PrepareCall b h reuse kept r old new → MaskAsPlain (preparePlain b h reuse kept (length old)) r old new
   pub find-mask : (s : List ℕ) (h : Header) (reuse : Bool) (kept : List ℕ) (r : MaskAnswer) (old new : List ℕ) → FindCall s h reuse kept r old new → MaskAsPlain (findPlain s h reuse kept (length old)) r old new
