@@ -15,6 +15,7 @@
  *    9  a value does not fit its integer kind
  *   10  walk on a body not in blocks; mode byte 1 or 2
  *   11  block number at or above the count
+ *   13  the checksum is not that of the blob's bytes from 14 up to its size
  * Reading goes front to back, and the first failing read decides the number, and with it the place.
  *
  * Places. The last slice of every function that can refuse is `place`, which needs room for one number. Without it the
@@ -32,7 +33,7 @@
  *    8  inside a block: its flag byte; else the wrong sweep or mode byte
  *    9  inside a block: its flag byte; else (a constant body, lerc2_stored) 0
  *   10  the sweep byte of a raw body in a walk; the mode byte; 0 for a walk on an empty or constant body
- *    2, 3, 4, 5, 11: 0
+ *    2, 3, 4, 5, 11, 13: 0
  * Inside a block are its check bits, offset, counts, raw words and values. The ranges begin at 70 + mask bytes: all
  * minima, then all maxima, each of the kind's size. Behind them comes the sweep byte, and where it is 0, of kinds 0 and 1
  * with error 0.5, the mode byte; a walk looks for them where its ranges say that the body begins.
@@ -123,14 +124,14 @@ bool lerc2_float_ready(uint64_t mix);
 
 /* The header of a blob.
  * Refuses 5 (place under 1), 5 (header under 11), 1 (blob under 70 bytes), 2, 3, 4, 1 (blob shorter than its declared
- * size).
+ * size), 13. All bytes up to the size are summed for that; bytes behind it are not looked at.
  * Accepted: header[0 .. 10] is the header, place[0] is 0.
  * Refused: header is as it was, place[0] is 0. */
 uint32_t lerc2_read_header(const uint8_t *blob, size_t blob_count, uint64_t *header, size_t header_count,
                            uint64_t *place, size_t place_count);
 
 /* A whole blob. `kept` is the mask of the blob before, and is used for a blob without one where reuse is true.
- * Refuses 5 (place under 1), 5 (said under 13), then the header's 1, 2, 3, 4, 1; 5 (kept, spare, list or image too
+ * Refuses 5 (place under 1), 5 (said under 13), then the header's 1, 2, 3, 4, 1, 13; 5 (kept, spare, list or image too
  * short); 6 (mask); 1, 7 (ranges); 9 (constant body); 1, 8, 10 (sweep and mode byte); 1 (raw body); 1, 8, 9 (block by
  * block).
  * Accepted: said[0 .. 10] is the header, said[11] the count of blocks (0 for a body without blocks), said[12] where the
@@ -144,7 +145,7 @@ uint32_t lerc2_read(const uint8_t *blob, size_t blob_count, bool reuse, uint8_t 
                     uint64_t *said, size_t said_count, uint64_t *place, size_t place_count);
 
 /* ---- A blob block by block. Header and ranges are given by value: they are held to the rules again, and not compared
- * with the blob. */
+ * with the blob; its checksum is not tested again. */
 
 /* The mask of a blob.
  * Refuses 5 (place under 1), 5 (header under 11, said under 2), 3 (a field of 2^32 or more), 3, 4, 1 (the header),
@@ -209,6 +210,10 @@ uint64_t lerc2_number(uint64_t word, uint32_t kind);
  * Accepted: said[0] is the word, place[0] is 0. Refused: said is as it was, place[0] is 0: there is no blob. */
 uint32_t lerc2_stored(uint64_t v, uint32_t kind, uint64_t *said, size_t said_count, uint64_t *place,
                       size_t place_count);
+
+/* ---- The checksum of these bytes. That of a blob stands at 10, four bytes, the lowest first, and is that of its bytes
+ * from 14 up to its size. It is never 0. */
+uint32_t lerc2_checksum(const uint8_t *bytes, size_t count);
 
 #ifdef __cplusplus
 }

@@ -58,6 +58,11 @@ impl Op {
         }
     }
 
+    /// All but arithmetic.
+    pub fn has_blob(self) -> bool {
+        Op::READING.contains(&self)
+    }
+
     /// Those that can are lent a slice for the place.
     pub fn can_refuse(self) -> bool {
         !matches!(self, Op::Sum | Op::Scaled | Op::Narrow | Op::Number)

@@ -1,15 +1,23 @@
 //! Blobs out of a folder: every operation on each, with slices that are just
-//! long enough, and each block filled once.
+//! long enough, and each block filled once; then the same blobs damaged.
 
-use crate::case::{Case, Op};
+use crate::case::{After, Case, Op};
+use crate::checksum;
+use crate::damage;
 use crate::paths::Paths;
 use crate::places::Places;
-use crate::sides::{plain, proved, ranges_record, record};
+use crate::random::Random;
+use crate::run::Side;
+use crate::sides::{ranges_record, record};
 use crate::table::Table;
 use lerc2::raw;
+use second::Header;
 use std::fs;
 use std::io;
 use std::path::{Path, PathBuf};
+
+/// Copies of a blob that are damaged elsewhere than in the checksum.
+const DAMAGED: usize = 8;
 
 /// The files called NAME.lerc2, by name.
 pub fn files(folder: &Path) -> io::Result<Vec<PathBuf>> {
@@ -33,87 +41,149 @@ pub struct Counts {
 }
 
 /// The first call on which the sides differ.
-pub fn compare(blob: &[u8], counts: &mut Counts) -> Result<(), Box<Case>> {
-    let mut both = |case: &Case| {
-        let (after, other) = (proved(case), plain(case));
-        counts.table.count(case.op, after.answer);
-        if after == other {
-            counts.paths.count(case, &other);
-            counts.places.count(case, &other);
-            Ok(after)
-        } else {
-            Err(Box::new(case.clone()))
+type Differs = Box<Case>;
+
+/// Both sides, and what their calls came upon.
+pub struct Both<'a> {
+    pub proved: Side,
+    pub plain: Side,
+    pub counts: &'a mut Counts,
+}
+
+impl Both<'_> {
+    fn call(&mut self, case: &Case) -> Result<After, Differs> {
+        let (after, other) = ((self.proved)(case), (self.plain)(case));
+        self.counts.table.count(case.op, after.answer);
+        if after != other {
+            return Err(Box::new(case.clone()));
         }
-    };
-    let mut case = Case::new(Op::Header);
-    case.blob = blob.to_vec();
-    case.header = vec![7; raw::HEADER];
-    both(&case)?;
-    let Ok(header) = second::read_header(blob) else {
-        case = Case::new(Op::Read);
-        case.blob = blob.to_vec();
-        case.said = vec![7; raw::READ];
-        return both(&case).map(|_| ());
-    };
-    case.header = record(&header).to_vec();
-    let mask_length = header.mask_length();
-    case.kept = vec![0x0F; mask_length];
-    case.spare = vec![0xF0; mask_length];
-    case.said = vec![7; raw::READ];
-    let mut mask = case.kept.clone();
-    for reuse in [true, false] {
-        case.op = Op::Mask;
-        case.reuse = reuse;
-        let after = both(&case)?;
-        if after.answer == 0 && after.lent.said[0] == 2 {
-            mask = after.lent.spare;
+        self.counts.paths.count(case, &other);
+        self.counts.places.count(case, &other);
+        Ok(after)
+    }
+
+    /// The blob as it is, with each wrong checksum, and damaged elsewhere.
+    pub fn compare(&mut self, blob: &[u8]) -> Result<(), Differs> {
+        self.whole(blob)?;
+        if checksum::wrong(blob).is_some() {
+            self.whole(&checksum::mended(blob))?;
+        }
+        let copies = checksum::damaged(blob);
+        if let Some(copy) = copies.first() {
+            self.whole(copy)?;
+        }
+        for copy in copies.iter().skip(1) {
+            self.reads(copy)?;
+        }
+        let mut random = Random::new(u64::from(second::checksum(blob)));
+        for nth in 0..DAMAGED {
+            let mut copy = blob.to_vec();
+            damage::blob(&mut random, &mut copy);
+            if nth > 0 {
+                checksum::mend(&mut copy);
+            }
+            self.reads(&copy)?;
+        }
+        Ok(())
+    }
+
+    /// Every operation.
+    fn whole(&mut self, blob: &[u8]) -> Result<(), Differs> {
+        self.reads(blob)?;
+        // A header by value is taken with any checksum.
+        match second::read_header(&checksum::mended(blob)) {
+            Ok(header) => self.by_value(blob, &header),
+            Err(_) => Ok(()),
         }
     }
-    case.op = Op::Ranges;
-    case.ranges = vec![7; raw::RANGES];
-    both(&case)?;
+
+    /// Header and whole reads; without room, and if the header is right with
+    /// just enough and with each slice one short.
+    fn reads(&mut self, blob: &[u8]) -> Result<(), Differs> {
+        let mut case = Case::new(Op::Header);
+        case.blob = blob.to_vec();
+        case.header = vec![7; raw::HEADER];
+        self.call(&case)?;
+        case.op = Op::Read;
+        case.header.clear();
+        case.said = vec![7; raw::READ];
+        self.call(&case)?;
+        let Ok(header) = second::read_header(blob) else {
+            return Ok(());
+        };
+        lend(&mut case, &header);
+        for reuse in [true, false] {
+            case.reuse = reuse;
+            self.call(&case)?;
+        }
+        for short in 0..4 {
+            let mut case = case.clone();
+            match short {
+                0 => drop(case.kept.pop()),
+                1 => drop(case.spare.pop()),
+                2 => drop(case.list.pop()),
+                _ => drop(case.image.pop()),
+            }
+            self.call(&case)?;
+        }
+        Ok(())
+    }
+
+    /// What is given a header by value: mask, ranges, walk and fill.
+    fn by_value(&mut self, blob: &[u8], header: &Header) -> Result<(), Differs> {
+        let mut case = Case::new(Op::Mask);
+        case.blob = blob.to_vec();
+        case.header = record(header).to_vec();
+        case.said = vec![7; raw::READ];
+        lend(&mut case, header);
+        case.mask = case.kept.clone();
+        for reuse in [true, false] {
+            case.reuse = reuse;
+            let after = self.call(&case)?;
+            if after.answer == 0 && after.lent.said[0] == 2 {
+                case.mask = after.lent.spare;
+            }
+        }
+        case.op = Op::Ranges;
+        case.ranges = vec![7; raw::RANGES];
+        self.call(&case)?;
+        let Ok(ranges) = second::read_ranges(blob, header) else {
+            return Ok(());
+        };
+        case.op = Op::Walk;
+        case.ranges = ranges_record(&ranges).to_vec();
+        let walked = self.call(&case)?;
+        if walked.answer == 0 {
+            case.list = walked.lent.list;
+            self.fills(case, header)?;
+        }
+        Ok(())
+    }
+
+    fn fills(&mut self, mut case: Case, header: &Header) -> Result<(), Differs> {
+        case.op = Op::Fill;
+        // A large image is filled in samples: each call compares all of it.
+        let step = 1 + header.cells() * header.blocks() / (1 << 26);
+        let blocks = header.blocks();
+        for n in (0..=blocks).step_by(step) {
+            // A scrambled order, and one number past the last.
+            let number = if n < blocks {
+                n * 7919 % blocks
+            } else {
+                blocks
+            };
+            case.numbers[0] = number as u64;
+            let after = self.call(&case)?;
+            case.image = after.lent.image;
+        }
+        Ok(())
+    }
+}
+
+/// Slices that are just long enough.
+fn lend(case: &mut Case, header: &Header) {
+    case.kept = vec![0x0F; header.mask_length()];
+    case.spare = vec![0xF0; header.mask_length()];
     case.list = vec![7; header.blocks()];
     case.image = (0..header.cells() as u64).map(|n| n << 32 | 7).collect();
-    for reuse in [true, false] {
-        case.op = Op::Read;
-        case.reuse = reuse;
-        both(&case)?;
-    }
-    for short in 0..4 {
-        let mut case = case.clone();
-        match short {
-            0 => drop(case.kept.pop()),
-            1 => drop(case.spare.pop()),
-            2 => drop(case.list.pop()),
-            _ => drop(case.image.pop()),
-        }
-        both(&case)?;
-    }
-    let Ok(ranges) = second::read_ranges(blob, &header) else {
-        return Ok(());
-    };
-    case.op = Op::Walk;
-    case.ranges = ranges_record(&ranges).to_vec();
-    case.mask = mask;
-    let walked = both(&case)?;
-    if walked.answer != 0 {
-        return Ok(());
-    }
-    case.op = Op::Fill;
-    case.list = walked.lent.list;
-    // A large image is filled in samples: each call compares all of it.
-    let step = 1 + header.cells() * header.blocks() / (1 << 26);
-    let blocks = header.blocks();
-    for n in (0..=blocks).step_by(step) {
-        // A scrambled order, and one number past the last.
-        let number = if n < blocks {
-            n * 7919 % blocks
-        } else {
-            blocks
-        };
-        case.numbers[0] = number as u64;
-        let after = both(&case)?;
-        case.image = after.lent.image;
-    }
-    Ok(())
 }

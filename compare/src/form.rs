@@ -1,6 +1,7 @@
 //! Blobs of every form that the rules allow, put together piece by piece, and
 //! forms with one thing wrong.
 
+use crate::checksum;
 use crate::random::Random;
 use second::{is_finite, less, number, word_size};
 
@@ -56,33 +57,10 @@ impl Form {
         bytes.extend_from_slice(&self.section);
         bytes.extend_from_slice(&self.after);
         bytes.extend_from_slice(&self.gap);
-        let sum = checksum(&bytes[14..]);
-        bytes[10..14].copy_from_slice(&sum.to_le_bytes());
+        checksum::mend(&mut bytes);
         bytes.extend_from_slice(&self.slack);
         bytes
     }
-}
-
-/// The checksum that Esri's library asks for: two sums of 16-bit words, the
-/// higher byte first. The rules ignore it.
-fn checksum(bytes: &[u8]) -> u32 {
-    let folded = |sum: u32| (sum & 0xFFFF) + (sum >> 16);
-    let (mut low, mut high) = (0xFFFF, 0xFFFF);
-    let words = bytes.chunks_exact(2);
-    let last = words.remainder();
-    let words: Vec<_> = words.collect();
-    for group in words.chunks(359) {
-        for word in group {
-            low += u32::from(word[0]) << 8 | u32::from(word[1]);
-            high += low;
-        }
-        (low, high) = (folded(low), folded(high));
-    }
-    for &byte in last {
-        low += u32::from(byte) << 8;
-        high += low;
-    }
-    folded(high) << 16 | folded(low)
 }
 
 /// What is wrong with a form.

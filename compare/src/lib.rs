@@ -7,6 +7,7 @@
 pub mod arithmetic;
 pub mod block_paths;
 pub mod case;
+pub mod checksum;
 pub mod counted;
 pub mod damage;
 #[cfg(feature = "esri")]
@@ -26,4 +27,5 @@ mod sites;
 pub mod sorts;
 pub mod step;
 pub mod store;
+pub mod sums;
 pub mod table;

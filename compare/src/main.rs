@@ -5,6 +5,7 @@ use compare::places::Places;
 use compare::run::{Failure, Run};
 use compare::sides::{plain, proved};
 use compare::store;
+use compare::sums::Sums;
 use compare::table::grouped;
 use std::error::Error;
 use std::fs;
@@ -22,11 +23,15 @@ compare arithmetic [--pairs N] [--seed S]
 compare replay FILE
     one saved call
 compare folder FOLDER..
-    every NAME.lerc2 of the folders; calls that differ are saved to failed
+    every NAME.lerc2 of the folders, as it is and damaged; calls that differ are
+    saved to failed
+compare checksums FOLDER..
+    every NAME.lerc2 of the folders: its own checksum is taken, and each copy
+    with one byte of it changed is refused 13
 compare esri [--overflow] [--blobs N] [--seed S]
     accepted images of blobs made at random (100,000 of them, seed 1) against
-    Esri's library (cargo feature esri); --overflow: of blobs in which products
-    are infinite
+    Esri's library (cargo feature esri), and copies of them with wrong
+    checksums; --overflow: of blobs in which products are infinite
 compare esri FOLDER..
     the same with every NAME.lerc2 of the folders
 
@@ -49,11 +54,15 @@ fn main() -> ExitCode {
         ["arithmetic", rest @ ..] => arithmetic_compared(rest),
         ["replay", file] => replay(file),
         ["folder", folders @ ..] if !folders.is_empty() => folders_compared(folders),
+        ["checksums", folders @ ..] if !folders.is_empty() => checksums_compared(folders),
         ["esri", rest @ ..] => esri(rest),
         ["replay", ..] => Err("replay takes one file".into()),
-        ["folder"] => Err("folder takes one folder or more".into()),
+        [word @ ("folder" | "checksums")] => {
+            Err(format!("{word} takes one folder or more").into())
+        }
         [] => Err(
-            "run, arithmetic, replay, folder or esri? `compare --help` says what they do".into(),
+            "run, arithmetic, replay, folder, checksums or esri? `compare --help` says what they do"
+                .into(),
         ),
         [word, ..] => Err(format!("unknown word {word}; `compare --help` has all").into()),
     };
@@ -218,10 +227,15 @@ fn folders_compared(folders: &[&str]) -> Result<bool, Box<dyn Error>> {
     ready()?;
     let mut counts = folder::Counts::default();
     let (mut count, mut disagreements) = (0, 0);
+    let mut both = folder::Both {
+        proved,
+        plain,
+        counts: &mut counts,
+    };
     for folder in folders {
         for file in blobs(folder)? {
             count += 1;
-            if let Err(case) = folder::compare(&bytes(&file)?, &mut counts) {
+            if let Err(case) = both.compare(&bytes(&file)?) {
                 println!("{}:", file.display());
                 let name = file.file_stem().unwrap_or_default().to_string_lossy();
                 let failure = Failure::new(0, *case, proved, plain);
@@ -238,6 +252,18 @@ fn folders_compared(folders: &[&str]) -> Result<bool, Box<dyn Error>> {
         grouped(counts.table.total())
     );
     Ok(disagreements == 0)
+}
+
+fn checksums_compared(folders: &[&str]) -> Result<bool, Box<dyn Error>> {
+    ready()?;
+    let mut sums = Sums::default();
+    for folder in folders {
+        for file in blobs(folder)? {
+            sums.count(&file.display().to_string(), &bytes(&file)?, proved, plain);
+        }
+    }
+    println!("{}", sums.text());
+    Ok(sums.differ.is_empty())
 }
 
 #[cfg(not(feature = "esri"))]

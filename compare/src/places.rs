@@ -47,12 +47,21 @@ pub enum Site {
     Key,
     Field,
     Ceiling,
+    SumByWords,
+    SumZero,
+    SumBit,
+    SumSwapped,
+    SumOtherEnd,
+    SumOther,
+    SumNoRoom,
     Room,
     NoBlock,
     Number,
     ShortRecord,
     WideNumber,
     Accepted,
+    AcceptedByFold,
+    AcceptedUnsummed,
     NoPlace,
     OnePlace,
     MorePlaces,
@@ -78,7 +87,7 @@ const BODY: &[Op] = &[Op::Walk, Op::Read];
 const BLOCK: &[Op] = &[Op::Walk, Op::Fill, Op::Read];
 
 /// All of them in order, with their names and the operations that have them.
-pub const SITES: [(Site, &str, &[Op]); 48] = [
+pub const SITES: [(Site, &str, &[Op]); 57] = [
     (Site::FlagMissing, "flag byte: missing (1)", BLOCK),
     (
         Site::FlagFar,
@@ -163,6 +172,29 @@ pub const SITES: [(Site, &str, &[Op]); 48] = [
     (Site::Key, "0: key or version (2)", OWN_HEADER),
     (Site::Field, "0: a field (3)", WITH_HEADER),
     (Site::Ceiling, "0: a ceiling (4)", WITH_HEADER),
+    (
+        Site::SumByWords,
+        "0: checksum by the words, not by the code (13)",
+        OWN_HEADER,
+    ),
+    (Site::SumZero, "0: checksum of 0 (13)", OWN_HEADER),
+    (Site::SumBit, "0: checksum, one bit (13)", OWN_HEADER),
+    (
+        Site::SumSwapped,
+        "0: checksum, bytes or halves swapped (13)",
+        OWN_HEADER,
+    ),
+    (
+        Site::SumOtherEnd,
+        "0: checksum of more or fewer bytes (13)",
+        OWN_HEADER,
+    ),
+    (Site::SumOther, "0: checksum, any other (13)", OWN_HEADER),
+    (
+        Site::SumNoRoom,
+        "0: checksum, and a slice is too short (13)",
+        &[Op::Read],
+    ),
     (Site::Room, "0: a slice is too short (5)", ROOM),
     (Site::NoBlock, "0: block number (11)", &[Op::Fill]),
     (Site::Number, "0: a number does not fit (9)", &[Op::Stored]),
@@ -173,6 +205,16 @@ pub const SITES: [(Site, &str, &[Op]); 48] = [
         GIVEN_HEADER,
     ),
     (Site::Accepted, "0: accepted", EVERY),
+    (
+        Site::AcceptedByFold,
+        "0: accepted, checksum by the code, not by the words",
+        OWN_HEADER,
+    ),
+    (
+        Site::AcceptedUnsummed,
+        "0: accepted, checksum wrong",
+        GIVEN_HEADER,
+    ),
     (Site::NoPlace, "none: no room for a place (5)", EVERY),
     (Site::OnePlace, "room for one place", EVERY),
     (Site::MorePlaces, "room for more", EVERY),

@@ -2,6 +2,7 @@
 //! what the rules ask for.
 
 use crate::case::{each_part, Case, Element, Op, Part, Visit};
+use crate::checksum;
 use crate::damage;
 use crate::form::{any_form, form, Body, Fault, Form, Wanted};
 use crate::random::Random;
@@ -55,11 +56,22 @@ impl Blob {
 
 /// The calls of one blob of a run.
 pub fn calls(random: &mut Random, out: &mut Vec<Case>) {
-    let form = any_form(random, false);
+    let mut form = any_form(random, false);
+    let is_odd = random.once_in(64) && form.size() < 4_000;
+    if is_odd {
+        checksum::put_odd(random, &mut form);
+    }
     let mut bytes = form.bytes();
     let whole = Blob::new(&form, bytes.clone());
     if random.once_in(3) {
         damage::blob(random, &mut bytes);
+        // Most of them get past the checksum, to what is damaged.
+        if !random.once_in(8) {
+            checksum::mend(&mut bytes);
+        }
+    }
+    if random.once_in(if is_odd { 3 } else { 12 }) {
+        checksum::damage(random, &mut bytes);
     }
     let blob = Blob { bytes, ..whole };
     let ops = [
@@ -250,6 +262,7 @@ fn block_number(random: &mut Random, blocks: usize) -> u64 {
 fn cuts(random: &mut Random, blob: &Blob, out: &mut Vec<Case>) {
     let op = random.pick(&Op::READING);
     let with_size = random.once_in(2);
+    let with_checksum = !random.once_in(4);
     for length in 0..blob.bytes.len() {
         let mut case = exact(random, blob, op);
         case.blob.truncate(length);
@@ -262,6 +275,9 @@ fn cuts(random: &mut Random, blob: &Blob, out: &mut Vec<Case>) {
             if case.header.len() > 5 {
                 case.header[5] = length as u64;
             }
+        }
+        if with_size && with_checksum {
+            checksum::mend(&mut case.blob);
         }
         out.push(case);
     }
@@ -285,6 +301,7 @@ fn raw_cuts(random: &mut Random, blob: &Blob, out: &mut Vec<Case>) {
     for size in sizes {
         let mut case = exact(random, blob, Op::Read);
         case.blob[34..38].copy_from_slice(&(size as u32).to_le_bytes());
+        checksum::mend(&mut case.blob);
         out.push(case);
     }
 }

@@ -1,6 +1,7 @@
 //! Makes a failing call smaller while it still fails.
 
 use crate::case::{each_part, Case, Element, Part, Visit};
+use crate::checksum::mended;
 
 /// Tries of one shrinking; each is a call on both sides.
 const TRIES: usize = 20_000;
@@ -34,12 +35,22 @@ impl Search<'_> {
         self.tries >= TRIES
     }
 
-    /// Keeps a smaller call that still fails.
+    /// Keeps a smaller call that still fails, as it is or with the checksum of
+    /// the bytes that are left.
     fn offer(&mut self, smaller: Case) -> bool {
+        let blob = mended(&smaller.blob);
+        let is_other = blob != smaller.blob && smaller.blob != self.best.blob;
+        if self.keeps(&smaller) {
+            return true;
+        }
+        is_other && self.keeps(&Case { blob, ..smaller })
+    }
+
+    fn keeps(&mut self, smaller: &Case) -> bool {
         self.tries += 1;
-        let fails = (self.fails)(&smaller);
+        let fails = (self.fails)(smaller);
         if fails {
-            self.best = smaller;
+            self.best = smaller.clone();
         }
         fails
     }

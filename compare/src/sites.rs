@@ -1,6 +1,7 @@
 //! What is wrong at the place of a refusal, told from the call's own bytes.
 
 use crate::case::{After, Case, Op};
+use crate::checksum::{self, Wrong};
 use crate::counted::{offset_at, pixels};
 use crate::form::OFFSET_KINDS;
 use crate::places::Site;
@@ -17,7 +18,8 @@ pub fn sites(case: &Case, after: &After) -> Vec<Site> {
         return vec![Site::NoPlace];
     };
     if let Some(site) = before_body(case, after.answer) {
-        return Vec::from_iter((place == 0).then_some(site));
+        let sites = [Some(site), also(case, after.answer)];
+        return sites.into_iter().flatten().filter(|_| place == 0).collect();
     }
     let Some((header, bytes)) = held(case) else {
         return Vec::new();
@@ -48,8 +50,44 @@ fn before_body(case: &Case, number: u32) -> Option<Site> {
         5 => Some(Site::Room),
         9 if case.op == Op::Stored => Some(Site::Number),
         11 => Some(Site::NoBlock),
+        13 if own => checksum::wrong(&case.blob).map(of_sum),
         _ => None,
     }
+}
+
+fn of_sum(wrong: Wrong) -> Site {
+    match wrong {
+        Wrong::ByWords => Site::SumByWords,
+        Wrong::Zero => Site::SumZero,
+        Wrong::OneBit => Site::SumBit,
+        Wrong::Swapped => Site::SumSwapped,
+        Wrong::OtherEnd => Site::SumOtherEnd,
+        Wrong::Other => Site::SumOther,
+    }
+}
+
+/// What else the checksum makes of such a call.
+fn also(case: &Case, number: u32) -> Option<Site> {
+    let own = matches!(case.op, Op::Header | Op::Read);
+    let given = case.op.has_blob() && !own;
+    let by_fold = || checksum::truth(&case.blob) != checksum::words_of(&case.blob);
+    match number {
+        0 if own && by_fold() => Some(Site::AcceptedByFold),
+        0 if given && checksum::wrong(&case.blob).is_some() => Some(Site::AcceptedUnsummed),
+        13 if case.op == Op::Read && has_short_slice(case) => Some(Site::SumNoRoom),
+        _ => None,
+    }
+}
+
+/// Of a whole read whose header is right, but for the checksum.
+fn has_short_slice(case: &Case) -> bool {
+    let header = second::read_header(&checksum::mended(&case.blob));
+    header.is_ok_and(|header| {
+        let masks = case.kept.len().min(case.spare.len());
+        masks < header.mask_length()
+            || case.list.len() < header.blocks()
+            || case.image.len() < header.cells()
+    })
 }
 
 /// The header in use, and the bytes up to its size if they are there.

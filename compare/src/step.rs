@@ -2,6 +2,7 @@
 //! No function of the C interface computes one alone, so a blob of one block
 //! is read.
 
+use crate::checksum;
 use crate::form::packed;
 use crate::operands::{count, finite, overflowing};
 use crate::random::Random;
@@ -127,6 +128,7 @@ impl Steps {
         }
         blob.extend(u32::to_le_bytes(0));
         blob.extend(body);
+        checksum::mend(&mut blob);
         blob
     }
 

@@ -2,12 +2,21 @@
 
 use crate::case::Op;
 
+/// Numbers of the columns: accepted, then the refusals that there are.
+const ANSWERS: [u32; 13] = [0, 1, 2, 3, 4, 5, 6, 7, 8, 9, 10, 11, 13];
+
 #[derive(Clone, Default)]
-pub struct Table([[u64; 12]; 11]);
+pub struct Table([[u64; ANSWERS.len()]; Op::ALL.len()]);
 
 impl Table {
     pub fn count(&mut self, op: Op, answer: u32) {
-        self.0[op as usize][answer.min(11) as usize] += 1;
+        let column = ANSWERS.iter().position(|&number| number == answer);
+        self.0[op as usize][column.unwrap_or(ANSWERS.len() - 1)] += 1;
+    }
+
+    pub fn of(&self, op: Op, answer: u32) -> u64 {
+        let column = ANSWERS.iter().position(|&number| number == answer);
+        column.map_or(0, |column| self.0[op as usize][column])
     }
 
     pub fn total(&self) -> u64 {
@@ -17,11 +26,11 @@ impl Table {
     /// In the form of the documents.
     pub fn text(&self) -> String {
         let mut text = String::from("| operation | calls | accepted |");
-        for number in 1..=11 {
+        for number in &ANSWERS[1..] {
             text += &format!(" {number} |");
         }
         text += "\n|---|---|---|";
-        text += &"---|".repeat(11);
+        text += &"---|".repeat(ANSWERS.len() - 1);
         text += "\n";
         for op in Op::ALL {
             let row = &self.0[op as usize];

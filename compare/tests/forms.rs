@@ -4,6 +4,7 @@ mod common;
 
 use common::sum_by_count;
 use compare::case::Op;
+use compare::checksum::{by_words, put_odd, truth, wrong, Wrong};
 use compare::counted::{counted, Counted};
 use compare::form::{any_form, form, Body, Fault, Wanted, OFFSET_KINDS};
 use compare::plan;
@@ -184,4 +185,70 @@ fn cut_word(blob: &[u8]) -> Option<(usize, usize)> {
     );
     let there = bytes.len() - ranges.place - 1;
     (there < words * size).then_some((size, there % size))
+}
+
+/// Both sums of an odd number of bytes, before the last fold.
+fn before_last_fold(bytes: &[u8]) -> [u64; 2] {
+    let (words, last) = bytes.split_at(bytes.len() - 1);
+    let [mut sum, mut running] = [65_535; 2];
+    for group in words.chunks(2 * 359) {
+        for word in group.chunks(2) {
+            sum += u64::from(word[0]) * 256 + u64::from(word[1]);
+            running += sum;
+        }
+        [sum, running] = [sum, running].map(|sum| sum % 65_536 + sum / 65_536);
+    }
+    sum += u64::from(last[0]) * 256;
+    [sum, running + sum]
+}
+
+/// Of the odd sizes on which words and code differ, every case comes up.
+#[test]
+fn every_odd_checksum_comes_up() {
+    let mut random = Random::new(10);
+    let mut found = HashMap::new();
+    for _ in 0..400 {
+        let mut wanted = Wanted::any(&mut random, false);
+        (wanted.rows, wanted.columns, wanted.depth) = (3, 5, 1);
+        let mut form = form(&mut random, wanted);
+        put_odd(&mut random, &mut form);
+        let blob = form.bytes();
+        let summed = &blob[14..form.size()];
+        assert_ne!(truth(&blob), Some(by_words(summed)));
+        let [sum, running] = before_last_fold(summed);
+        let case = if sum == 131_071 { sum } else { 2 * running };
+        *found.entry(case).or_insert(0) += 1;
+    }
+    let cases = [131_071, 2 * 131_071, 2 * 196_606, 2 * 196_607];
+    assert_eq!(found.len(), cases.len(), "{found:?}");
+    assert!(cases.iter().all(|case| found[case] > 10), "{found:?}");
+}
+
+/// Blobs that are damaged come with their checksum mended and not, and true
+/// blobs with every sort of wrong one.
+#[test]
+fn every_wrong_checksum_comes_up() {
+    let mut random = Random::new(11);
+    let mut sorts: HashMap<String, usize> = HashMap::new();
+    let mut cases = Vec::new();
+    for blob in 0..20_000 {
+        plan::calls(&mut Random::of(random.word(), blob), &mut cases);
+        let headers = cases.drain(..).filter(|case| case.op == Op::Header);
+        for case in headers.take(1) {
+            let sort = wrong(&case.blob);
+            *sorts.entry(format!("{sort:?}")).or_insert(0) += 1;
+        }
+    }
+    let sorts_of = |sort: Option<Wrong>| sorts[&format!("{sort:?}")];
+    for sort in [
+        Wrong::ByWords,
+        Wrong::Zero,
+        Wrong::OneBit,
+        Wrong::Swapped,
+        Wrong::OtherEnd,
+        Wrong::Other,
+    ] {
+        assert!(sorts_of(Some(sort)) > 20, "{sorts:?}");
+    }
+    assert!(sorts_of(None) > 16_000, "{sorts:?}");
 }

@@ -5,8 +5,10 @@
 mod full;
 
 use compare::case::{Case, Op};
+use compare::checksum::{by_words, mend, put_odd, truth};
 use compare::form::{Fields, Form};
 use compare::places::{Places, Site, SITES};
+use compare::random::Random;
 use compare::run::{Report, Run, FULL_RUN};
 use compare::sides::{plain, ranges_record, record};
 use full::{a_failure, full_report, places_but};
@@ -49,6 +51,10 @@ fn block(bytes: &[u8]) -> Image {
 
 impl Image {
     fn blob(&self) -> Vec<u8> {
+        self.form().bytes()
+    }
+
+    fn form(&self) -> Form {
         Form {
             fields: Fields {
                 rows: 1,
@@ -69,7 +75,6 @@ impl Image {
             mask: Vec::new(),
             starts: Vec::new(),
         }
-        .bytes()
     }
 
     /// A call with room for everything, and with the ranges of the blob if they
@@ -325,6 +330,7 @@ fn other_bodies() {
     for at in [50, 58] {
         too_large.blob[at..at + 8].copy_from_slice(&300f64.to_le_bytes());
     }
+    mend(&mut too_large.blob);
     // Words of four bytes at 79, 83 and 87.
     let raw = |there: usize| {
         let mut after = [10u32, 12].map(u32::to_le_bytes).concat();
@@ -381,6 +387,67 @@ fn no_place() {
     held(vec![(Number, stored.clone(), 9, 0)]);
     stored.numbers[1] = 7;
     held(vec![(Accepted, stored, 0, 0)]);
+}
+
+/// A wrong checksum, by what is stored in its place.
+#[test]
+fn wrong_checksums() {
+    use Site::*;
+    let blob = block(&[3, 10]).blob();
+    let (sum, sum_of) = (truth(&blob).unwrap(), |end| {
+        second::checksum(&blob[14..end])
+    });
+    let wrong = [
+        (SumZero, 0),
+        (SumBit, sum ^ 1),
+        (SumBit, sum ^ 1 << 31),
+        (SumSwapped, sum.swap_bytes()),
+        (SumSwapped, sum.rotate_left(16)),
+        (SumOtherEnd, sum_of(blob.len())),
+        (SumOtherEnd, sum_of(74)),
+        (SumOther, !sum),
+        (SumOther, sum ^ 3),
+    ];
+    for (site, stored) in wrong {
+        for op in [Op::Header, Op::Read] {
+            held(vec![(site, stored_in(&blob, stored, op), 13, 0)]);
+        }
+        // Before room, and not at all where the header is by value.
+        let mut read = stored_in(&blob, stored, Op::Read);
+        read.image.clear();
+        held(vec![(SumNoRoom, read, 13, 0)]);
+        for op in [Op::Mask, Op::Ranges, Op::Walk, Op::Fill] {
+            let case = stored_in(&blob, stored, op);
+            held(vec![(AcceptedUnsummed, case, 0, 0)]);
+        }
+    }
+}
+
+fn stored_in(blob: &[u8], stored: u32, op: Op) -> Case {
+    let mut case = block(&[3, 10]).call(op);
+    case.blob = blob.to_vec();
+    case.blob[10..14].copy_from_slice(&stored.to_le_bytes());
+    case
+}
+
+/// Odd sizes on which words and code differ: the code's sum is taken, and not
+/// the words'.
+#[test]
+fn checksums_that_the_words_do_not_give() {
+    let mut random = Random::new(9);
+    for _ in 0..20 {
+        let mut form = block(&[3, 10]).form();
+        put_odd(&mut random, &mut form);
+        let blob = form.bytes();
+        let words = by_words(&blob[14..form.size()]);
+        for op in [Op::Header, Op::Read] {
+            let sum = truth(&blob).unwrap();
+            let taken = stored_in(&blob, sum, op);
+            held(vec![(Site::AcceptedByFold, taken, 0, 0)]);
+            let wrong = stored_in(&blob, words, op);
+            held(vec![(Site::SumByWords, wrong, 13, 0)]);
+        }
+    }
 }
 
 /// Without room for a place nothing is written, whatever the call is; behind

@@ -1,13 +1,17 @@
 //! A fault planted in one side is found, made small, saved and replayed.
 
 mod common;
+#[path = "common/judged.rs"]
+mod judged;
 
 use common::sum_by_count;
 use compare::case::{After, Case, Op};
+use compare::checksum::{by_words, mended, stored, truth, words_of, wrong};
 use compare::counted::counted;
 use compare::run::{Report, Run};
 use compare::sides::{plain, proved};
 use compare::store;
+use judged::{judged, tested_by_value, untested};
 use lerc2::raw;
 
 fn run(other: fn(&Case) -> After) -> Report {
@@ -263,6 +267,178 @@ fn a_call_without_room_for_its_place() {
     let failure = run(other).failures.remove(0);
     assert!(failure.difference.starts_with("answer 5 and "));
     assert!(failure.small.place.is_empty());
+}
+
+/// A fault of the test of the checksum, and the call made small.
+fn sum_is_found(other: fn(&Case) -> After) -> Case {
+    let failure = run(other).failures.remove(0);
+    let difference = &failure.difference;
+    assert!(difference.contains("13"), "{difference}");
+    assert!(failure.small.blob.len() <= failure.case.blob.len());
+    failure.small
+}
+
+#[test]
+fn a_checksum_that_is_not_tested() {
+    let small = sum_is_found(untested);
+    assert!(matches!(small.op, Op::Header | Op::Read));
+    assert!(wrong(&small.blob).is_some());
+}
+
+#[test]
+fn a_checksum_tested_by_value() {
+    let small = sum_is_found(tested_by_value);
+    assert!(!matches!(small.op, Op::Header | Op::Read));
+}
+
+/// Odd sizes alone tell.
+#[test]
+fn a_checksum_by_the_words() {
+    fn other(case: &Case) -> After {
+        judged(case, |blob| stored(blob) == words_of(blob))
+    }
+    let small = sum_is_found(other);
+    assert_ne!(truth(&small.blob), words_of(&small.blob));
+    assert_eq!(small.blob[34] % 2, 1);
+}
+
+/// An odd last byte under zero, and not over it.
+#[test]
+fn an_odd_last_byte_low() {
+    fn other(case: &Case) -> After {
+        judged(case, |blob| {
+            let mut summed = size_of(blob)[14..].to_vec();
+            if summed.len() % 2 == 1 {
+                summed.insert(summed.len() - 1, 0);
+            }
+            stored(blob) == Some(second::checksum(&summed))
+        })
+    }
+    let small = sum_is_found(other);
+    assert_eq!(small.blob[34] % 2, 1);
+}
+
+/// Up to the declared size.
+fn size_of(blob: &[u8]) -> &[u8] {
+    let size = u32::from_le_bytes(blob[34..38].try_into().unwrap());
+    &blob[..size as usize]
+}
+
+/// Words whose first byte is the lower one: the sums turned round.
+#[test]
+fn words_turned_round() {
+    fn other(case: &Case) -> After {
+        judged(case, |blob| {
+            let turned = |word: &[u8]| word.iter().rev().copied().collect::<Vec<u8>>();
+            let summed: Vec<Vec<u8>> = size_of(blob)[14..].chunks(2).map(turned).collect();
+            stored(blob) == Some(by_words(&summed.concat()))
+        })
+    }
+    sum_is_found(other);
+}
+
+#[test]
+fn bytes_behind_the_size_summed() {
+    fn other(case: &Case) -> After {
+        judged(case, |blob| {
+            stored(blob) == Some(second::checksum(&blob[14..]))
+        })
+    }
+    let small = sum_is_found(other);
+    assert!(size_of(&small.blob).len() < small.blob.len());
+}
+
+#[test]
+fn the_last_byte_not_summed() {
+    fn other(case: &Case) -> After {
+        judged(case, |blob| {
+            let bytes = size_of(blob);
+            stored(blob) == Some(second::checksum(&bytes[14..bytes.len() - 1]))
+        })
+    }
+    sum_is_found(other);
+}
+
+#[test]
+fn one_half_of_the_checksum() {
+    fn lower(case: &Case) -> After {
+        let half = |sum: u32| sum & 0xFFFF;
+        judged(case, |blob| stored(blob).map(half) == truth(blob).map(half))
+    }
+    fn upper(case: &Case) -> After {
+        let half = |sum: u32| sum >> 16;
+        judged(case, |blob| stored(blob).map(half) == truth(blob).map(half))
+    }
+    sum_is_found(lower);
+    sum_is_found(upper);
+}
+
+#[test]
+fn a_checksum_of_0_for_none() {
+    fn other(case: &Case) -> After {
+        judged(case, |blob| {
+            stored(blob) == Some(0) || wrong(blob).is_none()
+        })
+    }
+    let small = sum_is_found(other);
+    assert_eq!(stored(&small.blob), Some(0));
+}
+
+/// Room before the checksum.
+#[test]
+fn a_checksum_tested_too_late() {
+    fn other(case: &Case) -> After {
+        let after = plain(case);
+        let later = untested(case);
+        match (after.answer, later.answer) {
+            (13, 5) => later,
+            _ => after,
+        }
+    }
+    let small = sum_is_found(other);
+    assert_eq!(small.op, Op::Read);
+}
+
+/// The checksum before the fields, wherever the size is there.
+#[test]
+fn a_checksum_tested_too_early() {
+    fn other(case: &Case) -> After {
+        let mut after = plain(case);
+        let own = matches!(case.op, Op::Header | Op::Read);
+        if own && matches!(after.answer, 3 | 4) && wrong(&case.blob).is_some() {
+            after.answer = 13;
+        }
+        after
+    }
+    sum_is_found(other);
+}
+
+/// A mask that is written before the checksum is refused.
+#[test]
+fn a_spare_written_before_13() {
+    fn other(case: &Case) -> After {
+        let mut after = plain(case);
+        if case.op == Op::Read && after.answer == 13 {
+            let mut right = case.clone();
+            right.blob = mended(&case.blob);
+            after.lent.spare = plain(&right).lent.spare;
+        }
+        after
+    }
+    let failure = run(other).failures.remove(0);
+    assert!(failure.difference.starts_with("spare["));
+}
+
+/// The field's own place, and not 0.
+#[test]
+fn a_place_of_13() {
+    fn other(case: &Case) -> After {
+        let after = plain(case);
+        let is_sum = after.answer == 13;
+        moved(after, |place| if is_sum { 10 } else { place })
+    }
+    let small = place_is_found(other);
+    assert!(matches!(small.op, Op::Header | Op::Read));
 }
 
 /// A call that was saved without a line for the place has room for it.

@@ -1,8 +1,9 @@
 //! The header and the rules it is held to.
 
 use crate::bytes::{little, part};
+use crate::checksum;
 use crate::numbers::{is_finite, less};
-use crate::refusal::{Refusal, CEILING, PASSES_SIZE, WRONG_FIELD, WRONG_KEY};
+use crate::refusal::{Refusal, CEILING, PASSES_SIZE, WRONG_CHECKSUM, WRONG_FIELD, WRONG_KEY};
 
 /// Bytes before the mask section.
 pub(crate) const HEADER_BYTES: usize = 70;
@@ -70,7 +71,6 @@ pub fn read_header(blob: &[u8]) -> Result<Header, Refusal> {
     }
     let narrow = |at: usize| little(&bytes[at..at + 4]) as u32;
     let wide = |at: usize| little(&bytes[at..at + 8]);
-    // The checksum at 10 is not looked at.
     let header = Header {
         rows: narrow(14),
         columns: narrow(18),
@@ -84,7 +84,10 @@ pub fn read_header(blob: &[u8]) -> Result<Header, Refusal> {
         max: wide(58),
         mask: narrow(66),
     };
-    held(blob, &header)?;
+    // After all that a header by value is held to, and only here.
+    if !checksum::is_true(held(blob, &header)?) {
+        return Err(Refusal::of(WRONG_CHECKSUM));
+    }
     Ok(header)
 }
 

@@ -11,6 +11,7 @@
 mod block;
 mod body;
 mod bytes;
+mod checksum;
 pub mod exact;
 mod header;
 mod mask;
@@ -22,6 +23,7 @@ mod text;
 mod tile;
 
 pub use body::{fill, read, walk};
+pub use checksum::checksum;
 pub use header::{read_header, Header};
 pub use mask::{is_valid, prepare_mask, Mask};
 pub use numbers::{is_finite, less, narrow, number, same, scaled, stored, sum, word_size};

@@ -1,6 +1,7 @@
 /* What every function that can refuse does with its last slice, the place: each is called on the rules' own blob, which comes
- * from standard input (crates/lerc2/stdin), with no room for a place, with a record that is too short, rightly, and on a blob
- * whose block is wrong.
+ * from standard input (crates/lerc2/stdin), with no room for a place, with a record that is too short, rightly, on a blob
+ * whose block is wrong, and on blobs whose checksum is false: those that read the header say 13 at 0 and leave every slice as
+ * it was, those that have a header by value do not look.
  * Exit status: 0 as expected, 1 not so, 2 there is another blob on standard input. */
 #include "../../include/lerc2.h"
 
@@ -11,7 +12,10 @@
 /* the blob's size, and where its one block begins */
 enum { SIZE = 79, FLAG = 74, MARK = 7 };
 
-static uint8_t right[SIZE + 1], wrong[SIZE];
+/* where the checksum stands, four bytes, the lowest first, and the first byte that is summed */
+enum { FIELD = 10, FIRST = 14 };
+
+static uint8_t right[SIZE + 1], wrong[SIZE], unsealed[SIZE];
 
 /* all that is lent, with marks */
 struct lent {
@@ -27,6 +31,31 @@ struct how {
 };
 
 typedef uint32_t call(struct lent *l, struct how h);
+
+static uint32_t folded(uint32_t sum) { return (sum & 0xFFFF) + (sum >> 16); }
+
+/* The checksum as Esri's code has it: words of two bytes, the first one high, and their running sums. There are fewer than 359
+ * words, which is where its sums are folded before the end, and one byte more. */
+static uint32_t checksum(const uint8_t *blob) {
+    uint32_t low = 0xFFFF, high = 0xFFFF;
+    for (size_t k = FIRST; k + 1 < SIZE; k += 2) {
+        low += (uint32_t)blob[k] << 8 | blob[k + 1];
+        high += low;
+    }
+    low = folded(low) + ((uint32_t)blob[SIZE - 1] << 8);
+    high = folded(high) + low;
+    return folded(high) << 16 | folded(low);
+}
+
+static uint32_t field_of(const uint8_t *blob) {
+    return blob[FIELD] | (uint32_t)blob[FIELD + 1] << 8 | (uint32_t)blob[FIELD + 2] << 16 | (uint32_t)blob[FIELD + 3] << 24;
+}
+
+static void set_field(uint8_t *blob, uint32_t field) {
+    for (int k = 0; k < 4; k++) {
+        blob[FIELD + k] = (uint8_t)(field >> 8 * k);
+    }
+}
 
 static uint32_t read_header(struct lent *l, struct how h) {
     return lerc2_read_header(h.blob, SIZE, l->said, h.said, l->place, h.place);
@@ -65,7 +94,7 @@ static uint32_t fill_far(struct lent *l, struct how h) { return fill_at(l, h, SI
 
 /* a number that fits its kind, or one that does not, by the blob */
 static uint32_t stored(struct lent *l, struct how h) {
-    return lerc2_stored(h.blob == right ? 0x4024000000000000 : 0x4072C00000000000, 1, l->said, h.said, l->place, h.place);
+    return lerc2_stored(h.blob == wrong ? 0x4072C00000000000 : 0x4024000000000000, 1, l->said, h.said, l->place, h.place);
 }
 
 /* the numbers that a function says, and what it gives on the wrong blob */
@@ -103,6 +132,38 @@ static bool one(const struct entry *e, const char *what, struct how h, uint32_t 
     return same;
 }
 
+/* every bit of the field the other way round, one by one, and a field of 0: whatever is lent stays */
+static bool false_checksums(const struct entry *e) {
+    bool reads = e->function == read_header || e->function == read_all, far = e->function == fill_far, same = true;
+    uint32_t number = reads ? 13 : far ? 1 : 0;
+    uint64_t place = far ? e->place : 0;
+    struct how usual = {unsealed, e->said, 3};
+    for (int bit = 0; bit <= 32; bit++) {
+        set_field(unsealed, bit < 32 ? field_of(right) ^ (uint32_t)1 << bit : 0);
+        same &= one(e, "a false checksum", usual, number, place, reads || far);
+    }
+    same &= one(e, "a false checksum, no place", (struct how){unsealed, e->said, 0}, 5, 0, true);
+    same &= one(e, "a false checksum, a short record", (struct how){unsealed, e->said - 1, 3}, 5, 0, true);
+    return same;
+}
+
+/* a false checksum comes before room, and room before all else */
+static bool before_room(void) {
+    struct lent after = marked(), expected = after;
+    const uint8_t *blobs[2] = {unsealed, wrong};
+    uint32_t said[2];
+    for (int n = 0; n < 2; n++) {
+        said[n] = lerc2_read(blobs[n], SIZE, false, after.kept, 0, after.spare, 0, after.list, 0, after.image, 0, after.said,
+                             LERC2_READ, after.place, 3);
+    }
+    expected.place[0] = 0;
+    bool same = said[0] == 13 && said[1] == 5 && memcmp(&after, &expected, sizeof after) == 0;
+    if (!same) {
+        printf("read, no room: %" PRIu32 ", and %" PRIu32 " with a true checksum\n", said[0], said[1]);
+    }
+    return same;
+}
+
 /* a fill far out is refused on any blob */
 static bool all(const struct entry *e) {
     bool far = e->function == fill_far, same = true;
@@ -117,16 +178,19 @@ static bool all(const struct entry *e) {
 }
 
 int main(void) {
-    if (fread(right, 1, SIZE + 1, stdin) != SIZE || right[FLAG] != 1) {
+    if (fread(right, 1, SIZE + 1, stdin) != SIZE || right[FLAG] != 1 || field_of(right) != checksum(right)) {
         fprintf(stderr, "places: standard input is not the rules' own blob, crates/lerc2/stdin\n");
         return 2;
     }
     memcpy(wrong, right, SIZE);
     wrong[FLAG] ^= 4; /* other check bits */
+    set_field(wrong, checksum(wrong));
+    memcpy(unsealed, right, SIZE);
     bool same = true;
     for (size_t n = 0; n < sizeof entries / sizeof *entries; n++) {
-        same &= all(&entries[n]);
+        same &= all(&entries[n]) & false_checksums(&entries[n]);
     }
+    same &= before_room();
     printf(same ? "as expected\n" : "not as expected\n");
     return same ? 0 : 1;
 }

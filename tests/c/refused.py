@@ -5,7 +5,9 @@ import sys
 
 sys.path.insert(0, os.path.join(os.path.dirname(os.path.abspath(__file__)), '../read'))
 from offsets import MASK_BYTES, flag_at, mode_at, ranges_at, raw_word_at, sweep_at, wrong_range_at  # noqa: E402
-from blobs import changed, made  # noqa: E402
+from blobs import changed, made, tampered  # noqa: E402
+from checksum import stored, with_field  # noqa: E402
+from hand import odd_rows  # noqa: E402
 
 # two of three pixels are valid
 MASK = bytes.fromhex('0100A00080')
@@ -28,6 +30,20 @@ def headers():
                                ('another key', changed(whole, 0, b'M'), 2), ('kind 8', changed(whole, 38, b'\x08'), 3),
                                ('side 17', changed(whole, 30, b'\x11'), 4)):
         yield both(name, blob, 'header', number, 0)
+
+
+def checksums():
+    """13 at 0 by header reading and whole read, behind what the header is refused for otherwise"""
+    whole = made(WHOLE, error=0.5)
+    for name, field in [('checksum 0', 0), ('bytes turned', int.from_bytes(whole[10:14], 'big'))] + [
+            ('bit %d' % bit, stored(whole) ^ 1 << bit) for bit in range(0, 32, 5)]:
+        yield both(name, with_field(whole, field), 'header', 13, 0)
+    for name, at in (('the minimum', 56), ('the last byte', 78)):
+        yield both(name + ' changed', tampered(whole, at, bytes([whole[at] ^ 1])), 'header', 13, 0)
+    for row, blob in odd_rows():
+        yield both('an odd size, ' + row.why, with_field(blob, row.false), 'header', 13, 0)
+    for name, at, piece, number in (('kind 8', 38, b'\x08', 3), ('side 17', 30, b'\x11', 4), ('size 80', 34, b'\x50', 1)):
+        yield both(name + ', checksum 0', tampered(with_field(whole, 0), at, piece), 'header', number, 0)
 
 
 def masks():
@@ -74,6 +90,9 @@ def other_bodies():
     yield 'empty behind ranges', made(b'\x0A\x0C', valid=0), None, nothing
     yield 'constant', made(b'', low=5.0, high=5.0), None, nothing
     yield 'constant of 300', made(b'', low=300.0, high=300.0), line(9, 0), nothing
+    # checksums of odd sizes, by Esri's code
+    for row, blob in odd_rows():
+        yield 'an odd size, ' + row.why, blob, None, None if 'block' in row.why else 'walk ' + line(10, sweep_at(blob))
     words = struct.pack('<5H', 10, 12, 10, 11, 12)
     for length in range(7):
         blob = made(words[:4] + b'\1' + words[4:4 + length], kind=2)
@@ -82,7 +101,7 @@ def other_bodies():
 
 def cases():
     """name, blob, the line of `read` or None where it accepts, the last line of `blocks`"""
-    return [*headers(), *masks(), *ranges(), *front_bytes(), *blocks(), *other_bodies()]
+    return [*headers(), *checksums(), *masks(), *ranges(), *front_bytes(), *blocks(), *other_bodies()]
 
 
 def planted():

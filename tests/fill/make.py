@@ -24,6 +24,9 @@ import os
 import struct
 import sys
 
+sys.path.insert(0, os.path.join(os.path.dirname(os.path.abspath(__file__)), '../../tools'))
+from checksum import sealed  # noqa: E402
+
 DATA = 'crates/lerc_fill_cases/data'
 STDOUT = 'crates/lerc_fill_cases/stdout'
 CELLS, BYTES = 4096, 16384
@@ -116,6 +119,8 @@ def expected():
     said = [(2 * i + 1, 'same') for i in range(same)] + [(2 * AGAIN + 1, text) for _, _, text in planted()]
     lines, blocks, words = [], 0, 0
     for i, (right, text) in enumerate(said):
+        blob = open(file(2 * i), 'rb').read()
+        assert blob == sealed(blob), 'blob %03d: its checksum is false' % i
         e = header(file(right))
         written = e['valid'] * e['depth']
         lines.append('%d blocks %d end %d words %d %s\n' % (i, e['blocks'], e['end'], written, text))

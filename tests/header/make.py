@@ -4,11 +4,18 @@
     python3 tests/header/make.py            in the repository's root: writes crates/lerc_header_cases/{stdin,stdout}
 
 Written from the rules alone, over whole numbers: a binary64 is its bits, and two finite ones are compared by sign and
-magnitude. A record is its size (4 bytes), another length (4 bytes) and a blob. Its line says what the header reader answers,
-then what follows from the fields by value beside a slice of the other length, then the ranges read with these fields.
+magnitude; of the checksum Esri's published code decides (tools/checksum.py). A record is its size (4 bytes), another length
+(4 bytes) and a blob. Its line says what the header reader answers, then what follows from the fields by value beside a slice of
+the other length, then the ranges read with these fields.
 """
+import os
 import struct
 import sys
+
+ROOT = os.path.join(os.path.dirname(os.path.abspath(__file__)), '../..')
+sys.path[:0] = [os.path.join(ROOT, 'tools'), os.path.join(ROOT, 'tests/checksum')]
+from checksum import by_the_words, checksum, sealed, stored, summed_part, with_field  # noqa: E402
+from rows import IN_BLOCK, ROWS  # noqa: E402
 
 if sys.argv[1:]:
     print('make.py: no word is known; usage: python3 tests/header/make.py', file=sys.stderr)
@@ -104,6 +111,8 @@ def read_header(blob):
     require(blob[:6] == b'Lerc2 ' and blob[6:10] == struct.pack('<I', 4), 2)
     h = fields(blob)
     held(h, len(blob))
+    # "refusal 13, after the header's own refusals"; a header by value (held, read_ranges) is not tested
+    require(stored(blob) == checksum(summed_part(blob)), 13)
     return [(name, h[name]) for name in NAMES]
 
 
@@ -138,7 +147,8 @@ RECORDS, LINES = [], []
 
 
 def blob_of(h, rest=b'', key=b'Lerc2 ', version=4):
-    return key + struct.pack('<2I', version, 0xC0FFEE) + struct.pack('<7I3QI', *(h[n] for n in NAMES)) + rest
+    """with a true checksum, where there are as many bytes as the size says"""
+    return sealed(key + struct.pack('<2I', version, 0xC0FFEE) + struct.pack('<7I3QI', *(h[n] for n in NAMES)) + rest)
 
 
 def record(blob, other=None):
@@ -316,6 +326,69 @@ ranges(6, list(range(64)), list(range(64)), cut=1)
 ranges(1, list(range(64)), list(range(64)), depth=65)
 ranges(1, [1, 2], [3, 4], key=b'Lerc3 ')
 ranges(1, [1, 2], [3, 4], min=ONE, max=0)
+
+
+# --- the checksum: "bytes 14 up to the declared size, as 16-bit words, first byte high, an odd last byte high over zero"
+
+def spoilt(blob, at, by):
+    """a byte changed and the checksum as it was"""
+    return blob[:at] + bytes([blob[at] ^ by]) + blob[at + 1:]
+
+
+# blobs that are read, and with a bit of the field the other way round: the even ones of one, the odd ones of the other;
+# "a stored 0 is never right"
+EVEN, ODD = blob_of(header(size=80), bytes(range(9, 19))), blob_of(header(size=79), bytes(range(9, 18)))
+for blob in [EVEN, ODD]:
+    true, size, part = stored(blob), fields(blob)['size'], summed_part(blob)
+    record(blob)
+    for bit in range(size % 2, 32, 2):
+        record(with_field(blob, true ^ 1 << bit))
+    for field in [0, TOP, true + 1, true - 1, true % 65536, true >> 16 << 16, true % 65536 << 16 | true >> 16, int.from_bytes(blob[10:14], 'big')]:
+        record(with_field(blob, field))
+    # of other bytes: from 10, 0, 12, 15 and 16 on, one fewer, without an odd last one; with a byte more; first byte low; sums that begin with 0
+    for other in [blob[10:size], blob[:size], blob[12:size], blob[15:size], blob[16:size], part[:-1], part[:len(part) // 2 * 2 - 2], part + b'\1',
+                  b''.join(part[k:k + 2][::-1] for k in range(0, len(part), 2)), part[::-1]]:
+        record(with_field(blob, checksum(other)))
+    # bytes that are summed, and those that are not: key and version are judged before, what is behind the size is never looked at
+    for at in [*range(14 + size % 2, size, 5), size - 2, size - 1]:
+        record(spoilt(blob, at, 1 << at % 8))
+    for at in [0, 5, 6, 9]:
+        record(spoilt(blob, at, 128))
+    for rest in [b'\0', b'\1', b'\xFF' * 2, b'\x80' * 3]:
+        record(blob + rest)
+    record(with_field(blob + b'\1\2', checksum(part + b'\1\2')))
+    # "modulo 65,535": a word of 65,535 counts as one of 0
+    zeros, ones = (blob[:72] + word + blob[74:] for word in (b'\0\0', b'\xFF\xFF'))
+    assert checksum(zeros[14:]) == checksum(ones[14:])
+    record(with_field(zeros, checksum(ones[14:])))
+    record(with_field(ones, checksum(zeros[14:])))
+    record(with_field(spoilt(ones, 73, 255), checksum(ones[14:])))
+
+# "Esri's published code decides": odd sizes, and of nearly all of them the sentences alone have another checksum
+for row in ROWS:
+    cells = bytes(row.cells)
+    row_header = header(rows=1, columns=len(cells), valid=len(cells), size=73 + len(cells), error=HALF, min=0, max=whole(255))
+    blob = blob_of(row_header, b'\0\xFF\1' + cells)
+    assert stored(blob) == row.field and by_the_words(summed_part(blob)) in (row.false, row.field)
+    for field in [row.field, row.false, row.false % 65536 | row.field >> 16 << 16, row.field % 65536 | row.false >> 16 << 16]:
+        record(with_field(blob, field))
+blob = blob_of(header(rows=1, columns=4, valid=4, size=79, error=HALF, min=whole(5), max=whole(144)), bytes([5, 144, 0, 0, 0, *IN_BLOCK.cells]))
+assert (stored(blob), by_the_words(summed_part(blob))) == (IN_BLOCK.field, IN_BLOCK.false)
+record(blob)
+record(with_field(blob, IN_BLOCK.false))
+
+# sums about the ends of Esri's groups of 359 words, all bytes high: 718 and 1,436 bytes are one and two whole groups
+for count in [57, 716, 717, 718, 719, 720, 721, 1435, 1436, 1437, 1438]:
+    blob = blob_of(header(size=14 + count), b'\xFF' * (count - 56))
+    record(blob)
+    record(spoilt(blob, 13 + count, 1))
+
+# "refusal 13, after the header's own refusals": 1, 2, 3, 4 and 1 come first, whatever the field
+for given in [dict(key=b'Lerc3 '), dict(version=5), *THREE, *FOUR, dict(size=71), dict(size=69), dict(size=13), dict(size=0)]:
+    changes = {name: v for name, v in given.items() if name not in ('key', 'version')}
+    blob = blob_of(header(**changes), key=given.get('key', b'Lerc2 '), version=given.get('version', 4))
+    record(with_field(blob, 0))
+record(with_field(blob_of(header()), 0)[:69])
 
 with open('crates/lerc_header_cases/stdin', 'wb') as f:
     f.write(b''.join(RECORDS))

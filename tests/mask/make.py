@@ -4,7 +4,8 @@
     python3 tests/mask/make.py FOLDER     writes crates/lerc_mask_cases/data and tests/mask/esri, then as below
     python3 tests/mask/make.py            writes crates/lerc_mask_cases/stdout from the files in data and tests/mask/esri
 
-A head is a blob's header and mask section, nothing behind them. FOLDER has folders of blobs NAME.lerc2 and beside each
+A head is a blob's header and mask section, nothing behind them. The program reads it in front of zeros, which make up its size, and its
+checksum is true of that. FOLDER has folders of blobs NAME.lerc2 and beside each
 NAME.expect (its form is in tests/fill/make.py), what Esri's decoder (liblerc 4.0.0) gave for it; of these the masks go to
 tests/mask/esri, a line each: the case's number and its mask in hexadecimal, spare bits 0. The heads by hand are made of
 `probes`, and what is to be said of them stands beside them here, with the words of the rules.
@@ -17,10 +18,15 @@ import os
 import struct
 import sys
 
+sys.path.insert(0, os.path.join(os.path.dirname(os.path.abspath(__file__)), '../../tools'))
+from checksum import declared_size, sealed  # noqa: E402
+
 DATA = 'crates/lerc_mask_cases/data'
 STDOUT = 'crates/lerc_mask_cases/stdout'
 ESRI = 'tests/mask/esri'
 HEAD, END, KEPT = 70, -32768, 512
+# what the program has room for
+BYTES = 16384
 
 # probes that are refused, taken as they are; the kept mask in front of them is all 0. What is wrong, and the words of the rules
 PROBES = [
@@ -134,6 +140,7 @@ def expected():
     lines, kept = [], bytes(KEPT)
     for i in range(len(HAND) + len(masks)):
         head = open('%s/%03d' % (DATA, i), 'rb').read()
+        assert head == in_front_of_zeros(head), 'head %03d: its checksum is false' % i
         pixels = number(head, 14) * number(head, 18)
         places = pixels_of(masks[i], pixels) if i in masks else HAND[i]
         try:
@@ -151,11 +158,17 @@ def expected():
     return ''.join(lines)
 
 
+def in_front_of_zeros(head):
+    """the head with the checksum of itself and zeros up to its size"""
+    assert len(head) <= declared_size(head) <= BYTES
+    return sealed(head.ljust(BYTES, b'\0'))[:len(head)]
+
+
 def head_of(blob, valid=None, section=None):
     """header and mask section, with another section if one is given"""
     if section is None:
-        return blob[:HEAD + number(blob, 66)]
-    return blob[:26] + struct.pack('<I', valid) + blob[30:66] + struct.pack('<I', len(section)) + section
+        return in_front_of_zeros(blob[:HEAD + number(blob, 66)])
+    return in_front_of_zeros(blob[:26] + struct.pack('<I', valid) + blob[30:66] + struct.pack('<I', len(section)) + section)
 
 
 def all_heads(folder):

@@ -7,8 +7,9 @@ import sys
 ROOT = os.path.join(os.path.dirname(os.path.abspath(__file__)), '../..')
 sys.path.insert(0, os.path.join(ROOT, 'tests/read'))
 import blobs  # noqa: E402
-from blobs import CODES, OFFSETS, SIZES, changed, made  # noqa: E402
-from hand import BLOCK, P7, THREE, WHOLE, hexed, u32  # noqa: E402
+from blobs import CODES, OFFSETS, SIZES, changed, made, tampered  # noqa: E402
+from checksum import checksum, stored, with_field  # noqa: E402
+from hand import BLOCK, P7, THREE, WHOLE, hexed, odd_rows, u32  # noqa: E402
 from offsets import COUNT as SIX, ELSE, FIRST as FIT, FLAG as IN_BLOCK, FRONT, NUMBER as WRONG, WORD  # noqa: E402
 from offsets import MASK_BYTES, flag_at, mode_at, ranges_at, raw_word_at, sweep_at, wrong_range_at  # noqa: E402
 
@@ -20,6 +21,8 @@ NAN, INF = float('nan'), float('inf')
 VALUE = '0 for ranges by value'
 # of a call that no rule refuses
 RIGHT = 'no rule is broken'
+# of a call that has a header by value, and a blob whose checksum is false
+UNTESTED = 'entries given a header by value do not test it again'
 
 
 # --- a case -----------------------------------------------------------------------------------------------------------------------
@@ -147,6 +150,48 @@ def fields():
                                           ('4,194,305 cells', small, 14, u32(1985) + u32(2113), 4), ('side 17', small, 30, u32(17), 4),
                                           ('depth 65', deep, 22, u32(65), 4), ('size 16,777,217', small, 34, u32((1 << 24) + 1), 4)):
         yield from cases(range(6), name, changed(blob, at, piece), number, 0, ELSE, blob)
+
+
+def false_fields():
+    """13 at 0 of what reads the header itself, whatever else is wrong behind the header; a header by value has no checksum"""
+    for i, (name, block, _, named) in enumerate(SHAPES):
+        blob = whole(block + 1, **named)
+        first = dict(block=block, start=flag_at(blob, block))
+        what, value = (('a checksum of 0', 0), ('a checksum with its bytes turned', int.from_bytes(blob[10:14], 'big')),
+                       ('a checksum from 10 on', checksum(blob[10:])))[i % 3]
+        assert value != stored(blob)
+        false = with_field(blob, value)
+        yield from cases((HEADER, READ), '%s, %s' % (what, name), false, 13, 0, ELSE)
+        yield from cases((MASK, RANGES, WALK, FILL), '%s, %s' % (what, name), false, 0, 0, UNTESTED, **first)
+        spoilt = tampered(blob, flag_at(blob, block), b'\xFF')
+        yield from cases((HEADER, READ), 'another flag byte, the checksum as it was, ' + name, spoilt, 13, 0, ELSE)
+        yield from cases((WALK, FILL), 'another flag byte, the checksum as it was, ' + name, spoilt, 8, first['start'], IN_BLOCK, **first)
+
+
+def false_orders():
+    """13 behind 1, 2, 3, 4 and before room"""
+    blob = with_field(made(BLOCK), 0)
+    for what, at, piece, number in (('another key', 0, b'M', 2), ('kind 8', 38, u32(8), 3), ('side 17', 30, u32(17), 4), ('size 80', 34, u32(80), 1)):
+        yield from cases((HEADER, READ), what + ' and a checksum of 0', tampered(blob, at, piece), number, 0, ELSE, blob)
+    yield from cases((HEADER, READ), '69 bytes and a checksum of 0', blob, 1, 0, ELSE, lent=69)
+    yield case(READ, 'no room at all, and a checksum of 0', blob, 13, 0, ELSE, mask=b'', spare=0, list=0, image=0)
+    reused = with_field(whole(1, columns=10, valid=3, side=16), 0)
+    yield case(READ, 'a mask to reuse, and a checksum of 0', reused, 13, 0, ELSE, mask=THREE, reuse=True)
+    yield case(MASK, 'a mask to reuse, and a checksum of 0', reused, 0, 0, UNTESTED, mask=THREE, reuse=True)
+    crossed = with_field(made(hexed('0C0A')), 0)
+    yield case(READ, 'crossed ranges and a checksum of 0', crossed, 13, 0, ELSE)
+    yield case(RANGES, 'crossed ranges and a checksum of 0', crossed, 7, wrong_range_at(crossed), WRONG)
+
+
+def odd_sizes():
+    """checksums by Esri's code, and false ones that are nearly they: the code decides. Of rows that have room in the program."""
+    for row, blob in ((row, blob) for row, blob in odd_rows() if len(row.cells) <= 512):
+        yield from right((HEADER, READ), 'an odd size, %s, the checksum by Esri\'s code' % row.why, blob)
+        yield from cases((HEADER, READ), 'an odd size, %s, a checksum that is nearly it' % row.why, with_field(blob, row.false), 13, 0, ELSE)
+    for size in (731, 732, 733, 734):
+        blob = made(WHOLE + bytes(k % 251 for k in range(size - 79)), error=0.5)
+        yield from right((HEADER, READ), 'a checksum over %d bytes' % (size - 14), blob + b'\xFF')
+        yield from cases((HEADER, READ), 'the last of %d bytes changed' % size, tampered(blob, size - 1, bytes([blob[-1] ^ 128])), 13, 0, ELSE)
 
 
 LENT = {MASK: ('mask', 'spare'), WALK: ('mask', 'list'), FILL: ('mask', 'list', 'image'), READ: ('mask', 'spare', 'list', 'image')}
@@ -349,9 +394,9 @@ def given_bodies():
     yield case(WALK, 'the body given at the last byte, no flag byte behind it', made(hexed('0A0C0000')), 1, 74, IN_BLOCK, at=73)
     # the last two bytes of the checksum field
     for byte, number in ((1, 10), (2, 10), (3, 8)):
-        yield case(WALK, 'the body given in the checksum, mode byte %d' % byte, changed(moded, 12, bytes([0, byte])), number, 13, FRONT, at=12)
-    yield case(WALK, 'the body given in the checksum, check bits', changed(blob, 12, b'\0\7'), 8, 13, IN_BLOCK, at=12)
-    yield from right((WALK,), 'the body given in the checksum, a block of zeros', changed(blob, 12, b'\0\2'), at=12)
+        yield case(WALK, 'the body given in the checksum, mode byte %d' % byte, tampered(moded, 12, bytes([0, byte])), number, 13, FRONT, at=12)
+    yield case(WALK, 'the body given in the checksum, check bits', tampered(blob, 12, b'\0\7'), 8, 13, IN_BLOCK, at=12)
+    yield from right((WALK,), 'the body given in the checksum, a block of zeros', tampered(blob, 12, b'\0\2'), at=12)
     yield from right((WALK,), 'the body given where it is', blob, at=72)
 
 
@@ -493,5 +538,5 @@ def least():
 
 
 GROUPS = (slices, keys, fields, rooms, past_counts, constants, masks, reused, unfit, wrong_ranges, wrong_pairs, sweeps, modes, raws, given_bodies,
-          blocks, values, starts, behind_sizes, seventeen, far_places, least)
+          blocks, values, starts, behind_sizes, seventeen, far_places, least, false_fields, false_orders, odd_sizes)
 CASES = [c for group in GROUPS for c in group()]

@@ -17,8 +17,9 @@ import sys
 ROOT = os.path.join(os.path.dirname(os.path.abspath(__file__)), '../..')
 sys.path.insert(0, os.path.join(ROOT, 'tests/read'))
 import blobs  # noqa: E402
-from blobs import CODES, changed, made  # noqa: E402
-from hand import BLOCK, P7, WHOLE, hexed, pairs, u32  # noqa: E402
+from blobs import CODES, changed, made, tampered  # noqa: E402
+from checksum import checksum, stored, with_field  # noqa: E402
+from hand import BEHIND, BLOCK, CODE, FALSE, P7, SUMMED, WHOLE, ZERO as NEVER, hexed, odd_rows, pairs, u32  # noqa: E402
 from offsets import FIRST, FLAG, FRONT, NUMBER, WORD  # noqa: E402
 from offsets import MASK_BYTES, flag_at, mode_at, ranges_at, raw_word_at, sweep_at, wrong_range_at  # noqa: E402
 
@@ -34,7 +35,6 @@ end 79
 """
 LONG = 'over 16,384 bytes: 4'
 MANY = 'over 4,096 cells: 5'
-BEHIND = 'bytes after size, or between the body\'s end and size, are never looked at'
 OTHER = 'other bodies "blocks 0"'
 DASH = 'invalid cells show "-"'
 WORDS = 'words are unsigned decimals'
@@ -280,11 +280,59 @@ def places():
     yield 'ranges cut behind a mask', FIRST, cut, refused(1, ranges_at(cut))
 
 
+def false_fields():
+    """13 at 0"""
+    whole = made(WHOLE, error=0.5)
+    turned = int.from_bytes(whole[10:14], 'big')
+    yield 'the rules\' own blob, checksum 0', NEVER, with_field(whole, 0), refused(13)
+    for k in range(4):
+        value = stored(whole) ^ 128 << 8 * k
+        yield 'byte %d of the checksum changed' % (10 + k), FALSE, with_field(whole, value), refused(13)
+    yield 'the checksum with its bytes turned', FALSE, with_field(whole, turned), refused(13)
+    yield 'the checksum from 10 on', SUMMED, with_field(whole, checksum(whole[10:])), refused(13)
+    yield 'a cell\'s byte changed', SUMMED, tampered(whole, 78, b'\x25'), refused(13)
+    behind = made(WHOLE + b'\1\2\3', error=0.5) + b'\4\5'
+    yield 'bytes behind the body', BEHIND, behind, RULES
+    yield 'bytes behind the body, one of them changed', BEHIND, tampered(behind, 80, b'\3'), refused(13)
+    yield 'bytes behind the body, one behind the size changed', BEHIND, tampered(behind, 82, b'\3'), RULES
+    blob, _ = full()
+    yield '16,384 bytes, checksum 0', NEVER, with_field(blob, 0), refused(13)
+    yield '16,384 bytes, the last one changed', SUMMED, tampered(blob, BYTES - 1, bytes([blob[-1] ^ 1])), refused(13)
+    long = whole.ljust(BYTES, b'\xFF')
+    yield '16,384 bytes, 79 the blob\'s, the checksum of all', BEHIND, with_field(long, checksum(long[14:])), refused(13)
+
+
+def false_orders():
+    """13 after the header's refusals and the most bytes, before the most cells and all that is behind the header"""
+    whole, many = made(WHOLE, error=0.5), constant(5.0, 1, rows=17, columns=241)[0]
+    for name, at, piece, number in (('another key', 0, b'M', 2), ('kind 8', 38, u32(8), 3), ('side 17', 30, u32(17), 4), ('size 80', 34, u32(80), 1)):
+        yield name + ', checksum 0', FALSE, tampered(with_field(whole, 0), at, piece), refused(number)
+    yield '16,385 bytes, 79 the blob\'s, checksum 0', LONG, with_field(whole, 0).ljust(BYTES + 1, b'\0'), refused(4)
+    yield '4,097 cells, checksum 0', FALSE, with_field(many, 0), refused(13)
+    wrong_mask = made(BLOCK, columns=10, valid=3, side=16, mask=hexed('0000 0080'))
+    for name, blob in (('a mask run of 0', wrong_mask), ('crossed ranges', made(hexed('0C0A 00030B'))), ('empty', made(b'', valid=0)),
+                       ('a constant of 300', made(b'', low=300.0, high=300.0)), ('mode byte 1', made(hexed('0A0C0001'), error=0.5))):
+        yield name + ', checksum 0', FALSE, with_field(blob, 0), refused(13)
+
+
+def odd_sizes():
+    """checksums by Esri's code, and false ones that are nearly they"""
+    for row, blob in odd_rows():
+        blocks = blobs.body(blob, blobs.header(blob), blobs.mask_of(blob, blobs.header(blob))[0])[1]
+        yield 'an odd size, ' + row.why, CODE, blob, text(blob, row.cells, len(blocks), len(blob))
+        yield 'the same with a checksum that is nearly it', CODE, with_field(blob, row.false), refused(13)
+
+
+def all_inputs():
+    return [*lengths(), *bodies(), *kinds(), *sizes(), *refusals(), *places(), *false_fields(), *false_orders(), *odd_sizes()]
+
+
 def write():
+    inputs = all_inputs()
     for old in glob.glob(CASES + '/data/*'):
         os.remove(old)
     with open(CASES + '/data/names', 'w') as names, open(CASES + '/stdout', 'w') as out:
-        for i, (name, sentence, blob, said) in enumerate([*lengths(), *bodies(), *kinds(), *sizes(), *refusals(), *places()]):
+        for i, (name, sentence, blob, said) in enumerate(inputs):
             with open('%s/data/%03d' % (CASES, i), 'wb') as f:
                 f.write(blob)
             names.write('%03d %s: %s\n' % (i, name, sentence))

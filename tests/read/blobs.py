@@ -1,5 +1,11 @@
-"""Blobs as the rules describe them: written by hand, and measured (mask, kind of body, block starts, end). No cell is decoded here."""
+"""Blobs as the rules describe them: written by hand, and measured (mask, kind of body, block starts, end). No cell is decoded here.
+What is written here has a true checksum, but for what `tampered` gives."""
+import os
 import struct
+import sys
+
+sys.path.insert(0, os.path.join(os.path.dirname(os.path.abspath(__file__)), '../../tools'))
+from checksum import sealed  # noqa: E402
 
 SIZES = (1, 1, 2, 2, 4, 4, 4, 8)
 CODES = 'bBhHiIfd'
@@ -111,14 +117,21 @@ def body(blob, h, mask):
 
 def made(tail, rows=1, columns=3, depth=1, valid=None, side=8, size=None, kind=1, error=1.0, low=10.0, high=12.0, mask=b'', number=4,
          key=b'Lerc2 ', mask_bytes=None):
-    """a blob: the rules' own example, but for what is named; error, low and high also as bits"""
+    """A blob: the rules' own example, but for what is named; error, low and high also as bits. Where the size is more than there is,
+    no checksum is true, and the field is 0xC0DE."""
     reals = b''.join(struct.pack('<Q' if isinstance(v, int) else '<d', v) for v in (error, low, high))
     valid = rows * columns if valid is None else valid
     size = 70 + len(mask) + len(tail) if size is None else size
     mask_bytes = len(mask) if mask_bytes is None else mask_bytes
     head = key + struct.pack('<9I', number, 0xC0DE, rows, columns, depth, valid, side, size, kind)
-    return head + reals + struct.pack('<I', mask_bytes) + mask + tail
+    return sealed(head + reals + struct.pack('<I', mask_bytes) + mask + tail)
+
+
+def tampered(blob, at, piece):
+    """other bytes, and the checksum as it stood"""
+    return blob[:at] + piece + blob[at + len(piece):]
 
 
 def changed(blob, at, piece):
-    return blob[:at] + piece + blob[at + len(piece):]
+    """other bytes, and a true checksum again: what is shown is another refusal than 13"""
+    return sealed(tampered(blob, at, piece))

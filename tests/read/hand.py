@@ -1,11 +1,16 @@
 """Blobs by hand and what the rules say of them, the sentence of the rules, or of a change request, beside each. A refusal has its number and
 a site (AT_.., at_block), which is the sentence of its place and works the place out."""
+import os
 import struct
 import sys
 
 import blobs
-from blobs import changed, made
+from blobs import changed, made, tampered
+from checksum import checksum, stored, summed_part, sums_before_last_fold, with_field
 from offsets import AT_MASK, AT_MODE, AT_NUMBER, AT_RANGES, AT_SWEEP, AT_WORD, AT_ZERO, at_block
+
+sys.path.insert(0, os.path.join(os.path.dirname(os.path.abspath(__file__)), '../checksum'))
+from rows import IN_BLOCK, ROWS  # noqa: E402
 
 VERSION = 'key or version differs'
 CEILING = 'a ceiling is passed'
@@ -31,6 +36,11 @@ ENTRIES = 'set: bits 0 is, once n has been read, 8; one byte entries, under 2 is
 VALUE = 'kinds 0 to 5 cut toward zero and refuse outside the range'
 INFINITE = 'finite plus infinity, either way round, is that infinity'
 SPARE = 'where the mask section was accepted and no mask was reused, the spare holds the new mask'
+FALSE = 'refusal 13, after the header\'s own refusals and before room, by header reading and whole read'
+ZERO = 'a stored 0 is never right'
+SUMMED = 'bytes 14 up to the declared size, as 16-bit words, first byte high, an odd last byte high over zero'
+CODE = 'Esri\'s published code decides'
+BEHIND = 'bytes after size are never looked at, those between the body\'s end and size in the checksum alone'
 
 P7 = bytes.fromhex('0200A0400080')
 THREE = b'\xA0\x40'
@@ -108,9 +118,8 @@ def empties():
 
 def bodies():
     yield 'whole-blob', made(WHOLE, error=0.5), [10, 11, 12], 'the rules\' whole blob'
-    after = 'bytes after size, or between the body\'s end and size, are never looked at'
-    yield 'behind-size', made(WHOLE, error=0.5) + b'\xFF' * 11, [10, 11, 12], after
-    yield 'behind-body', made(WHOLE + b'\xFF' * 6, error=0.5), [10, 11, 12], after
+    yield 'behind-size', made(WHOLE, error=0.5) + b'\xFF' * 11, [10, 11, 12], BEHIND
+    yield 'behind-body', made(WHOLE + b'\xFF' * 6, error=0.5), [10, 11, 12], BEHIND
     raw = 'a sweep byte: 1 is raw words, valid pixels in order'
     yield 'raw', made(hexed('0A0C01 0A0B0C')), [10, 11, 12], raw
     yield 'raw-error-half', made(hexed('0A0C01 0A0B0C'), error=0.5), [10, 11, 12], raw + ' (the mode byte is behind sweep byte 0 only)'
@@ -139,7 +148,7 @@ def stepped(kind, error, low, highs, bits, *counts):
 
 
 def products():
-    """Products that become infinite: the clamp gives the maximum. With a true checksum Esri's library reads the same words."""
+    """Products that become infinite: the clamp gives the maximum. Esri's library reads the same words."""
     high, most, error, third = 2.0 ** 1023, sys.float_info.max, 2.0 ** 1022, 0x15555555555555 * 2.0 ** 969
     word = 0x7FE8000000000000
     yield 'product-2^1024', stepped(7, error, -high, [1.5 * high], 2, 2), [word], INFINITE + ' (the shortest blob that tells)'
@@ -158,9 +167,33 @@ def products():
         yield 'product-kind-%d' % kind, stepped(kind, error, low, [top], 2, 2), [last], INFINITE
 
 
+def raw_row(cells):
+    """a blob of u8 cells, raw"""
+    return made(bytes([min(cells), max(cells), 1, *cells]), columns=len(cells), error=0.5, low=float(min(cells)), high=float(max(cells)))
+
+
+def odd_rows():
+    """rows of odd sizes, and of nearly all of them the sentences alone would have another checksum"""
+    block = made(bytes([5, 144, 0, 0, 0, *IN_BLOCK.cells]), columns=4, error=0.5, low=5.0, high=144.0)
+    for row, blob in [(row, raw_row(row.cells)) for row in ROWS] + [(IN_BLOCK, block)]:
+        assert stored(blob) == row.field and sums_before_last_fold(summed_part(blob)) == row.sums
+        yield row, blob
+
+
+def checksums():
+    """fields that are right"""
+    for row, blob in odd_rows():
+        yield 'checksum-%08x' % row.field, blob, row.cells, '%s (%s, size %d)' % (CODE, row.why, len(blob))
+    for size in (717, 718, 731, 732, 733, 734, 1450):
+        cells = [(7 * k + k * k // 9) % 251 for k in range(size - 73)]
+        yield 'checksum-size-%d' % size, raw_row(cells), cells, SUMMED + ' (sizes about one and two groups of Esri\'s code)'
+    behind = made(WHOLE, error=0.5) + bytes(5)
+    yield 'checksum-behind-size', tampered(behind, 79, b'\x12\x34'), [10, 11, 12], SUMMED + '; ' + BEHIND
+
+
 def accepted():
     """name, blob, words of all cells (those of invalid pixels do not matter), sentence"""
-    return [*constants(), *empties(), *bodies(), *products()]
+    return [*constants(), *empties(), *bodies(), *products(), *checksums()]
 
 
 def reused():
@@ -376,8 +409,81 @@ def values():
     yield no('constant-reused', none, 9, AT_ZERO, VALUE, before=THREE, reuse=True)
 
 
+def other_fields(blob):
+    """fields of a right blob that are not its checksum, by what is wrong with them"""
+    true, size = stored(blob), blobs.header(blob)['size']
+    part = summed_part(blob)
+    swapped = int.from_bytes(true.to_bytes(4, 'little'), 'big')
+    halves = true % 65536 * 65536 + true // 65536
+    low_first = b''.join(part[k:k + 2][::-1] for k in range(0, len(part), 2))
+    yield 'zero', 0, ZERO
+    yield from (('byte-%d' % k, true ^ 1 << 8 * k + k, FALSE) for k in range(4))
+    yield from (('low-half-only', true % 65536, FALSE), ('high-half-only', true >> 16 << 16, FALSE), ('all-ones', 0xFFFFFFFF, FALSE),
+                ('one-more', true + 1, FALSE), ('one-less', true - 1, FALSE), ('bytes-turned', swapped, FALSE), ('halves-turned', halves, FALSE))
+    yield from (('low-byte-first', checksum(low_first), SUMMED), ('from-10', checksum(blob[10:size]), SUMMED),
+                ('from-0', checksum(blob[:size]), SUMMED), ('from-16', checksum(blob[16:size]), SUMMED),
+                ('to-size-1', checksum(part[:-1]), SUMMED), ('one-byte-more', checksum(part + b'\1'), SUMMED))
+
+
+def wrong_field(blob):
+    """one bit of the field the other way round"""
+    return with_field(blob, stored(blob) ^ 1 << 9)
+
+
+NO_ROOM = dict(lent_kept=0, lent_spare=0, lent_list=0, lent_image=0)
+
+
+def false_fields():
+    whole = made(WHOLE, error=0.5)
+    for name, value, note in other_fields(whole):
+        assert value != stored(whole)
+        yield no('checksum-' + name, with_field(whole, value), 13, AT_ZERO, note)
+    for row, blob in odd_rows():
+        yield no('checksum-%08x' % row.false, with_field(blob, row.false), 13, AT_ZERO, '%s (%s)' % (CODE, row.why))
+    behind = made(WHOLE + b'\xFF' * 6, error=0.5) + b'\xFF' * 3
+    for name, at in (('error', 42), ('minimum', 50), ('body', 78), ('behind-body', 79), ('last', 84)):
+        yield no('checksum-' + name, tampered(behind, at, bytes([behind[at] ^ 1])), 13, AT_ZERO, SUMMED + '; ' + BEHIND)
+    yield no('checksum-to-slice', with_field(behind, checksum(behind[14:])), 13, AT_ZERO, BEHIND)
+
+
+def false_forms():
+    """13 of every kind of body, before its mask, its ranges and itself; every lent slice stays, the spare too"""
+    masked, raw = dict(columns=10, valid=3, side=16), hexed('0A0C01 0A0B0C')
+    forms = (('blocks', made(WHOLE, error=0.5)), ('raw', made(raw)), ('constant', made(b'', low=5.0, high=5.0)), ('empty', made(b'', valid=0)),
+             ('mask', made(raw, mask=P7, **masked)), ('mask-wrong', made(raw, mask=hexed('0000 0080'), **masked)), ('range-crossed', made(hexed('0C0A'))),
+             ('range-cut', made(b'\x0A')), ('sweep-2', made(hexed('0A0C02'))), ('mode-1', made(hexed('0A0C0001'), error=0.5)),
+             ('check', made(hexed('0A0C00 070A'))), ('constant-300', made(b'', low=300.0, high=300.0)))
+    for name, blob in forms:
+        yield no('checksum-%s' % name, wrong_field(blob), 13, AT_ZERO, FALSE, before=b'\x11\x22'[:blobs.needs(blobs.header(blob))[0]])
+    none = wrong_field(made(raw, **masked))
+    yield no('checksum-reuse', none, 13, AT_ZERO, FALSE + '; a refusal leaves every lent slice unchanged', before=THREE, reuse=True)
+    yield no('checksum-reuse-wrong', none, 13, AT_ZERO, FALSE, before=b'\xFF\xFF', reuse=True)
+    yield no('checksum-no-reuse', none, 13, AT_ZERO, FALSE, before=THREE)
+    new = wrong_field(made(raw, mask=P7, **masked))
+    yield no('checksum-reuse-not-needed', new, 13, AT_ZERO, FALSE + '; the spare stays too', before=b'\xFF\xFF', reuse=True)
+
+
+def false_orders():
+    """13 after 1, 2, 3, 4 and 1, before 5"""
+    whole = wrong_field(made(WHOLE, error=0.5))
+    for name, blob in (('blocks', whole), ('mask', wrong_field(made(BLOCK, columns=10, valid=3, side=16, mask=P7)))):
+        for slot in ('kept', 'spare', 'list', 'image'):
+            yield no('checksum-%s-%s-short' % (name, slot), blob, 13, AT_ZERO, FALSE, **{'lent_' + slot: 0})
+        yield no('checksum-%s-no-slice' % name, blob, 13, AT_ZERO, FALSE, **NO_ROOM)
+    none = wrong_field(made(BLOCK, columns=10, valid=3, side=16))
+    yield no('checksum-reuse-no-slice', none, 13, AT_ZERO, FALSE, reuse=True, **NO_ROOM)
+    yield no('checksum-right-no-slice', made(WHOLE, error=0.5), 5, AT_ZERO, FALSE + ' (the field is right, so it is room)', **NO_ROOM)
+    yield no('checksum-69-bytes', whole[:69], 1, AT_ZERO, ORDER + '; ' + FALSE)
+    yield no('checksum-78-bytes', whole[:78], 1, AT_ZERO, ORDER + '; ' + FALSE)
+    for name, at, piece, number in (('key', 0, b'M', 2), ('version', 6, u32(5), 2), ('kind-8', 38, u32(8), 3), ('size-69', 34, u32(69), 3),
+                                    ('size-13', 34, u32(13), 3), ('error-minus-0', 42, u64(SIGN), 3), ('side-17', 30, u32(17), 4),
+                                    ('depth-65', 22, u32(65), 4), ('size-16777217', 34, u32((1 << 24) + 1), 4), ('size-80', 34, u32(80), 1)):
+        yield no('checksum-' + name, tampered(whole, at, piece), number, AT_ZERO, ORDER + '; ' + FALSE)
+
+
 def refused():
-    return [*short(), *keys(), *fields(), *ceilings(), *rooms(), *masks(), *behind_masks(), *values()]
+    false = [*false_fields(), *false_forms(), *false_orders()]
+    return [*short(), *keys(), *fields(), *ceilings(), *rooms(), *masks(), *behind_masks(), *values(), *false]
 
 
 # --- accepted blobs of an encoder, damaged ----------------------------------------------------------------------------------------
@@ -394,6 +500,7 @@ def damages(name, blob):
     yield no(name + '-check', changed(blob, last, bytes([blob[last] ^ 4])), 8, where, CHECK + ' (the last block); ' + SPARE, spare=mask)
     yield no(name + '-size', changed(blob, 34, u32(end - 1)), 1, where, FIELD + ' (the last block); ' + SPARE, spare=mask)
     yield no(name + '-slice', blob[:-1], 1, AT_ZERO, SHORT)
+    yield no(name + '-checksum', tampered(blob, last, bytes([blob[last] ^ 4])), 13, AT_ZERO, FALSE + ' (the last block is wrong too)')
     if h['mask']:
         yield no(name + '-valid', changed(blob, 26, u32(h['valid'] - 1)), 6, AT_MASK, 'valid pixels must number `valid`')
     need = blobs.needs(h)

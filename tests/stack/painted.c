@@ -34,6 +34,7 @@ NOTED(lerc2_scaled);
 NOTED(lerc2_narrow);
 NOTED(lerc2_number);
 NOTED(lerc2_stored);
+NOTED(lerc2_checksum);
 
 static uint32_t answer;
 
@@ -106,6 +107,14 @@ static void call_stored(void) {
     }
 }
 
+/* nothing, an odd byte, an open group of 359 words, whole ones */
+static void call_checksum(void) {
+    static const size_t counts[] = {0, 1, 2, 3, 716, 717, 718, 719, 720, 1436, 1437, BYTES - 1, BYTES};
+    for (size_t n = 0; n < sizeof(counts) / sizeof(counts[0]); n++) {
+        result += noted_lerc2_checksum(blob, counts[n]);
+    }
+}
+
 static ucontext_t here, there;
 static void (*call)(void);
 
@@ -171,5 +180,6 @@ int main(int words, char **word) {
     used("lerc2_narrow", call_narrow);
     used("lerc2_number", call_number);
     used("lerc2_stored", call_stored);
+    used("lerc2_checksum", call_checksum);
     return 0;
 }

@@ -1,6 +1,6 @@
 #!/bin/sh
-# Tests the scripts and programs around the reader: ./lerc2, the archive and who links it, wrong words, lost outputs, the stack,
-# float units that were changed.
+# Tests the scripts and programs around the reader: ./lerc2, the archive and who links it, wrong words, lost outputs, checksums,
+# the stack, float units that were changed.
 #     tests/tools/run.sh       less than a minute; ends in 'N passed, M failed', with status 1 where M is not 0
 # Proving takes minutes, so a stand-in for the kit (tests/tools/rt) says what it is told to. What needs cargo, gcc or a proved
 # archive that is not there is named as not tried.
@@ -249,7 +249,7 @@ gives 'an image, to be explained' 0 tell "$decodes" --explain
 writes 'an image, to be explained' "$decodes"
 is_silent 'an image, to be explained'
 # each number, and whether its sentence names the place
-for told in '1 0 no' '1 72 yes' '2 0 no' '3 0 no' '4 0 no' '5 0 no' '6 66 yes' '7 78 yes' '8 74 yes' '9 0 no' '9 74 yes' '10 73 yes'; do
+for told in '1 0 no' '1 72 yes' '2 0 no' '3 0 no' '4 0 no' '5 0 no' '6 66 yes' '7 78 yes' '8 74 yes' '9 0 no' '9 74 yes' '10 73 yes' '13 0 no'; do
     number=${told%% *} place=${told#* } text="refused $number at ${place% *}"
     gives "$text" 1 tell "$text"
     writes "$text" "$text"
@@ -261,12 +261,12 @@ for told in '1 0 no' '1 72 yes' '2 0 no' '3 0 no' '4 0 no' '5 0 no' '6 66 yes' '
     if [ "${told##* }" = yes ]; then says "$text, explained" " at ${place% *}"; fi
     sed 's/^lerc2: refused [0-9]*: //' "$err" >>"$ROOM/sentences"
 done
-holds 'each number has its own sentence' [ "$(sort -u "$ROOM/sentences" | wc -l)" -eq 12 ]
+holds 'each number has its own sentence' [ "$(sort -u "$ROOM/sentences" | wc -l)" -eq 13 ]
 lost_words() { printf 'refused 8 at 74\n' | "$repo/lerc2" --explain >/dev/full; }
 gives 'a refusal to be explained, to a full device' 3 lost_words
 holds 'what is lost is not explained' [ "$(cat "$err")" = 'lerc2: the output could not be written' ]
-for odd in refused 'refused 8' 'refused 8 at' 'refused 8 at ' 'refused at 74' 'refused  at 74' 'refused 8 74' 'refused 0 at 0' 'refused 11 at 0' \
-    'refused 08 at 74' 'refused 80 at 74' 'refused 8 at 074' 'refused 8 at 00' 'refused 8 at -1' 'refused 8 at 7x' 'refused 8 at 74.' \
+for odd in refused 'refused 8' 'refused 8 at' 'refused 8 at ' 'refused at 74' 'refused  at 74' 'refused 8 74' 'refused 0 at 0' 'refused 11 at 0' 'refused 12 at 0' 'refused 14 at 0' \
+    'refused 08 at 74' 'refused 80 at 74' 'refused 013 at 0' 'refused 130 at 0' 'refused 8 at 074' 'refused 8 at 00' 'refused 8 at -1' 'refused 8 at 7x' 'refused 8 at 74.' \
     'refused 8 at 74 at 74' 'refused 8  at 74' ' refused 8 at 74' 'Refused 8 at 74' 'refused * at 74' 'width 1
 refused 8 at 74' 'refused 8 at 74
 refused 8 at 74'; do
@@ -384,7 +384,7 @@ if command -v python3 >/dev/null; then
     wrong_words 'usage: ' python3 tests/stack/run.py nosuch
     # scripts that write stored cases: in a copy, since a wrong word must not change one
     mkdir "$ROOM/stored"
-    cp -r tests "$ROOM/stored"
+    cp -r tests tools "$ROOM/stored"
     for part in header numeric fill read place program; do
         mkdir -p "$ROOM/stored/crates" && cp -r "crates/lerc_${part}_cases" "$ROOM/stored/crates"
     done
@@ -399,6 +399,209 @@ if command -v python3 >/dev/null; then
     done
 else
     not_tried 'tests/c/run.py and tests/stack/run.py (no python3)'
+fi
+
+# ---- checksums at the desk
+rules=crates/lerc2/stdin sealed=$ROOM/sealed.lerc2
+seal() { "$repo/tools/seal" "$@"; }
+# shellcheck disable=SC2059
+put() { printf "$2" | dd of="$sealed" bs=1 seek="$1" conv=notrunc 2>/dev/null; } # PLACE BYTES
+fresh() { cp "$rules" "$sealed" && put 10 '\000\000\000\000'; }                 # the rules' own blob, with a checksum of 0
+given_back() { # WORDS IN WHAT IT SAYS, COMMAND...: what is not known is not changed
+    kept=$(sha256sum <"$sealed")
+    wrong_words "$@"
+    holds "$2 ${3:-}: nothing is changed" [ "$(sha256sum <"$sealed")" = "$kept" ]
+}
+if command -v python3 >/dev/null; then
+    gives 'a true checksum' 0 seal --check "$rules"
+    writes 'a true checksum' 'stored DA 3D 6B 38, true DA 3D 6B 38: right'
+    fresh
+    gives 'a false checksum' 1 seal --check "$sealed"
+    writes 'a false checksum' 'stored 00 00 00 00, true DA 3D 6B 38: wrong'
+    gives 'sealed to another file' 0 seal "$sealed" -o "$ROOM/copy.lerc2"
+    holds 'sealed to another file, the rest as it was' cmp "$ROOM/copy.lerc2" "$rules"
+    gives 'and the first one as it was' 1 seal --check "$sealed"
+    piped() { seal - -o - <"$sealed"; }
+    gives 'sealed from input to output' 0 piped
+    holds 'sealed from input to output, the rest as it was' cmp "$out" "$rules"
+    check_input() { seal --check - <"$sealed"; }
+    gives 'a false checksum on standard input' 1 check_input
+    ln -s sealed.lerc2 "$ROOM/link.lerc2"
+    gives 'sealed in place, by a link' 0 seal --in-place "$ROOM/link.lerc2"
+    is_silent 'sealed in place'
+    holds 'sealed in place, the rest as it was' cmp "$sealed" "$rules"
+    holds 'the link is one still' [ -L "$ROOM/link.lerc2" ]
+    fresh
+    gives 'sealed to itself' 0 seal "$sealed" -o "$ROOM/link.lerc2"
+    holds 'sealed to itself, the rest as it was' cmp "$sealed" "$rules"
+    # standard input from the file itself: refused before anything of it is lost
+    fresh
+    ln "$sealed" "$ROOM/other-name.lerc2"
+    to_itself() { seal - -o "$1" <"$sealed"; }
+    for name in "$sealed" "$ROOM/link.lerc2" "$ROOM/other-name.lerc2" /dev/stdin; do
+        given_back ' itself, which only --in-place can seal' to_itself "$name"
+    done
+    # where no file may grow, all of it would be lost; nor can a sentence be kept
+    kept=$(sha256sum <"$sealed")
+    full_disk() { (ulimit -f 0 && to_itself "$sealed"); }
+    gives 'standard input to itself on a full disk' 2 full_disk
+    holds 'standard input to itself on a full disk: nothing is changed' [ "$(sha256sum <"$sealed")" = "$kept" ]
+    rm "$ROOM/other-name.lerc2" "$ROOM/copy.lerc2"
+    gives 'sealed from input to a new file' 0 to_itself "$ROOM/copy.lerc2"
+    holds 'sealed from input to a new file, the rest as it was' cmp "$ROOM/copy.lerc2" "$rules"
+    gives 'sealed from input to a file that is there' 0 to_itself "$ROOM/copy.lerc2"
+    holds 'sealed from input to a file that is there, the rest as it was' cmp "$ROOM/copy.lerc2" "$rules"
+    # shellcheck disable=SC2094
+    by_device() { seal /dev/stdin -o "$sealed" <"$sealed"; }
+    gives 'standard input by name to itself' 0 by_device
+    holds 'standard input by name to itself, the rest as it was' cmp "$sealed" "$rules"
+    put 79 'behind'
+    gives 'bytes behind the size do not count' 0 seal --check "$sealed"
+    put 10 '\001'
+    gives 'sealed with bytes behind the size' 0 seal --in-place "$sealed"
+    holds 'which are kept' [ "$(tail -c 6 "$sealed")" = behind ]
+    put 78 '\045'
+    gives 'a byte of the body changed' 1 seal --check "$sealed"
+    # an odd size of which the sentences of the rules alone have another checksum: E1 65 01 00
+    fresh
+    put 18 '\004' && put 26 '\004' && put 56 '\024' && put 64 '\142' && put 70 '\005\220\000\000\000\005\027\213\220'
+    gives 'an odd size, as Esri has it' 0 seal --in-place "$sealed"
+    gives 'an odd size, as Esri has it' 0 seal --check "$sealed"
+    writes 'an odd size, as Esri has it' 'stored E1 65 00 00, true E1 65 00 00: right'
+    # what is not known
+    fresh
+    head -c 69 "$rules" >"$ROOM/cut.lerc2"
+    for words in --check --in-place; do
+        wrong_words 'it has 69 bytes' seal $words "$ROOM/cut.lerc2"
+        wrong_words 'it has 0 bytes' seal $words /dev/null
+        wrong_words 'it cannot be read: Is a directory' seal $words "$ROOM"
+        wrong_words 'it cannot be read: No such file' seal $words "$ROOM/nosuch"
+        put 0 'M' && given_back "it does not begin with 'Lerc2 '" seal $words "$sealed" && put 0 'L'
+        for version in 3 5 6; do put 6 "\\00$version" && given_back "it has version $version" seal $words "$sealed"; done
+        put 6 '\004' && put 34 '\120' && given_back 'it declares a size of 80 bytes, and there are 79' seal $words "$sealed"
+        put 34 '\105' && given_back 'it declares a size of 69 bytes' seal $words "$sealed" && put 34 '\117'
+    done
+    from_input() { head -c "$1" "$sealed" | seal --in-place -; }
+    gives 'standard input in place' 2 from_input 79
+    says 'standard input in place' 'only a file can be sealed in place'
+    gives 'standard input, cut' 2 from_input 20
+    for words in '' --chek --in '--check --in-place' '-o' '--check more'; do
+        # shellcheck disable=SC2086
+        given_back 'usage: tools/seal' seal "$sealed" $words
+    done
+    wrong_words 'usage: tools/seal' seal
+    # outputs and inputs that are lost
+    given_back 'cannot be written: Is a directory' seal "$sealed" -o "$ROOM"
+    given_back 'cannot be written: No such file' seal "$sealed" -o "$ROOM/nosuch/x"
+    given_back 'the output could not be written' seal "$sealed" -o /dev/full
+    to_full() { seal "$@" >/dev/full; }
+    to_closed() { seal "$@" >&-; }
+    for way in to_full to_closed; do
+        wrong_words 'the output could not be written' $way "$sealed" -o -
+        wrong_words 'the output could not be written' $way --check "$sealed"
+        wrong_words 'the output could not be written' $way --help
+    done
+    closed_input() { seal --check - <&-; }
+    wrong_words 'it cannot be read' closed_input
+    folder_input() { seal --check - <"$ROOM"; }
+    wrong_words 'standard input is a folder' folder_input
+    without_python() { PATH=$ROOM/bare seal --check "$sealed"; }
+    wrong_words "'python3' is not there" without_python
+    wrong_words 'it cannot be read: No such file' seal --check "$(printf 'no text \377')"
+    # what fails inside is never a wrong checksum, whatever the blob has, and is told in one line
+    torn=$ROOM/torn
+    fails_inside() { # WORDS IN WHAT IT SAYS, A COMMAND IN A COPY OF tools/
+        rm -rf "$torn" && cp -r "$repo/tools" "$torn" && (cd "$torn" && eval "$2")
+        for blob in "$rules" "$sealed"; do
+            wrong_words "$1" "$torn/seal" --check "$blob"
+            holds "$2: told in one line" [ "$(wc -l <"$err")" -eq 1 ]
+        done
+    }
+    fails_inside "it cannot begin: ModuleNotFoundError: No module named 'checksum'" 'rm checksum.py'
+    fails_inside 'seal.py' 'rm seal.py'
+    fails_inside 'it cannot begin: SyntaxError' 'echo "of a later Python" >>checksum.py'
+    fails_inside 'it cannot begin: ImportError' 'echo "del with_field" >>checksum.py'
+    fails_inside 'it is given up: MemoryError' 'echo "def checksum(_): raise MemoryError" >>checksum.py'
+    fails_inside 'it is given up: ValueError: two lines' 'echo "def checksum(_): raise ValueError(\"\"\"two" >>checksum.py && echo "lines\"\"\")" >>checksum.py'
+    # and in Python's own modules, by a module that it runs first: a close, and the comparison of two files
+    mkdir "$ROOM/first"
+    fails_outside() { # WORDS IN WHAT IT SAYS, LINE OF PYTHON, WORDS OF SEAL...
+        say_so=$1
+        printf '%s\n' 'import builtins, io, os' 'def fails(*_): raise OSError(5, "no disk")' 'class Torn(io.FileIO):' \
+            '    def close(self): self.closed or (super().close(), fails())' 'plain = open' "$2" >"$ROOM/first/sitecustomize.py"
+        shift 2
+        by_torn() { PYTHONPATH=$ROOM/first seal "$@"; }
+        wrong_words "$say_so" by_torn "$@"
+        holds "$say_so: told in one line" [ "$(wc -l <"$err")" -eq 1 ]
+    }
+    torn_close='builtins.open = lambda name, mode, **more: plain(name, mode, **more) if mode == "rb" else Torn(name, mode)'
+    fails_outside 'copy.lerc2 cannot be written: no disk' "$torn_close" "$sealed" -o "$ROOM/copy.lerc2"
+    fails_outside 'copy.lerc2 cannot be written: no disk' "$torn_close" --in-place "$ROOM/copy.lerc2"
+    fails_outside 'it is given up: OSError: [Errno 5] no disk' 'os.path.samestat = fails' "$sealed" -o "$ROOM/copy.lerc2"
+    # a Python that does not even begin
+    mkdir "$ROOM/odd"
+    for end in 'exit 1' 'exit 120' 'kill -KILL $$'; do
+        printf '#!/bin/sh\n%s\n' "$end" >"$ROOM/odd/python3" && chmod +x "$ROOM/odd/python3"
+        by_odd() { PATH=$ROOM/odd:$PATH seal "$@"; }
+        wrong_words 'seal: python3 ended with status' by_odd --check "$rules"
+    done
+    if [ "$(id -u)" -ne 0 ] || $as_other true 2>/dev/null; then
+        chmod a=r "$sealed"
+        # shellcheck disable=SC2086
+        read_only_blob() { $as_other "$repo/tools/seal" --in-place "$sealed"; }
+        given_back 'cannot be written: Permission denied' read_only_blob
+        chmod u+w "$sealed"
+    fi
+    gives 'help of the tool' 0 seal --help
+    holds 'which says that it is apart from the proved reader' grep -q 'nothing is proved of it' "$out"
+    holds 'no bytecode is left' [ ! -e "$repo/tools/__pycache__" ]
+    # stored blobs, of which Esri's encoder wrote the most
+    mkdir "$ROOM/checksums"
+    for file in crates/lerc_fill_cases/data/[0-9][0-9][02468]; do cp "$file" "$ROOM/checksums/${file##*/}.lerc2"; done
+    gives 'checksums of stored blobs' 0 python3 tests/checksum/run.py "$ROOM/checksums"
+    fresh && cp "$sealed" "$ROOM/checksums/false.lerc2"
+    gives 'checksums of stored blobs, one false' 1 python3 tests/checksum/run.py "$ROOM/checksums"
+    holds 'which is named' grep -qx 'not as expected: false' "$out"
+    gives 'checksums of stored blobs, one false on purpose' 0 python3 tests/checksum/run.py --wrong false -- "$ROOM/checksums"
+    # in front of version 4 the size stands elsewhere
+    mkdir "$ROOM/no-checksums"
+    no_checksums() { # WORDS IN WHAT IT SAYS: of the blob as it was made
+        cp "$sealed" "$ROOM/no-checksums/it.lerc2"
+        wrong_words "$1" python3 tests/checksum/run.py "$ROOM/no-checksums"
+    }
+    for version in 2 3; do put 6 "\\00$version" && no_checksums "it.lerc2 has version $version, and only version 4 and later"; done
+    for version in 4 5 6; do
+        put 6 "\\00$version" && cp "$sealed" "$ROOM/no-checksums/it.lerc2"
+        gives "a checksum of 0 of version $version" 1 python3 tests/checksum/run.py "$ROOM/no-checksums"
+    done
+    put 6 '\004' && put 34 '\120' && no_checksums 'it.lerc2 does not have the bytes that it declares'
+    put 34 '\015' && no_checksums 'it.lerc2 does not have the bytes that it declares'
+    put 34 '\117' && put 0 'M' && no_checksums 'it.lerc2 is no blob'
+    wrong_words 'nosuch is no folder' python3 tests/checksum/run.py nosuch
+    wrong_words 'there is no NAME.lerc2' python3 tests/checksum/run.py "$ROOM/bin"
+    wrong_words 'required: folders' python3 tests/checksum/run.py
+    if command -v gcc >/dev/null; then
+        wrong_words 'number.c is not built' python3 tests/checksum/run.py --archive nosuch "$ROOM/checksums"
+    fi
+else
+    not_tried 'tools/seal and tests/checksum/run.py (no python3)'
+fi
+
+# ---- lerc2_checksum from C: what is nearly the rule is told
+if command -v gcc >/dev/null; then
+    as_told() { # STATUS, GCC'S WORDS...: the test over a stand-in
+        status=$1
+        shift
+        gives "tests/c/checksum.c is built, $*" 0 gcc -std=c11 -O2 -Wall -Wextra -Werror -pedantic "$@" tests/c/checksum.c tests/tools/nearly.c -o "$ROOM/nearly"
+        gives "tests/c/checksum.c, $*" "$status" "$ROOM/nearly"
+    }
+    as_told 0 -DWORDS=359
+    for word in -DWORDS=358 -DWORDS=360 -DBEGIN=0 -DODD=1 -DOPEN=0 '-DJOINED(b, a)=((b) << 16 | (uint16_t)(a))' '-DJOINED(b, a)=(((b) << 16) + (a))' \
+        '-DJOINED(b, a)=((b) << 16 | ((a) % 65535 ? (a) % 65535 : 65535))'; do
+        as_told 1 "$word"
+    done
+else
+    not_tried 'tests/c/checksum.c over a stand-in (no gcc)'
 fi
 
 # ---- the stack: what is read off small pieces of code, and what is given up
@@ -478,7 +681,10 @@ if command -v cargo >/dev/null && command -v gcc >/dev/null && tools/archive.sh 
     places() { "$ROOM/places" <"$1"; }
     gives 'the place of each function' 0 places crates/lerc2/stdin
     gives 'the place of each function, another blob' 2 places README.md
+    gives 'tests/c/checksum.c is built' 0 gcc -std=c11 -O2 -Wall -Wextra -Werror -pedantic tests/c/checksum.c target/staticlib/liblerc_c.a -o "$ROOM/checksum"
+    gives 'the checksum by itself' 0 "$ROOM/checksum"
     gives 'the examples on stored blobs and refused ones' 0 python3 tests/c/run.py target/examples
+    gives 'checksums by the reader' 0 python3 tests/checksum/run.py --archive target/staticlib/liblerc_c.a --wrong false -- "$ROOM/checksums"
     # shellcheck disable=SC2086
     gives 'the float instructions' 0 python3 tests/floats/run.py ${words:+--words target/staticlib/liblerc_c.a}
     wrong_words 'usage: tests/floats/run.py' python3 tests/floats/run.py --nosuch
@@ -522,6 +728,7 @@ if command -v cargo >/dev/null && command -v gcc >/dev/null && tools/archive.sh 
         printf '\106\000\000\000'
         tail -c +39 crates/lerc2/stdin | head -c 32
     } >"$ROOM/blobs/small-empty.lerc2"
+    gives 'sealed by hand' 0 tools/seal --in-place "$ROOM/blobs/small-empty.lerc2"
     gives 'measuring' 0 bench/whole.sh "$ROOM/blobs" --only small --rounds 1 --no-counts
     holds 'what is left out is named' grep -q '^Left out, read (refused 1): small-cut$' "$out"
     holds 'an image without a valid cell is named' grep -q '^Left out, read (no cell is valid): small-empty$' "$out"

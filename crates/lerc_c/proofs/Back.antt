@@ -12,7 +12,7 @@ use Rattle.lerc_words.specs.Res.{ok, require, little}
 use Rattle.lerc_words.specs.Lists.{over}
 use Rattle.lerc_words.proofs.Binding.{bind-is, ok-is}
 use Rattle.lerc_words.proofs.Little.{Bytes, little-lt}
-use Rattle.lerc_header.specs.Header.{headerBytes, keyRight, held, headerOf, headerSays}
+use Rattle.lerc_header.specs.Header.{headerBytes, keyRight, held, headerOf, checksumRight, headerSays}
 use Rattle.lerc_header.specs.declared.Header.{Header}
 use Rattle.lerc_header.specs.Limits.{depthLimit}
 use Rattle.lerc_ranges.specs.declared.Ranges.{Ranges}
@@ -32,6 +32,7 @@ header-kept b l {h} p e =
     let (_, _, e) = bind-is (require (leb headerBytes (length b)) 1) _ e in
     let (_, _, e) = bind-is (require (keyRight b) 2) _ e in
     let (_, _, e) = bind-is (held (headerOf b) (length b)) _ e in
+    let (_, _, e) = bind-is (require (checksumRight b (headerOf b .size)) 13) _ e in
     let d : headerOf b ≡ h = ok-is e in
     let f : fieldsFit (headerNumbers (headerOf b)) ≡ true = rw (four-fit b 14 p, four-fit b 18 p, four-fit b 22 p, four-fit b 26 p, four-fit b 30 p, four-fit b 34 p, four-fit b 38 p, four-fit b 66 p) in
     header-back h l (subst (λ (x : Header). fieldsFit (headerNumbers x) ≡ true) d f)

@@ -1,4 +1,4 @@
--- Every refusal carries a number from 1 to 11, so 0 always means accepted.
+-- Every refusal carries a number from 1 to 13, so 0 always means accepted.
 -- Assumes nothing.
 use Prim.Native.Nat.{ℕ, zero, suc, _+_, _*_, _/_, _%_, _-_, _≤_}
 use mathlib.Core.Path.{_≡_, refl}
@@ -18,7 +18,7 @@ use Rattle.lerc_samples.specs.Samples.{stored, noKind, offsetKinds, offsetKind,
 use Rattle.lerc_bits.specs.declared.Plan.{Plan}
 use Rattle.lerc_bits.specs.Bits.{countBytes, plainPlan, tablePlan, fits, tabled, plan, run, allBelow, lookedUp, valuesOf, unpacked, counts}
 use Rattle.lerc_header.specs.declared.Header.{Header}
-use Rattle.lerc_header.specs.Header.{shapeOf, headerBytes, rangesAt, fieldsRight, withinCeilings, held, keyRight, headerOf, headerSays}
+use Rattle.lerc_header.specs.Header.{shapeOf, headerBytes, rangesAt, fieldsRight, withinCeilings, held, keyRight, headerOf, checksumRight, headerSays}
 use Rattle.lerc_header.specs.Shape.{pixels, maskLength, blockCount}
 use Rattle.lerc_mask.specs.Mask.{validBelow, coded, maskField}
 use Rattle.lerc_mask.proofs.Runs.{coded-six}
@@ -39,7 +39,7 @@ use Rattle.lerc_c.specs.Entries.{headerEntry, prepareEntry, rangesEntry,
 -- ---- answers whose refusals are numbered, and how they are put together
 
 abbrev inTable : ℕ → Bool
-inTable n = leb 1 n && leb n 11
+inTable n = leb 1 n && leb n 13
 
 pub record Numbered {A : Type 0} (m : Res A) : Type 0 where
   pub number : (r : Refusal) → m ≡ fail r → inTable (r .number) ≡ true
@@ -195,7 +195,7 @@ held-n h n = check (fieldsRight h) 3 refl (λ _. check (withinCeilings h) 4 refl
 
 header-n : (b : List ℕ) → Numbered (headerSays b)
 unfolding headerSays
-header-n b = check (leb headerBytes (length b)) 1 refl (λ _. check (keyRight b) 2 refl (λ _. andThen (held (headerOf b) (length b)) (held-n (headerOf b) (length b)) (λ e. accepted _)))
+header-n b = check (leb headerBytes (length b)) 1 refl (λ _. check (keyRight b) 2 refl (λ _. andThen (held (headerOf b) (length b)) (held-n (headerOf b) (length b)) (λ e. check (checksumRight b (headerOf b .size)) 13 refl (λ _. accepted _))))
 
 coded-n : (s : List ℕ) (pixels valid : ℕ) → Numbered (coded s pixels valid)
 coded-n s pixels valid = record { number = λ r e. let d : r ≡ refuse 6 = coded-six s pixels valid r e in rw (d) }
@@ -349,4 +349,4 @@ zero-accepts {A} {m} p e = go m p e
   where
     go : (x : Res A) → Numbered x → numberOf x ≡ 0 → (a : A) × (x ≡ ok a)
     go (ok a) q d = (a, refl)
-    go (fail r) q d = absurd (let h : 1 ≤ r .number = leb-true 1 (r .number) (and-is (leb 1 (r .number)) (leb (r .number) 11) (q .number r refl) .0) in omega arith)
+    go (fail r) q d = absurd (let h : 1 ≤ r .number = leb-true 1 (r .number) (and-is (leb 1 (r .number)) (leb (r .number) 13) (q .number r refl) .0) in omega arith)

@@ -3,6 +3,7 @@
 // A slice without room for the place is refused before all else. After a refusal the records are as they were.
 ghost use mathlib.Core.Path.{_≡_};
 ghost use mathlib.Core.Bool.{true};
+ghost use Rattle.lerc_checksum.specs.Checksum.{checksum};
 ghost use Rattle.lerc_numeric.specs.Numeric.{sum, scaled};
 ghost use Rattle.lerc_numeric.specs.Kinds.{valueOf, narrowed};
 ghost use Rattle.lerc_c.specs.Entries as Entry;
@@ -197,4 +198,12 @@ pub extern "C" fn lerc2_number(word: u64, kind: u32) -> u64
     ensures { λ r. ⌜ r ≡ valueOf kind word ⌝ }
 {
     lerc_numeric::number(word, kind)
+}
+
+// the checksum of these bytes; a blob's is of those from 14 up to its size
+#[no_mangle]
+pub extern "C" fn lerc2_checksum(bytes: &[u8]) -> u32
+    ensures { λ r. ⌜ r ≡ checksum (now (bytes .entry)) ⌝ }
+{
+    lerc_checksum::checksum(bytes)
 }

@@ -30,6 +30,7 @@ no-room-in-c = record {
   sum = given (λ k a. tt) _ (λ k a r x p. p);
   scaled = given (λ k a. tt) _ (λ k a r x p. p);
   narrow = given (λ k a. tt) _ (λ k a r x p. p);
+  checksum = given (λ k a. tt) _ (λ k a r x p. p);
   number = given (λ k a. tt) _ (λ k a r x p. p);
   stored = record { asks-nothing = λ k a. tt; same = λ k a r q x y p s. let (e, f) = stored-alike refl (p .done) (s .done) in let (n, i) = told p s e in (n, rw (f, i)) };
 }

@@ -310,11 +310,11 @@ only {left = left} l p none five three rest k a (suc n) x q =
 
 pub numbers-only-in-c : NumbersOnlyInC
 numbers-only-in-c = record {
-  read-header = let l : List ℕ = 0 ∷ 1 ∷ 2 ∷ 3 ∷ 4 ∷ 5 ∷ [] in only l (places-exactly-in-c .read-header) refl refl (λ a w. refl) (λ a why. header-in (In l) refl refl refl refl);
+  read-header = let l : List ℕ = 0 ∷ 1 ∷ 2 ∷ 3 ∷ 4 ∷ 5 ∷ 13 ∷ [] in only l (places-exactly-in-c .read-header) refl refl (λ a w. refl) (λ a why. header-in (In l) refl refl refl refl refl);
   prepare-mask = let l : List ℕ = 0 ∷ 1 ∷ 3 ∷ 4 ∷ 5 ∷ 6 ∷ [] in only l (places-exactly-in-c .prepare-mask) refl refl (λ a w. refl) (λ a why. prepare-in (In l) refl refl refl refl refl);
   read-ranges = let l : List ℕ = 0 ∷ 1 ∷ 3 ∷ 4 ∷ 5 ∷ 7 ∷ [] in only l (places-exactly-in-c .read-ranges) refl refl (λ a w. refl) (λ a why. read-ranges-in (In l) refl refl refl refl);
   walk = let l : List ℕ = 0 ∷ 1 ∷ 3 ∷ 4 ∷ 5 ∷ 7 ∷ 8 ∷ 9 ∷ 10 ∷ [] in only l (places-exactly-in-c .walk) refl refl (λ a w. refl) (λ a why. walk-in (In l) refl refl refl refl refl refl refl refl);
   fill = let l : List ℕ = 0 ∷ 1 ∷ 3 ∷ 4 ∷ 5 ∷ 7 ∷ 8 ∷ 9 ∷ 11 ∷ [] in only l (places-exactly-in-c .fill) refl refl (λ a w. refl) (λ a why. fill-in (In l) refl refl refl refl refl refl refl refl);
-  read = let l : List ℕ = 0 ∷ 1 ∷ 2 ∷ 3 ∷ 4 ∷ 5 ∷ 6 ∷ 7 ∷ 8 ∷ 9 ∷ 10 ∷ [] in only l (places-exactly-in-c .read) refl refl (λ a w. refl) (λ a why. whole-in (In l) refl refl refl refl refl refl refl refl refl refl);
+  read = let l : List ℕ = 0 ∷ 1 ∷ 2 ∷ 3 ∷ 4 ∷ 5 ∷ 6 ∷ 7 ∷ 8 ∷ 9 ∷ 10 ∷ 13 ∷ [] in only l (places-exactly-in-c .read) refl refl (λ a w. refl) (λ a why. whole-in (In l) refl refl refl refl refl refl refl refl refl refl refl);
   stored = let l : List ℕ = 0 ∷ 5 ∷ 9 ∷ [] in only l (places-exactly-in-c .stored) refl refl (λ a w. absurd w) (λ a why. stored-in (In l) refl);
 }

@@ -263,5 +263,6 @@ same-reader = record {
   sum = λ k j a r q x y p s. p ∙ sym s;
   scaled = λ k j a r q x y p s. p ∙ sym s;
   narrow = λ k j a r q x y p s. p ∙ sym s;
+  checksum = λ k j a r q x y p s. p ∙ sym s;
   number = λ k j a r q x y p s. p ∙ sym s;
 }

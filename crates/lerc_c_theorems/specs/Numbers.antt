@@ -114,10 +114,10 @@ abbrev pub OnlyInC : {K A O : Type 0} → (K → A → ℕ → O → Type 0) →
 OnlyInC {K} {A} {O} Post numbers = (k : K) (a : A) (n : ℕ) (x : O) → Post k a n x → among numbers n ≡ true
 
 pub record NumbersOnlyInC : Type 0 where
-  pub read-header : OnlyInC read-header.Post (0 ∷ 1 ∷ 2 ∷ 3 ∷ 4 ∷ 5 ∷ [])
+  pub read-header : OnlyInC read-header.Post (0 ∷ 1 ∷ 2 ∷ 3 ∷ 4 ∷ 5 ∷ 13 ∷ [])
   pub prepare-mask : OnlyInC prepare-mask.Post (0 ∷ 1 ∷ 3 ∷ 4 ∷ 5 ∷ 6 ∷ [])
   pub read-ranges : OnlyInC read-ranges.Post (0 ∷ 1 ∷ 3 ∷ 4 ∷ 5 ∷ 7 ∷ [])
   pub walk : OnlyInC walk.Post (0 ∷ 1 ∷ 3 ∷ 4 ∷ 5 ∷ 7 ∷ 8 ∷ 9 ∷ 10 ∷ [])
   pub fill : OnlyInC fill.Post (0 ∷ 1 ∷ 3 ∷ 4 ∷ 5 ∷ 7 ∷ 8 ∷ 9 ∷ 11 ∷ [])
-  pub read : OnlyInC read.Post (0 ∷ 1 ∷ 2 ∷ 3 ∷ 4 ∷ 5 ∷ 6 ∷ 7 ∷ 8 ∷ 9 ∷ 10 ∷ [])
+  pub read : OnlyInC read.Post (0 ∷ 1 ∷ 2 ∷ 3 ∷ 4 ∷ 5 ∷ 6 ∷ 7 ∷ 8 ∷ 9 ∷ 10 ∷ 13 ∷ [])
   pub stored : OnlyInC stored.Post (0 ∷ 5 ∷ 9 ∷ [])

@@ -17,6 +17,7 @@ use Rattle.lerc_c.proofs.lerc2_sum.Reads as c-sum
 use Rattle.lerc_c.proofs.lerc2_scaled.Reads as c-scaled
 use Rattle.lerc_c.proofs.lerc2_narrow.Reads as c-narrow
 use Rattle.lerc_c.proofs.lerc2_number.Reads as c-number
+use Rattle.lerc_c.proofs.lerc2_checksum.Reads as c-checksum
 use Rattle.lerc_c.proofs.lerc2_stored.Reads as c-stored
 use Rattle.lerc_theorems.specs.Promises.{Answers, Writes}
 
@@ -40,4 +41,5 @@ pub record NoRoomInC : Type 0 where
   pub scaled : Answers c-scaled.Pre c-scaled.Post
   pub narrow : Answers c-narrow.Pre c-narrow.Post
   pub number : Answers c-number.Pre c-number.Post
+  pub checksum : Answers c-checksum.Pre c-checksum.Post
   pub stored : Writes {S = List ℕ × List ℕ} c-stored.Pre c-stored.Post (λ o. (o .1 .1 .0 .now, o .1 .1 .1 .0 .now))

@@ -13,6 +13,7 @@ use Rattle.lerc_numeric.proofs.plus.Reads as plus
 use Rattle.lerc_numeric.proofs.scale.Reads as scale
 use Rattle.lerc_numeric.proofs.narrow.Reads as narrow
 use Rattle.lerc_numeric.proofs.number.Reads as number
+use Rattle.lerc_checksum.proofs.checksum.Reads as checksum
 use Rattle.lerc_numeric.proofs.float_ready.Reads as float-ready
 use Rattle.lerc_samples.specs.declared.StoredAnswer.{StoredAnswer}
 use Rattle.lerc_samples.specs.Samples.{storedSaid}
@@ -34,6 +35,7 @@ use Rattle.lerc.specs.declared.ReadAnswer.{ReadAnswer}
 use Rattle.lerc.specs.Read.{Lent, ReadTold, readSaid}
 use Rattle.lerc_c.specs.Records.{whyOf, headerRoom, headerNumbers, rangesRoom, rangesNumbers}
 use Rattle.lerc_c.specs.Entries.{readRoom}
+use Rattle.lerc_c.proofs.lerc2_checksum.Reads as c-checksum
 use Rattle.lerc_c.proofs.lerc2_float_ready.Reads as c-ready
 use Rattle.lerc_c.proofs.lerc2_sum.Reads as c-sum
 use Rattle.lerc_c.proofs.lerc2_scaled.Reads as c-scaled
@@ -112,3 +114,4 @@ pub record SameReader : Type 0 where
   pub scaled : SameAnswer c-scaled.Post scale.Post
   pub narrow : SameAnswer c-narrow.Post narrow.Post
   pub number : SameAnswer c-number.Post number.Post
+  pub checksum : SameAnswer c-checksum.Post checksum.Post

@@ -7,6 +7,7 @@ use Rattle.lerc_theorems.proofs.DemandThree.{demand-three}
 use Rattle.lerc_c_theorems.proofs.InC.{demands-in-c}
 use Rattle.lerc_overflow.proofs.Changes.{changes}
 use Rattle.lerc_places.proofs.Unplaced.{unplaced}
+use Rattle.lerc_summed.proofs.Summed.{claims as summed}
 use Rattle.lerc_contracts.proofs.Upstream.{upstream}
 use Rattle.lerc_program.proofs.Example.{computed}
 use Rattle.lerc_claims.specs.Claims.{Claims}
@@ -22,6 +23,7 @@ claims = record {
   arithmetic = arithmetic;
   changes = changes;
   unplaced = unplaced;
+  summed = summed;
   upstream = upstream;
   program = program;
   worked = cases;

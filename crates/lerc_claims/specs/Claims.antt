@@ -9,6 +9,7 @@ use Rattle.lerc_theorems.specs.DemandThree.{DemandThree}
 use Rattle.lerc_c_theorems.specs.InC.{DemandsInC}
 use Rattle.lerc_overflow.specs.Changes.{Changes}
 use Rattle.lerc_places.specs.Unplaced.{Unplaced}
+use Rattle.lerc_summed.specs.Summed.{Summed}
 use Rattle.lerc_contracts.specs.Upstream.{Upstream}
 use Rattle.lerc_program.proofs.Example.{Computed}
 use Rattle.lerc_claims.specs.Arithmetic.{Arithmetic}
@@ -29,6 +30,8 @@ pub record Claims : Type 0 where
   pub changes : Changes
   -- "a place with each number" changes nothing else: what is said and left is what it was without places
   pub unplaced : Unplaced
+  -- "Refusal 13": where it is given, what it finds out, and that nothing else changed
+  pub summed : Summed
   -- upstream's contracts, clause by clause
   pub upstream : Upstream
   -- the program's text
@@ -37,5 +40,5 @@ pub record Claims : Type 0 where
   pub worked : map (λ (c : cases.Case). c .got) cases.table ≡ map (λ (c : cases.Case). c .want) cases.table
   -- offset -2^1023, error 2^1000, count 2^30; and an infinity with a finite number, both ways round
   pub infinities : map (λ (c : cases.Case). c .got) cases.infinityTable ≡ map (λ (c : cases.Case). c .want) cases.infinityTable
-  -- the text that the rules print, and two more, as the checker computes them
+  -- the text that the rules print, and three more, as the checker computes them
   pub printed : Computed

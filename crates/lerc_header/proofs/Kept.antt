@@ -16,7 +16,7 @@ use Rattle.lerc_header.specs.declared.Header.{Header}
 use Rattle.lerc_header.specs.declared.Extent.{Extent}
 use Rattle.lerc_header.specs.Limits.{sideways, depthLimit, sideLimit, cellLimit, sizeLimit}
 use Rattle.lerc_header.specs.Shape.{pixels, Shaped}
-use Rattle.lerc_header.specs.Header.{headerBytes, keyRight, shapeOf, rangesAt, errorRight, pairRight, fieldsRight, withinCeilings, extentOf, held, headerOf, headerSays, Opened, openSays}
+use Rattle.lerc_header.specs.Header.{headerBytes, keyRight, shapeOf, rangesAt, errorRight, pairRight, fieldsRight, withinCeilings, extentOf, held, headerOf, checksumRight, headerSays, Opened, openSays}
 
 -- both of two tests hold
 both : (a b : Bool) → (a && b) ≡ true → (a ≡ true) × (b ≡ true)
@@ -151,8 +151,20 @@ header-held b h p =
     let (_, t1, p) = bind-is (require (leb headerBytes (length b)) 1) _ p in
     let (_, t2, p) = bind-is (require (keyRight b) 2) _ p in
     let (e, q, p) = bind-is (held (headerOf b) (length b)) _ p in
+    let (_, t13, p) = bind-is (require (checksumRight b (headerOf b .size)) 13) _ p in
     let is : h ≡ headerOf b = cc in
     (is, rw (is) (q ∙ ap ok (held-is (headerOf b) (length b) q)))
+
+-- and so is the checksum of the blob's own bytes
+pub header-summed : (b : List ℕ) (h : Header) → headerSays b ≡ ok h → checksumRight b (h .size) ≡ true
+unfolding headerSays
+header-summed b h p =
+    let is = header-held b h p .0 in
+    let (_, t1, p) = bind-is (require (leb headerBytes (length b)) 1) _ p in
+    let (_, t2, p) = bind-is (require (keyRight b) 2) _ p in
+    let (_, t3, p) = bind-is (held (headerOf b) (length b)) _ p in
+    let (_, t13, p) = bind-is (require (checksumRight b (headerOf b .size)) 13) _ p in
+    rw (is) (require-is _ _ t13)
 
 -- ---- a blob that was opened
 

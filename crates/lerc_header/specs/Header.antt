@@ -1,12 +1,13 @@
 -- The header and its rules.
 -- Assumes nothing.
-use Prim.Native.Nat.{ℕ, _+_, _*_, _^_}
+use Prim.Native.Nat.{ℕ, _+_, _-_, _*_, _^_}
 use mathlib.Core.Bool.{Bool, not, _&&_}
 use mathlib.Core.List.{List}
-use lib.ListN.{length}
+use lib.ListN.{length, take, drop}
 use lib.Dec.{leb, ltb, eqb}
 use Rattle.lerc_words.specs.declared.Refusal.{Refusal}
 use Rattle.lerc_words.specs.Res.{Res, ok, fail, _>>=_, refuse, require, little}
+use Rattle.lerc_checksum.specs.Checksum.{checksum}
 use Rattle.lerc_numeric.specs.Numeric.{negative, finite, mag, less}
 use Rattle.lerc_header.specs.declared.Header.{Header}
 use Rattle.lerc_header.specs.declared.Shape.{Shape}
@@ -93,12 +94,22 @@ headerOf b =
       mask = little 4 b 66;
     }
 
+-- the bytes that are summedBytes: "14 up to the declared size"
+abbrev pub summedBytes : List ℕ → ℕ → List ℕ
+summedBytes b size = take (size - 14) (drop 14 b)
+
+-- the checksum "at 10" is that of the bytes behind it
+unfoldable pub checksumRight : List ℕ → ℕ → Bool
+checksumRight b size = eqb (little 4 b 10) (checksum (summedBytes b size))
+
 -- "Order: slice under 70 gives 1; then 2; then 3 ..; Then ceilings (4) ..; Then slice shorter than size: 1."
+-- "Refusal 13, after the header's own refusals"
 unfoldable pub headerSays : List ℕ → Res Header
 headerSays b = do
   _ ← require (leb headerBytes (length b)) 1
   _ ← require (keyRight b) 2
   _ ← held (headerOf b) (length b)
+  _ ← require (checksumRight b (headerOf b .size)) 13
   ok (headerOf b)
 
 -- a header with the sizes that follow from it

@@ -1,6 +1,7 @@
 // The header of a blob: its fields, the rules it is held to, and the sizes that follow from it.
 ghost use mathlib.Core.Path.{_≡_};
 ghost use Prim.Native.Nat.{ℕ, _+_, _<_, _≤_};
+ghost use lib.ListN.{length};
 ghost use Rattle.lerc_words.specs.Res.{little};
 ghost use Rattle.lerc_header.specs.Shape as Sizes;
 ghost use Rattle.lerc_header.specs.Header as Rules;
@@ -241,6 +242,14 @@ fn fields(b: &[u8]) -> Header
     }
 }
 
+// the checksum at 10 is that of the bytes behind it, up to the size
+fn checksum_right(b: &[u8], size: usize) -> bool
+    requires { ⌜ (14 ≤ size) × (size ≤ length (now b)) ⌝ }
+    ensures { λ r. ⌜ r ≡ Rules.checksumRight (now (b .entry)) size ⌝ }
+{
+    quad(b, 10) == lerc_checksum::checksum(&b[14..size])
+}
+
 // The header of a blob and the sizes that follow from it; what was accepted here need not be held to the rules again.
 pub fn open_blob(blob: &[u8]) -> OpenAnswer
     ensures { λ r. ⌜ Rules.openSaid r ≡ Rules.openSays (now (blob .entry)) ⌝ }
@@ -256,6 +265,9 @@ pub fn open_blob(blob: &[u8]) -> OpenAnswer
     let HeldAnswer::Held(extent) = answer else {
         return OpenAnswer::Refused(answer.refusal());
     };
+    if !checksum_right(blob, extent.size) {
+        return OpenAnswer::Refused(Refusal { number: 13, at: 0 });
+    }
     OpenAnswer::Open { header, extent }
 }
 

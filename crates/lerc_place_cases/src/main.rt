@@ -11,7 +11,7 @@ use lerc_words::Refusal;
 use lerc_words::peek;
 use libc::STDOUT_FILENO;
 
-const CASES: usize = 1030;
+const CASES: usize = 1161;
 
 // 8 numbers of 4 bytes and 8 of 8 bytes
 const HEAD: usize = 96;

@@ -17,7 +17,7 @@ use Rattle.lerc_bits.specs.declared.Plan.{Plan}
 use Rattle.lerc_bits.specs.Bits.{plan, run, allBelow, lookedUp, valuesOf, unpacked, counts}
 use Rattle.lerc_bits.proofs.Returns.{plan-bare}
 use Rattle.lerc_header.specs.declared.Header.{Header}
-use Rattle.lerc_header.specs.Header.{shapeOf, headerBytes, fieldsRight, withinCeilings, held, keyRight, headerOf, headerSays}
+use Rattle.lerc_header.specs.Header.{shapeOf, headerBytes, fieldsRight, withinCeilings, held, keyRight, headerOf, checksumRight, headerSays}
 use Rattle.lerc_header.specs.Shape.{pixels, maskLength}
 use Rattle.lerc_mask.specs.Mask.{validBelow, coded}
 use Rattle.lerc_mask.proofs.Runs.{coded-bare}
@@ -117,7 +117,7 @@ pub header-bare : (b : List ℕ) → Bare (headerSays b)
 unfolding headerSays
 header-bare b =
     bare-then (leb headerBytes (length b)) 1 _
-    (bare-then (keyRight b) 2 _ (bare-bind (held (headerOf b) (length b)) _ (held-bare (headerOf b) (length b)) (λ _. refl)))
+    (bare-then (keyRight b) 2 _ (bare-bind (held (headerOf b) (length b)) _ (held-bare (headerOf b) (length b)) (λ _. bare-then (checksumRight b (headerOf b .size)) 13 _ refl)))
 
 unrolled-bare : (s : List ℕ) (h : Header) → Bare (unrolled s h)
 unfolding unrolled

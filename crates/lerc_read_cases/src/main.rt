@@ -475,9 +475,9 @@ fn main() {
     all = all.plus(file(b"v4-large", 5));
     all = all.plus(file(b"probes", 99));
     all = all.plus(file(b"beyond", 24));
-    all = all.plus(file(b"rules", 53));
-    all = all.plus(file(b"refused", 312));
-    all = all.plus(file(b"damaged", 67));
+    all = all.plus(file(b"rules", 71));
+    all = all.plus(file(b"refused", 386));
+    all = all.plus(file(b"damaged", 78));
     all = all.plus(file(b"planted", 11));
     print_tally(b"all", all);
 }

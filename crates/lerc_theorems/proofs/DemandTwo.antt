@@ -311,7 +311,7 @@ demand-two = record {
   cells-exact = λ k a r x p f m e. exact (a .0 .now) (a .1 .0) r (lent a) (lent x) p f m e;
   mask-right = λ b reuse kept m e l. let q = mask-kept b reuse kept m (meaning-is b reuse kept m e) l in (q .size, q .counts);
   below-size = λ b c reuse kept n p q e. meaning-same b c n p e q reuse kept;
-  behind-end = λ b c reuse kept m e q l. means-is c reuse kept m (means-front b reuse kept m (meaning-is b reuse kept m e) c q l);
+  behind-end = λ b c reuse kept m e p q l x. means-is c reuse kept m (means-front b reuse kept m (meaning-is b reuse kept m e) c p q l x);
   unread = unread;
   kept-front = kept-front;
   kept-unread = kept-unread;

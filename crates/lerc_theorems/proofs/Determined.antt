@@ -106,6 +106,7 @@ no-room = record {
   runs-refusal = given (λ k a. tt) _ (λ k a r x p. p);
   is-valid = given (λ k a. tt) _ (λ k a r x p. p);
   count-valid = given (λ k a. tt) _ (λ k a r x p. p);
+  checksum = given (λ k a. tt) _ (λ k a r x p. p);
   count-from = given (λ k a. tt) _ (λ k a r x p. p);
   ones-word = given (λ k a. tt) _ (λ k a r x p. p);
   decode-mask = record { asks-nothing = λ k a. tt; same = λ k a r q x y p s. unrolled-same p s };

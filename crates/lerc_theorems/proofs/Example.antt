@@ -14,9 +14,10 @@ use Rattle.lerc_numeric.specs.Kinds.{integer, valueOf, whole, cut}
 use Rattle.lerc_samples.specs.Samples.{sampleAt, stored, offsetKinds, offsetKind}
 use Rattle.lerc_bits.specs.Packing.{bytesOf}
 use Rattle.lerc_mask.specs.Mask.{pixelValid}
+use Rattle.lerc_checksum.specs.Checksum.{word, fold, sumsTo, closedTo, withLast, joined, checksum}
 use Rattle.lerc_header.specs.declared.Header.{Header}
 use Rattle.lerc_header.specs.Shape.{strips}
-use Rattle.lerc_header.specs.Header.{errorRight, pairRight, fieldsRight, withinCeilings, held, keyRight, headerOf, headerSays}
+use Rattle.lerc_header.specs.Header.{errorRight, pairRight, fieldsRight, withinCeilings, held, keyRight, headerOf, checksumRight, headerSays}
 use Rattle.lerc_ranges.specs.declared.Ranges.{Ranges}
 use Rattle.lerc_validity.specs.Validity.{new, uniform, maskIn}
 use Rattle.lerc_ranges.specs.Ranges.{numberAt, byDepth, codedRanges, pairsRight, rangesSays, readRangesSays}
@@ -83,7 +84,7 @@ example = record {
 
 pub opened : Opened example
 unfolding bytesOf wordAt little each from count allTo mag code sum countedSum scaled less same lesser integer valueOf whole cut sampleAt stored offsetKinds offsetKind pixelValid strips errorRight pairRight
-    fieldsRight withinCeilings held keyRight headerOf headerSays uniform maskIn numberAt byDepth codedRanges pairsRight rangesSays readRangesSays levelBlock
+    fieldsRight withinCeilings held keyRight headerOf word fold sumsTo closedTo withLast joined checksum checksumRight headerSays uniform maskIn numberAt byDepth codedRanges pairsRight rangesSays readRangesSays levelBlock
     offsetAt finiteOffset offsetBlock formed flagAt blockSays tileOf pixelOf rank blockAt chain moded sweepByte swept blockBody sweptBody bodySays meaningFrom meaning size span climb
 opened = record {
   means = refl;

@@ -6,8 +6,8 @@ use mathlib.Core.List.{List, [], _∷_}
 use Prim.Native.Nat.{ℕ, zero, suc, _+_, _-_, _*_, _%_, _≤_, _<_}
 use native.Mathlib.Nat.{mul-le-mul-right, suc-mul, zero-add, suc-add}
 use native.Mathlib.Omega.{arith}
-use lib.ListN.{length, getD, take, drop, replicate}
-use lib.Seq.{getD-take, take-take, take-nil}
+use lib.ListN.{length, getD, take, drop, replicate, length-drop}
+use lib.Seq.{getD-drop, take-nil}
 use lib.Dec.{leb, ltb, eqb}
 use borrow.Author.Tests.{le-leb, ltb-true, eqb-false}
 use Rattle.lerc_words.specs.Res.{ok, _>>=_, marked, require, each, little, wordAt}
@@ -15,7 +15,7 @@ use Rattle.lerc_words.specs.Lists.{tabulate}
 use Rattle.lerc_words.proofs.Binding.{bind-is, require-is, ok-is}
 use Rattle.lerc_words.proofs.Marking.{marked-ok, marked-is}
 use Rattle.lerc_words.proofs.Little.{Stays, little-same, wordAt-is, wordAt-ok}
-use Rattle.lerc_words.proofs.Tables.{tabulate-same}
+use Rattle.lerc_words.proofs.Tables.{tabulate-same, take-tabulate}
 use Rattle.lerc_numeric.specs.Numeric.{same}
 use Rattle.lerc_numeric.specs.Kinds.{typeSize, valueOf}
 use Rattle.lerc_numeric.specs.Steps.{stepOf}
@@ -44,13 +44,6 @@ use Rattle.lerc_theorems.proofs.Bodies.{placeOf, sweep-is, swept-in, ju
 pub record Agree (s t : List ℕ) (j k : ℕ) : Type 0 where
   pub bytes : (i : ℕ) → j ≤ i → i < k → getD s i 0 ≡ getD t i 0
   pub room : k ≤ length t
-
--- as they do where their first k bytes are the same
-pub front-agrees : (s t : List ℕ) (k : ℕ) → take k s ≡ take k t → k ≤ length t → Agree s t 0 k
-front-agrees s t k e r = record {
-  bytes = λ i o l. sym (getD-take k s i 0 l) ∙ ap (λ (x : List ℕ). getD x i 0) e ∙ getD-take k t i 0 l;
-  room = r;
-}
 
 module _ {s t : List ℕ} {j k : ℕ} (a : Agree s t j k) where
   pub little-agrees : (n at : ℕ) → j ≤ at → at + n ≤ k → little n s at ≡ little n t at
@@ -221,7 +214,20 @@ module _ {s t : List ℕ} {j k : ℕ} (a : Agree s t j k) where
     unfolding codedRanges
     coded-agrees o l = rw (depth-agrees (rangesAt h) (h .min) o (omega arith), depth-agrees (maximaAt h) (h .max) (omega arith) (omega arith))
 
-module _ {s t : List ℕ} {k : ℕ} (a : Agree s t 0 k) where
+-- ranges stand behind the header, and so does what follows them
+ranges-behind : (s : List ℕ) (h : Header) (r : Ranges) → rangesSays s h ≡ ok r → headerBytes ≤ r .at
+unfolding rangesSays uniformRanges codedRanges
+ranges-behind s h r = go (same (h .min) (h .max))
+  where
+    go : (x : Bool) → cond x (ok (uniformRanges h)) (judged s h) ≡ ok r → headerBytes ≤ r .at
+    go true e =
+        let z : rangesAt h ≡ r .at = ap (λ (x : Ranges). x .at) (ok-is e) in
+        omega (arith, z)
+    go false e =
+        let z : rangesEnd h ≡ r .at = ap (λ (x : Ranges). x .at) (judged-is s h r e .is) in
+        omega (arith, z)
+
+module _ {s t : List ℕ} {k : ℕ} (a : Agree s t headerBytes k) where
   module _ (h : Header) where
     pub ranges-agrees : (r : Ranges) → r .at ≤ k → rangesSays s h ≡ ok r → rangesSays t h ≡ ok r
     unfolding rangesSays codedRanges
@@ -247,31 +253,31 @@ module _ {s t : List ℕ} {k : ℕ} (a : Agree s t 0 k) where
           let z : r .at ≡ endOf y = ap endOf (ok-is e) in
           omega (arith, z)
 
-      from-agrees : (r : Ranges) (w : Way) → placeOf w ≤ length s → bodyFrom s h r m w ≡ ok y → (placeOf w ≤ k) × (bodyFrom t h r m w ≡ ok y)
+      from-agrees : (r : Ranges) (w : Way) → headerBytes ≤ placeOf w → placeOf w ≤ length s → bodyFrom s h r m w ≡ ok y → (placeOf w ≤ k) × (bodyFrom t h r m w ≡ ok y)
       unfolding rawBody blockBody
-      from-agrees r (rawFrom at) o e =
+      from-agrees r (rawFrom at) f o e =
           let words = rawWords s at (h .kind) (h .valid * h .depth) in
           let (b, p, e) = bind-is (marked (missingWordAt (length s) at (h .kind)) words) _ e in
           let p = marked-is _ words p in
           let z : b .next ≡ endOf y = ap endOf (ok-is e) in
           (omega (arith, raw-next a at (h .kind) (h .valid * h .depth) b p, z), rw (raw-agrees a at (h .kind) (h .valid * h .depth) b p (omega arith) (omega (arith, z))) e)
-      from-agrees r (blocksFrom at) o e =
+      from-agrees r (blocksFrom at) f o e =
           let (c, p, e) = bind-is (allBlocks s h (r .max) m at) _ e in
           let z : c .end ≡ endOf y = ap endOf (ok-is e) in
           let i = chain-in s h (r .max) m (blockCount (shapeOf h)) 0 at c o p in
           (omega (arith, i .0, z), rw (chain-agrees a h (r .max) m (blockCount (shapeOf h)) 0 at c (omega arith) (omega (arith, z)) p) e)
 
-      swept-agrees : (r : Ranges) → sweptBody s h r m ≡ ok y → (r .at ≤ k) × (sweptBody t h r m ≡ ok y)
+      swept-agrees : (r : Ranges) → headerBytes ≤ r .at → sweptBody s h r m ≡ ok y → (r .at ≤ k) × (sweptBody t h r m ≡ ok y)
       unfolding sweptBody
-      swept-agrees r e =
+      swept-agrees r f e =
           let (w, p, e) = bind-is (swept s (h .kind) (h .error) (r .at)) _ e in
           let d = swept-in s (h .kind) (h .error) (r .at) w p in
-          let (z, e) = from-agrees r w (d .1) e in
+          let (z, e) = from-agrees r w (omega (arith, d .0)) (d .1) e in
           (omega (arith, z, d .0), rw (sweep-agrees a (h .kind) (h .error) (r .at) w (omega arith) z p) e)
 
-      behind : (r : Ranges) (x : Bool) → cond x (constantBody h r) (sweptBody s h r m) ≡ ok y → (r .at ≤ k) × (cond x (constantBody h r) (sweptBody t h r m) ≡ ok y)
-      behind r true e = (constant-agrees r e, e)
-      behind r false e = swept-agrees r e
+      behind : (r : Ranges) → headerBytes ≤ r .at → (x : Bool) → cond x (constantBody h r) (sweptBody s h r m) ≡ ok y → (r .at ≤ k) × (cond x (constantBody h r) (sweptBody t h r m) ≡ ok y)
+      behind r f true e = (constant-agrees r e, e)
+      behind r f false e = swept-agrees r f e
 
       pub body-agrees : bodySays s h m ≡ ok y → bodySays t h m ≡ ok y
       unfolding bodySays
@@ -282,21 +288,24 @@ module _ {s t : List ℕ} {k : ℕ} (a : Agree s t 0 k) where
           go true e = e
           go false e =
               let (r, p, e) = bind-is (rangesSays s h) _ e in
-              let (z, e) = behind r (r .constant) e in
+              let (z, e) = behind r (ranges-behind s h r p) (r .constant) e in
               rw (ranges-agrees r z p) e
 
 -- ---- the mask section
 
-take-drop : (n m : ℕ) (l : List ℕ) → take m (drop n l) ≡ drop n (take (n + m) l)
+pub take-drop : (n m : ℕ) (l : List ℕ) → take m (drop n l) ≡ drop n (take (n + m) l)
 take-drop zero m l = rw (zero-add)
 take-drop (suc n) m [] = rw (take-nil m, take-nil (suc n + m))
 take-drop (suc n) m (x ∷ xs) = rw (suc-add n m) (take-drop n m xs)
 
-module _ (s t : List ℕ) (k : ℕ) (front : take k s ≡ take k t) where
-  section-agrees : (n m : ℕ) → n + m ≤ k → take m (drop n s) ≡ take m (drop n t)
-  section-agrees n m l =
-      take-drop n m s ∙ ap (drop n) (sym (take-take (n + m) k s l) ∙ ap (take (n + m)) front ∙ take-take (n + m) k t l) ∙ sym (take-drop n m t)
+-- a section in which two slices agree
+pub section-same : (s t : List ℕ) (n m : ℕ) → n + m ≤ length s → n + m ≤ length t → ((i : ℕ) → n ≤ i → i < n + m → getD s i 0 ≡ getD t i 0) → take m (drop n s) ≡ take m (drop n t)
+section-same s t n m p q same =
+    take-tabulate m (drop n s) (rw (length-drop n s) (omega arith))
+    ∙ tabulate-same m _ _ (λ i l. getD-drop n s i 0 ∙ same (n + i) (omega arith) (omega arith) ∙ sym (getD-drop n t i 0))
+    ∙ sym (take-tabulate m (drop n t) (rw (length-drop n t) (omega arith)))
 
+module _ {s t : List ℕ} {k : ℕ} (a : Agree s t headerBytes k) (long : k ≤ length s) where
   -- where there is no valid pixel it is not looked at
   pub mask-agrees : (h : Header) (reuse : Bool) (old : List ℕ) → ((h .valid ≡ 0 → ⊥) → rangesAt h ≤ k) → maskSays s h reuse old ≡ maskSays t h reuse old
   unfolding maskIn unrolled
@@ -306,4 +315,6 @@ module _ (s t : List ℕ) (k : ℕ) (front : take k s ≡ take k t) where
           → cond x (uniform h 0) (cond (eqb (h .valid) (pixels (shapeOf h))) (uniform h 255) (cond (eqb (h .mask) 0) (kept h reuse old) (unrolled s h)))
           ≡ cond x (uniform h 0) (cond (eqb (h .valid) (pixels (shapeOf h))) (uniform h 255) (cond (eqb (h .mask) 0) (kept h reuse old) (unrolled t h)))
       go true e = refl
-      go false e = rw (section-agrees headerBytes (h .mask) (f (eqb-false (h .valid) 0 e)))
+      go false e =
+          let l : headerBytes + h .mask ≤ k = f (eqb-false (h .valid) 0 e) in
+          rw (section-same s t headerBytes (h .mask) (omega arith) (omega (arith, a .room)) (λ i o r. a .bytes i o (omega arith)))

@@ -9,7 +9,7 @@ use Rattle.lerc_header.specs.declared.Header.{Header}
 use Rattle.lerc_ranges.specs.declared.Ranges.{Ranges}
 use Rattle.lerc.specs.Read.{Lent}
 use Rattle.lerc_theorems.specs.BlockTable.{At, at-place, WordRefused, word-wide, word-cut, SampleRefused, sample-cut, StoredRefused, not-finite, out-of-range, IntegerRefused, no-integer, not-stored, KindRefused, no-kind, ConstantsRefused, not-constant, TabledRefused, no-bits, entries-cut, entries-few, table-cut, PackedRefused, plain-cut, not-tabled, PlanRefused, counts-cut, width-wrong, count-cut, count-large, packed-refused, CountsRefused, not-planned, index-large, LevelsRefused, level-refused, counts-refused, miscounted-block, value-refused, OffsetRefused, kind-refused, offset-cut, offset-not-finite, levels-refused, BlockRefused, flag-cut, check-wrong, raw-cut, offset-refused, ReadBlockRefused, tile-large, not-read, PlannedRefused, plan-loose, planned-index, OffsetPlanRefused, plan-kind, plan-offset-cut, plan-not-finite, plan-counts, BlockPlanRefused, plan-tile-large, plan-flag-cut, plan-check-wrong, plan-raw-cut, plan-offset}
-use Rattle.lerc_theorems.specs.Table.{HeldRefused, field-wrong, ceiling-passed, blob-cut, HeaderRefused, header-cut, key-wrong, not-held, RunsRefused, runs-room, runs-breach, FindRefused, find-room, section-cut, find-wrong, PrepareRefused, mask-held, mask-room, mask-wrong, RangesRefused, ranges-cut, minimum-wrong, maximum-wrong, RangesInRefused, depths-many, ranges-not-in, ReadRangesRefused, ranges-held, ranges-wrong, PairsRefused, pair-wrong, ModeRefused, mode-cut, mode-wrong, mode-coded, SweepRefused, sweep-cut, sweep-wrong, mode-refused, ChainRefused, block-refused, WalkBodyRefused, walk-sweep, walk-raw, walk-blocks, WalkRefused, walk-held, walk-room, walk-pairs, walk-other, walk-body, FillRefused, fill-held, fill-number, fill-room, fill-pairs, fill-block, CheckRefused, check-held, check-room, check-blocks, TilesRefused, tiles-held, tiles-room, tiles-blocks, BodyRefused, body-ranges, body-constant, body-sweep, body-raw, body-blocks, WholeRefused, whole-header, whole-room, whole-mask, whole-body}
+use Rattle.lerc_theorems.specs.Table.{HeldRefused, field-wrong, ceiling-passed, blob-cut, HeaderRefused, header-cut, key-wrong, not-held, checksum-wrong, RunsRefused, runs-room, runs-breach, FindRefused, find-room, section-cut, find-wrong, PrepareRefused, mask-held, mask-room, mask-wrong, RangesRefused, ranges-cut, minimum-wrong, maximum-wrong, RangesInRefused, depths-many, ranges-not-in, ReadRangesRefused, ranges-held, ranges-wrong, PairsRefused, pair-wrong, ModeRefused, mode-cut, mode-wrong, mode-coded, SweepRefused, sweep-cut, sweep-wrong, mode-refused, ChainRefused, block-refused, WalkBodyRefused, walk-sweep, walk-raw, walk-blocks, WalkRefused, walk-held, walk-room, walk-pairs, walk-other, walk-body, FillRefused, fill-held, fill-number, fill-room, fill-pairs, fill-block, CheckRefused, check-held, check-room, check-blocks, TilesRefused, tiles-held, tiles-room, tiles-blocks, BodyRefused, body-ranges, body-constant, body-sweep, body-raw, body-blocks, WholeRefused, whole-header, whole-room, whole-mask, whole-body}
 
 module _ (P : ℕ → Type 0) where
   -- wherever it is told
@@ -102,10 +102,11 @@ module _ (P : ℕ → Type 0) where
   held-in one three four (ceiling-passed f c) = four
   held-in one three four (blob-cut f c l) = one
 
-  pub header-in : {why : Refusal} {b : List ℕ} → P 1 → P 2 → P 3 → P 4 → HeaderRefused b why → P (why .number)
-  header-in one two three four (header-cut l) = one
-  header-in one two three four (key-wrong l k) = two
-  header-in one two three four (not-held l k r) = held-in one three four r
+  pub header-in : {why : Refusal} {b : List ℕ} → P 1 → P 2 → P 3 → P 4 → P 13 → HeaderRefused b why → P (why .number)
+  header-in one two three four thirteen (header-cut l) = one
+  header-in one two three four thirteen (key-wrong l k) = two
+  header-in one two three four thirteen (not-held l k r) = held-in one three four r
+  header-in one two three four thirteen (checksum-wrong l k r w) = thirteen
 
   pub runs-in : {why : Refusal} {s : List ℕ} {count valid room : ℕ} → P 5 → P 6 → RunsRefused s count valid room why → P (why .number)
   runs-in five six (runs-room l) = five
@@ -186,8 +187,8 @@ module _ (P : ℕ → Type 0) where
   body-in one seven eight nine ten (body-raw r at k v d c w l u o) = one
   body-in one seven eight nine ten (body-blocks r at v d c w k) = chain-in one eight nine k
 
-  pub whole-in : {why : Refusal} {b : List ℕ} {reuse : Bool} {l : Lent} → P 1 → P 2 → P 3 → P 4 → P 5 → P 6 → P 7 → P 8 → P 9 → P 10 → WholeRefused b reuse l why → P (why .number)
-  whole-in one two three four five six seven eight nine ten (whole-header r) = header-in one two three four r
-  whole-in one two three four five six seven eight nine ten (whole-room h d t) = five
-  whole-in one two three four five six seven eight nine ten (whole-mask h d t w) = six
-  whole-in one two three four five six seven eight nine ten (whole-body k d r) = body-in one seven eight nine ten r
+  pub whole-in : {why : Refusal} {b : List ℕ} {reuse : Bool} {l : Lent} → P 1 → P 2 → P 3 → P 4 → P 5 → P 6 → P 7 → P 8 → P 9 → P 10 → P 13 → WholeRefused b reuse l why → P (why .number)
+  whole-in one two three four five six seven eight nine ten thirteen (whole-header r) = header-in one two three four thirteen r
+  whole-in one two three four five six seven eight nine ten thirteen (whole-room h d t) = five
+  whole-in one two three four five six seven eight nine ten thirteen (whole-mask h d t w) = six
+  whole-in one two three four five six seven eight nine ten thirteen (whole-body k d r) = body-in one seven eight nine ten r

@@ -18,14 +18,14 @@ use Rattle.lerc_numeric.specs.Kinds.{typeSize}
 use Rattle.lerc_header.specs.declared.Header.{Header}
 use Rattle.lerc_header.specs.declared.Extent.{Extent}
 use Rattle.lerc_header.specs.Limits.{depthLimit}
-use Rattle.lerc_header.specs.Header.{headerBytes, rangesAt, shapeOf, extentOf, pairRight, fieldsRight, withinCeilings, keyRight, headerOf, held, headerSays}
+use Rattle.lerc_header.specs.Header.{headerBytes, rangesAt, shapeOf, extentOf, pairRight, fieldsRight, withinCeilings, keyRight, headerOf, held, checksumRight, headerSays}
 use Rattle.lerc_header.specs.Shape.{pixels, maskLength}
 use Rattle.lerc_header.proofs.Kept.{held-is}
 use Rattle.lerc_mask.specs.Mask.{validBelow, coded, maskField}
 use Rattle.lerc_mask.proofs.Runs.{coded-six}
 use Rattle.lerc_validity.specs.Validity.{uniform, kept, unrolled, maskIn, maskSays, findSays, prepareSays}
 use Rattle.lerc_ranges.specs.Ranges.{maximaAt, rangesEnd, codedRanges, pairsRight, wrongNumberAt, rangesSays, rangesInSays, readRangesSays}
-use Rattle.lerc_theorems.specs.Table.{PairWrong, low-not-finite, high-not-finite, crossed, pair-at, FirstAt, HeldRight, HeldRefused, field-wrong, ceiling-passed, blob-cut, HeaderRefused, header-cut, key-wrong, not-held, UniformMask, MaskWrong, uniform-coded, not-allowed, miscounted, runs-wrong, FindRefused, find-room, section-cut, find-wrong, PrepareRefused, mask-held, mask-room, mask-wrong, RangesRefused, ranges-cut, minimum-wrong, maximum-wrong, RangesInRefused, depths-many, ranges-not-in, ReadRangesRefused, ranges-held, ranges-wrong}
+use Rattle.lerc_theorems.specs.Table.{PairWrong, low-not-finite, high-not-finite, crossed, pair-at, FirstAt, HeldRight, HeldRefused, field-wrong, ceiling-passed, blob-cut, ChecksumWrong, HeaderRefused, header-cut, key-wrong, not-held, checksum-wrong, UniformMask, MaskWrong, uniform-coded, not-allowed, miscounted, runs-wrong, FindRefused, find-room, section-cut, find-wrong, PrepareRefused, mask-held, mask-room, mask-wrong, RangesRefused, ranges-cut, minimum-wrong, maximum-wrong, RangesInRefused, depths-many, ranges-not-in, ReadRangesRefused, ranges-held, ranges-wrong}
 use Rattle.lerc_theorems.proofs.Masks.{coded-wrong, wrong-coded}
 use Rattle.lerc_theorems.proofs.Wrong.{high-wrong, not-pairs, first-at, at-first, fields-not, not-fields, ceilings-not, not-ceilings}
 use Rattle.lerc_theorems.proofs.Demands.{demand, demand-at, reading, reading-one, choosing, not-refused, and-not, and-first, and-second}
@@ -66,19 +66,29 @@ module _ (h : Header) (len : ℕ) where
   holding P {j} k e f g = reading P (held h len) k e (λ d. f (held-refused d)) (λ x d e. g (held-right d) (subst (λ y. k y ≡ fail j) (held-is h len d) e))
 
 module _ (b : List ℕ) where
+  checksum-not : (size : ℕ) → checksumRight b size ≡ false → ChecksumWrong b size
+  unfolding checksumRight
+  checksum-not size e = eqb-false _ _ e
+
+  not-checksum : (size : ℕ) → ChecksumWrong b size → checksumRight b size ≡ false
+  unfolding checksumRight
+  not-checksum size w = ne-eqb _ _ w
+
   header-refused : {n : Refusal} → headerSays b ≡ fail n → HeaderRefused b n
   unfolding headerSays
   header-refused e =
       let P = HeaderRefused b in
       demand P (leb headerBytes (length b)) 1 _ e (λ t. header-cut (leb-false _ _ t)) (λ l e.
       demand P (keyRight b) 2 _ e (key-wrong (leb-true _ _ l)) (λ k e.
-      reading P (held (headerOf b) (length b)) _ e (λ d. not-held (leb-true _ _ l) k (held-refused (headerOf b) (length b) d)) (λ x d e. not-refused e)))
+      reading P (held (headerOf b) (length b)) _ e (λ d. not-held (leb-true _ _ l) k (held-refused (headerOf b) (length b) d)) (λ x d e.
+      demand P (checksumRight b (headerOf b .size)) 13 _ e (λ t. checksum-wrong (leb-true _ _ l) k (held-right (headerOf b) (length b) d) (checksum-not (headerOf b .size) t)) (λ t e. not-refused e))))
 
   refused-header : {n : Refusal} → HeaderRefused b n → headerSays b ≡ fail n
   unfolding headerSays
   refused-header (header-cut l) = rw (lt-leb _ _ l)
   refused-header (key-wrong l k) = rw (le-leb _ _ l, k)
   refused-header (not-held l k r) = rw (le-leb _ _ l, k, refused-held (headerOf b) (length b) r)
+  refused-header (checksum-wrong l k r w) = rw (le-leb _ _ l, k, right-held (headerOf b) (length b) r, not-checksum (headerOf b .size) w)
 
   pub header-exactly : (n : Refusal) → (headerSays b ≡ fail n) ↔ HeaderRefused b n
   header-exactly n = (header-refused, refused-header)

@@ -3,18 +3,19 @@
 use mathlib.Core.Path.{_≡_, _∙_, sym, ap, refl}
 use mathlib.Core.Bool.{Bool, true, false}
 use mathlib.Core.List.{List}
-use Prim.Native.Nat.{ℕ, _+_, _≤_, _<_, min}
+use Prim.Native.Nat.{ℕ, _+_, _-_, _≤_, _<_, min}
 use native.Mathlib.Decide.{decLt}
 use native.Mathlib.Omega.{arith}
-use lib.ListN.{length, take, length-take}
+use lib.ListN.{length, getD, take, drop, length-take}
 use lib.Seq.{length-take-le, take-all, take-take, getD-take}
+use lib.Dec.{leb}
 use borrow.Author.Tests.{le-leb, leb-true}
 use Rattle.lerc_words.specs.Res.{Res, ok, fail, _>>=_, require, little}
-use Rattle.lerc_words.proofs.Binding.{bind-is, ok-is, and-is}
+use Rattle.lerc_words.proofs.Binding.{bind-is, ok-is, and-is, require-is}
 use Rattle.lerc_words.proofs.Little.{little-same}
 use Rattle.lerc_header.specs.declared.Header.{Header}
 use Rattle.lerc_header.specs.Shape.{cells, maskLength, blockCount}
-use Rattle.lerc_header.specs.Header.{shapeOf, headerBytes, rangesAt, keyRight, extentOf, held, headerOf, headerSays}
+use Rattle.lerc_header.specs.Header.{shapeOf, headerBytes, rangesAt, keyRight, extentOf, held, headerOf, checksumRight, headerSays}
 use Rattle.lerc_header.proofs.Kept.{header-held, held-shaped, held-size, held-pair}
 use Rattle.lerc_ranges.specs.declared.Ranges.{Ranges}
 use Rattle.lerc_ranges.specs.Ranges.{rangesSays}
@@ -24,8 +25,9 @@ use Rattle.lerc_validity.specs.Validity.{MaskInForce, bytesOf, kept as keptMask
 use Rattle.lerc.specs.Meaning.{Meaning, endOf, bodySays, meaningFrom, meaning}
 use Rattle.lerc.specs.Read.{Lent, room, Masked, masked, readSays}
 use Rattle.lerc_theorems.specs.DemandTwo.{Roomy}
+use Rattle.lerc_theorems.specs.Unread.{SameWithin}
 use Rattle.lerc_theorems.proofs.Bodies.{body-ends, body-behind}
-use Rattle.lerc_theorems.proofs.Front.{Agree, front-agrees, body-agrees, mask-agrees}
+use Rattle.lerc_theorems.proofs.Front.{take-drop, Agree, body-agrees, mask-agrees}
 
 -- ---- its parts
 
@@ -143,6 +145,13 @@ module _ (b : List ℕ) (k : ℕ) where
   unfolding keyRight
   key-front l = rw (little-front 6 0 (omega arith), little-front 4 6 (omega arith))
 
+  -- what is summed lies below the size, and the checksum in the header
+  checksum-front : (size : ℕ) → headerBytes ≤ k → size ≤ k → checksumRight b size ≡ checksumRight (take k b) size
+  unfolding checksumRight
+  checksum-front size few l =
+      let summed : take (size - 14) (drop 14 b) ≡ take (size - 14) (drop 14 (take k b)) = take-drop 14 (size - 14) b ∙ ap (drop 14) (sym (take-take (14 + (size - 14)) k b (omega arith))) ∙ sym (take-drop 14 (size - 14) (take k b)) in
+      rw (little-front 4 10 (omega arith), summed)
+
 -- a header is held alike by any two slices that are long enough
 pub held-any : (h : Header) (n m : ℕ) → h .size ≤ n → h .size ≤ m → held h n ≡ held h m
 unfolding held
@@ -155,20 +164,24 @@ module _ (b c : List ℕ) (n : ℕ) (few : headerBytes ≤ n) (same : take n b �
   key-same : keyRight b ≡ keyRight c
   key-same = key-front b n few ∙ ap keyRight same ∙ sym (key-front c n few)
 
+  checksum-same : (size : ℕ) → size ≤ n → checksumRight b size ≡ checksumRight c size
+  checksum-same size l = checksum-front b n size few l ∙ ap (λ (s : List ℕ). checksumRight s size) same ∙ sym (checksum-front c n size few l)
+
   pub part-same : (k : ℕ) → k ≤ n → take k b ≡ take k c
   part-same k l = sym (take-take k n b l) ∙ ap (take k) same ∙ take-take k n c l
 
   long-same : min n (length b) ≡ min n (length c)
   long-same = sym (length-take n b) ∙ ap length same ∙ length-take n c
 
-  says-same : headerBytes ≤ length b → headerBytes ≤ length c → headerOf b .size ≤ length b → headerOf b .size ≤ length c → headerSays b ≡ headerSays c
+  says-same : headerBytes ≤ length b → headerBytes ≤ length c → headerOf b .size ≤ length b → headerOf b .size ≤ length c → headerOf b .size ≤ n → headerSays b ≡ headerSays c
   unfolding headerSays
-  says-same x y p q =
+  says-same x y p q size =
       rw (
         le-leb headerBytes (length b) x,
         le-leb headerBytes (length c) y,
         key-same,
         held-any (headerOf b) (length b) (length c) p q,
+        checksum-same (headerOf b .size) size,
         header-same,
       )
 
@@ -181,7 +194,7 @@ module _ (b c : List ℕ) (n : ℕ) (few : headerBytes ≤ n) (same : take n b �
           ap headerSays z
       go (no l) =
           let q : n ≤ length c = omega (arith, long-same) in
-          says-same (omega arith) (omega arith) (omega arith) (omega arith)
+          says-same (omega arith) (omega arith) (omega arith) (omega arith) size
 
   module _ (size : headerOf b .size ≤ n) (reuse : Bool) (kept : List ℕ) where
     from-header : (x : Res Header) → headerSays b ≡ x → headerSays c ≡ x → meaning b reuse kept ≡ meaning c reuse kept
@@ -195,10 +208,60 @@ module _ (b c : List ℕ) (n : ℕ) (few : headerBytes ≤ n) (same : take n b �
     pub meaning-same : meaning b reuse kept ≡ meaning c reuse kept
     meaning-same = from-header (headerSays c) (header-alike size) refl
 
--- ---- and the bytes behind the end, which it does not depend on
+-- ---- a header's own bytes
+
+module _ (b c : List ℕ) (key-bytes : SameWithin 0 10 b c) (field-bytes : SameWithin 14 headerBytes b c) where
+  key-own : (n at : ℕ) → at + n ≤ 10 → little n b at ≡ little n c at
+  key-own n at l = little-same n b c at at (λ i r. key-bytes (at + i) (omega arith) (omega arith))
+
+  field-own : (n at : ℕ) → 14 ≤ at → at + n ≤ headerBytes → little n b at ≡ little n c at
+  field-own n at o l = little-same n b c at at (λ i r. field-bytes (at + i) (omega arith) (omega arith))
+
+  key-as : keyRight b ≡ keyRight c
+  unfolding keyRight
+  key-as = rw (key-own 6 0 (omega arith), key-own 4 6 (omega arith))
+
+  fields-as : headerOf b ≡ headerOf c
+  unfolding headerOf
+  fields-as =
+      rw (
+        field-own 4 14 (omega arith) (omega arith),
+        field-own 4 18 (omega arith) (omega arith),
+        field-own 4 22 (omega arith) (omega arith),
+        field-own 4 26 (omega arith) (omega arith),
+        field-own 4 30 (omega arith) (omega arith),
+        field-own 4 34 (omega arith) (omega arith),
+        field-own 4 38 (omega arith) (omega arith),
+        field-own 8 42 (omega arith) (omega arith),
+        field-own 8 50 (omega arith) (omega arith),
+        field-own 8 58 (omega arith) (omega arith),
+        field-own 4 66 (omega arith) (omega arith),
+      )
+
+  pub header-other : (h : Header) → h .size ≤ length c → checksumRight c (h .size) ≡ true → headerSays b ≡ ok h → headerSays c ≡ ok h
+  unfolding headerSays
+  header-other h long summed e =
+      let (is, kept) = header-held b h e in
+      let (_, _, e) = bind-is (require (leb headerBytes (length b)) 1) _ e in
+      let (_, k, _) = bind-is (require (keyRight b) 2) _ e in
+      let size = held-size h (length b) kept in
+      let same : headerOf c ≡ h = sym fields-as ∙ sym is in
+      let held-c : held h (length c) ≡ ok (extentOf h) = sym (held-any h (length b) (length c) (size .1) long) ∙ kept in
+      let key-c : keyRight c ≡ true = sym key-as ∙ require-is (keyRight b) 2 k in
+      let few : headerBytes ≤ length c = omega (arith, size .0) in
+      rw (le-leb headerBytes (length c) few, key-c, same, held-c, summed)
+
+-- in the slices cut at the size
+pub cut : (n : ℕ) (b c : List ℕ) {j k : ℕ} → k ≤ n → SameWithin j k b c → SameWithin j k (take n b) (take n c)
+cut n b c l same i o r = let z : i < n = omega arith in getD-take n b i 0 z ∙ same i o r ∙ sym (getD-take n c i 0 z)
+
+pub agree : (n : ℕ) (b c : List ℕ) → n ≤ length c → {j k : ℕ} → k ≤ n → SameWithin j k b c → Agree (take n b) (take n c) j k
+agree n b c long l same = record { bytes = cut n b c l same; room = rw (length-take n c) (omega arith) }
+
+-- ---- and the bytes behind the end, on which it depends by the checksum alone
 
 module _ (b : List ℕ) (reuse : Bool) (kept : List ℕ) (m : Meaning) (k : Means b reuse kept m) where
-  module _ (c : List ℕ) (same : take (endOf (m .body)) b ≡ take (endOf (m .body)) c) (long : m .header .size ≤ length c) where
+  module _ (c : List ℕ) (key-bytes : SameWithin 0 10 b c) (same : SameWithin 14 (endOf (m .body)) b c) (long : m .header .size ≤ length c) (summed : checksumRight c (m .header .size) ≡ true) where
     abbrev s : List ℕ
     s = take (m .header .size) b
 
@@ -208,23 +271,15 @@ module _ (b : List ℕ) (reuse : Bool) (kept : List ℕ) (m : Meaning) (k : Mean
     end : (headerBytes ≤ endOf (m .body)) × (endOf (m .body) ≤ m .header .size) × (m .header .size ≤ length b)
     end = ends b reuse kept m k
 
-    front : take (endOf (m .body)) s ≡ take (endOf (m .body)) t
-    front =
-        let e = endOf (m .body) in
-        let n = m .header .size in
-        take-take e n b (end .1) ∙ same ∙ sym (take-take e n c (end .1))
-
-    agree : Agree s t 0 (endOf (m .body))
-    agree = front-agrees s t (endOf (m .body)) front (rw (length-take (m .header .size) c) (omega (arith, end .1)))
+    behind : Agree s t headerBytes (endOf (m .body))
+    behind = agree (m .header .size) b c long (end .1) (λ i o l. same i (omega arith) l)
 
     header-as : headerSays c ≡ ok (m .header)
-    header-as =
-        let z : m .header .size ≡ headerOf b .size = ap (λ (h : Header). h .size) (header-held b (m .header) (k .header) .0) in
-        sym (says-same b c (endOf (m .body)) (end .0) same (omega (arith, end)) (omega (arith, end)) (omega (arith, end, z)) (omega (arith, z))) ∙ k .header
+    header-as = header-other b c key-bytes (λ i o l. same i o (omega (arith, end .0))) (m .header) long summed (k .header)
 
     pub means-front : Means c reuse kept m
     means-front = record {
       header = header-as;
-      mask = sym (mask-agrees s t (endOf (m .body)) front (m .header) reuse kept (λ v. body-behind s (m .header) (bytesOf (m .mask)) (m .body) (pairs-kept b reuse kept m k) v (k .body))) ∙ k .mask;
-      body = body-agrees agree (m .header) (bytesOf (m .mask)) (m .body) (omega arith) (k .body);
+      mask = sym (mask-agrees behind (rw (length-take (m .header .size) b) (omega (arith, end))) (m .header) reuse kept (λ v. body-behind s (m .header) (bytesOf (m .mask)) (m .body) (pairs-kept b reuse kept m k) v (k .body))) ∙ k .mask;
+      body = body-agrees behind (m .header) (bytesOf (m .mask)) (m .body) (omega arith) (k .body);
     }

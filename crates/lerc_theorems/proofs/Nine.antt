@@ -23,7 +23,7 @@ use Rattle.lerc_samples.proofs.Storable.{Storable, held-storable, storable-floa
 use Rattle.lerc_header.specs.declared.Header.{Header}
 use Rattle.lerc_header.specs.Limits.{depthLimit}
 use Rattle.lerc_header.specs.Shape.{pixels, maskLength, blockCount, Shaped}
-use Rattle.lerc_header.specs.Header.{shapeOf, headerBytes, rangesAt, keyRight, fieldsRight, withinCeilings, errorRight, extentOf, held, headerOf, headerSays}
+use Rattle.lerc_header.specs.Header.{shapeOf, headerBytes, rangesAt, keyRight, fieldsRight, withinCeilings, errorRight, extentOf, held, headerOf, checksumRight, headerSays}
 use Rattle.lerc_header.proofs.Kept.{header-held, held-shaped, held-kept}
 use Rattle.lerc_mask.specs.Mask.{validBelow, coded, maskField}
 use Rattle.lerc_mask.proofs.Runs.{coded-six}
@@ -224,7 +224,7 @@ header-spared b =
     (never-if (fieldsRight (headerOf b)) 3 _ refl
     (λ _. never-if (withinCeilings (headerOf b)) 4 _ refl
     (λ _. never-if (leb (headerOf b .size) (length b)) 1 _ refl (λ _. never-ok _))))
-    (λ _. never-ok _)))
+    (λ _. never-if (checksumRight b (headerOf b .size)) 13 _ refl (λ _. never-ok _))))
 
 mask-spared : (s : List ℕ) (h : Header) (reuse : Bool) (old : List ℕ) → NeverNine (maskSays s h reuse old)
 unfolding maskIn uniform kept unrolled

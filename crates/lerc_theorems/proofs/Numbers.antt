@@ -193,8 +193,8 @@ numbers-only = record {
   decode-counts = λ k a r x p n e. at-in (In (1 ∷ 8 ∷ [])) (λ j. counts-in (In (1 ∷ 8 ∷ [])) refl refl) (places-exactly .decode-counts k a r x p n .0 e);
   check-counts = λ k a r x p n e. at-in (In (1 ∷ 8 ∷ [])) (λ j. counts-in (In (1 ∷ 8 ∷ [])) refl refl) (places-exactly .check-counts k a r x p n .0 e);
   held = λ k a r x p n e. held-in (In (1 ∷ 3 ∷ 4 ∷ [])) refl refl refl (places-exactly .held k a r x p n .0 e);
-  open-blob = λ k a r x p n e. header-in (In (1 ∷ 2 ∷ 3 ∷ 4 ∷ [])) refl refl refl refl (places-exactly .open-blob k a r x p n .0 e);
-  read-header = λ k a r x p n e. header-in (In (1 ∷ 2 ∷ 3 ∷ 4 ∷ [])) refl refl refl refl (places-exactly .read-header k a r x p n .0 e);
+  open-blob = λ k a r x p n e. header-in (In (1 ∷ 2 ∷ 3 ∷ 4 ∷ 13 ∷ [])) refl refl refl refl refl (places-exactly .open-blob k a r x p n .0 e);
+  read-header = λ k a r x p n e. header-in (In (1 ∷ 2 ∷ 3 ∷ 4 ∷ 13 ∷ [])) refl refl refl refl refl (places-exactly .read-header k a r x p n .0 e);
   decode-mask = λ k a r x p n e. runs-in (In (5 ∷ 6 ∷ [])) refl refl (places-exactly .decode-mask k a r x p n .0 e);
   prepare-mask = λ k a r x p n e. prepare-in (In (1 ∷ 3 ∷ 4 ∷ 5 ∷ 6 ∷ [])) refl refl refl refl refl (places-exactly .prepare-mask k a r x p n .0 e);
   find-mask = λ k a r x p n e. find-in (In (1 ∷ 5 ∷ 6 ∷ [])) refl refl refl (places-exactly .find-mask k a r x p n .0 e);
@@ -211,5 +211,5 @@ numbers-only = record {
   fill = λ k a r x p n e. fill-in (In (1 ∷ 3 ∷ 4 ∷ 5 ∷ 7 ∷ 8 ∷ 9 ∷ 11 ∷ [])) refl refl refl refl refl refl refl refl (places-exactly .fill k a r x p n .0 e);
   check-tiles = λ k a r x p n e. check-in (In (1 ∷ 3 ∷ 4 ∷ 5 ∷ 8 ∷ 9 ∷ [])) refl refl refl refl refl refl (places-exactly .check-tiles k a r x p n .0 e);
   decode-tiles = λ k a r x p n e. tiles-in (In (1 ∷ 3 ∷ 4 ∷ 5 ∷ 8 ∷ 9 ∷ [])) refl refl refl refl refl refl (places-exactly .decode-tiles k a r x p n .0 e);
-  read = λ k a r x p n e. whole-in (In (1 ∷ 2 ∷ 3 ∷ 4 ∷ 5 ∷ 6 ∷ 7 ∷ 8 ∷ 9 ∷ 10 ∷ [])) refl refl refl refl refl refl refl refl refl refl (places-exactly .read k a r x p n .0 e);
+  read = λ k a r x p n e. whole-in (In (1 ∷ 2 ∷ 3 ∷ 4 ∷ 5 ∷ 6 ∷ 7 ∷ 8 ∷ 9 ∷ 10 ∷ 13 ∷ [])) refl refl refl refl refl refl refl refl refl refl refl (places-exactly .read k a r x p n .0 e);
 }

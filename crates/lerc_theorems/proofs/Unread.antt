@@ -18,7 +18,7 @@ use Rattle.lerc_words.proofs.Little.{little-same}
 use Rattle.lerc_words.proofs.Tables.{tabulate-same, take-tabulate}
 use Rattle.lerc_numeric.specs.Numeric.{same as same'}
 use Rattle.lerc_header.specs.declared.Header.{Header}
-use Rattle.lerc_header.specs.Header.{shapeOf, headerBytes, rangesAt, keyRight, headerOf, headerSays, openSays, held, extentOf}
+use Rattle.lerc_header.specs.Header.{shapeOf, headerBytes, rangesAt, keyRight, headerOf, checksumRight, headerSays, openSays, held, extentOf}
 use Rattle.lerc_header.specs.declared.Extent.{Extent}
 use Rattle.lerc_header.specs.declared.HeaderAnswer.the-variants as header-answer
 use Rattle.lerc_header.specs.Shape.{blockCount}
@@ -45,8 +45,8 @@ use Rattle.lerc_theorems.specs.Unread.{declared, SameDeclared, SameBelow
 use Rattle.lerc_theorems.proofs.SameAnswers.{header-same, open-same, mask-same, walk-same, fill-same, read-same}
 use Rattle.lerc_theorems.proofs.Calls.{header-call, prepare-call, ranges-call, walk-call, fill-call, each-call, tiles-call, read-call}
 use Rattle.lerc_theorems.proofs.Bodies.{swept-in, block-in, chain-in}
-use Rattle.lerc_theorems.proofs.Front.{Agree, at-agrees, chain-agrees, sweep-agrees, coded-agrees}
-use Rattle.lerc_theorems.proofs.Meanings.{held-any, part-same, header-alike}
+use Rattle.lerc_theorems.proofs.Front.{Agree, section-same, at-agrees, chain-agrees, sweep-agrees, coded-agrees}
+use Rattle.lerc_theorems.proofs.Meanings.{held-any, part-same, header-alike, header-other, cut, agree}
 use Rattle.lerc_theorems.proofs.Refusals.{masked-is}
 use Rattle.lerc_theorems.proofs.Fills.{Walking, walk-is, walking-says}
 
@@ -155,63 +155,7 @@ module _ (b c : List ℕ) (h : Header) (same : SameBelow h b c) where
   unfolding writtenImage roomToFill
   written-image-as m maxima at entries image = rw (held-as, same)
 
--- ---- a header's own bytes
-
-module _ (b c : List ℕ) (key-bytes : SameWithin 0 10 b c) (field-bytes : SameWithin 14 headerBytes b c) where
-  key-own : (n at : ℕ) → at + n ≤ 10 → little n b at ≡ little n c at
-  key-own n at l = little-same n b c at at (λ i r. key-bytes (at + i) (omega arith) (omega arith))
-
-  field-own : (n at : ℕ) → 14 ≤ at → at + n ≤ headerBytes → little n b at ≡ little n c at
-  field-own n at o l = little-same n b c at at (λ i r. field-bytes (at + i) (omega arith) (omega arith))
-
-  key-as : keyRight b ≡ keyRight c
-  unfolding keyRight
-  key-as = rw (key-own 6 0 (omega arith), key-own 4 6 (omega arith))
-
-  fields-as : headerOf b ≡ headerOf c
-  unfolding headerOf
-  fields-as =
-      rw (
-        field-own 4 14 (omega arith) (omega arith),
-        field-own 4 18 (omega arith) (omega arith),
-        field-own 4 22 (omega arith) (omega arith),
-        field-own 4 26 (omega arith) (omega arith),
-        field-own 4 30 (omega arith) (omega arith),
-        field-own 4 34 (omega arith) (omega arith),
-        field-own 4 38 (omega arith) (omega arith),
-        field-own 8 42 (omega arith) (omega arith),
-        field-own 8 50 (omega arith) (omega arith),
-        field-own 8 58 (omega arith) (omega arith),
-        field-own 4 66 (omega arith) (omega arith),
-      )
-
-  header-other : (h : Header) → h .size ≤ length c → headerSays b ≡ ok h → headerSays c ≡ ok h
-  unfolding headerSays
-  header-other h long e =
-      let (is, kept) = header-held b h e in
-      let (_, _, e) = bind-is (require (leb headerBytes (length b)) 1) _ e in
-      let (_, k, _) = bind-is (require (keyRight b) 2) _ e in
-      let size = held-size h (length b) kept in
-      let same : headerOf c ≡ h = sym fields-as ∙ sym is in
-      let held-c : held h (length c) ≡ ok (extentOf h) = sym (held-any h (length b) (length c) (size .1) long) ∙ kept in
-      let key-c : keyRight c ≡ true = sym key-as ∙ require-is (keyRight b) 2 k in
-      let few : headerBytes ≤ length c = omega (arith, size .0) in
-      rw (le-leb headerBytes (length c) few, key-c, same, held-c)
-
 -- ---- the mask section's and the ranges' own bytes
-
-section-own : (s t : List ℕ) (n m : ℕ) → n + m ≤ length s → n + m ≤ length t → SameWithin n (n + m) s t → take m (drop n s) ≡ take m (drop n t)
-section-own s t n m p q same =
-    take-tabulate m (drop n s) (rw (length-drop n s) (omega arith))
-    ∙ tabulate-same m _ _ (λ i l. getD-drop n s i 0 ∙ same (n + i) (omega arith) (omega arith) ∙ sym (getD-drop n t i 0))
-    ∙ sym (take-tabulate m (drop n t) (rw (length-drop n t) (omega arith)))
-
--- in the slices cut at the size
-cut : (n : ℕ) (b c : List ℕ) {j k : ℕ} → k ≤ n → SameWithin j k b c → SameWithin j k (take n b) (take n c)
-cut n b c l same i o r = let z : i < n = omega arith in getD-take n b i 0 z ∙ same i o r ∙ sym (getD-take n c i 0 z)
-
-agree : (n : ℕ) (b c : List ℕ) → n ≤ length c → {j k : ℕ} → k ≤ n → SameWithin j k b c → Agree (take n b) (take n c) j k
-agree n b c long l same = record { bytes = cut n b c l same; room = rw (length-take n c) (omega arith) }
 
 module _ (b c : List ℕ) (h : Header) (long-b : h .size ≤ length b) (long-c : h .size ≤ length c) where
   -- behind an accepted header by value
@@ -227,7 +171,7 @@ module _ (b c : List ℕ) (h : Header) (long-b : h .size ≤ length b) (long-c :
   mask-own l same reuse kept =
       let p = length-take-le (h .size) b long-b in
       let q = length-take-le (h .size) c long-c in
-      rw (section-own (take (h .size) b) (take (h .size) c) headerBytes (h .mask) (omega (arith, p)) (omega (arith, q)) (cut (h .size) b c l same))
+      rw (section-same (take (h .size) b) (take (h .size) c) headerBytes (h .mask) (omega (arith, p)) (omega (arith, q)) (cut (h .size) b c l same))
 
   prepare-other : SameWithin headerBytes (rangesAt h) b c → (reuse : Bool) (kept : List ℕ) (room : ℕ) → prepareSays b h reuse kept room ≡ prepareSays c h reuse kept room
   unfolding prepareSays
@@ -391,7 +335,7 @@ unread = record {
         ∙ ap (λ (z : Header × (RefT (List ℕ) × (RefT (List ℕ) × (ℕ × (RefT (List ℕ) × (RefT (List ℕ) × Unit {0})))))). writtenImage (c .0 .now) (z .0) (z .1 .0 .now) (z .1 .1 .0 .now) (z .1 .1 .1 .0) (length (z .1 .1 .1 .1 .0 .now)) (z .1 .1 .1 .1 .1 .0 .now)) e
         ∙ sym (t .1),
   );
-  header-own = λ b c h told l s t p q. header-same told (header-answer.Read h) (header-call q ∙ header-other b c s t h l (sym (header-call p)));
+  header-own = λ b c h told l x s t p q. header-same told (header-answer.Read h) (header-call q ∙ header-other b c s t h l x (sym (header-call p)));
   prepare-own = λ b c h reuse kept said told old new other l m s p q.
       let e = prepare-other b c h l m s reuse kept (length old) in (
         mask-same said told (prepare-call p .says ∙ ap (λ (x : Res MaskInForce). x >>= which) e ∙ sym (prepare-call q .says)),

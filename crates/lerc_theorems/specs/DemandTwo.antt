@@ -15,7 +15,7 @@ use Rattle.lerc_header.specs.declared.Header.{Header}
 use Rattle.lerc_header.specs.declared.HeaderAnswer.{HeaderAnswer}
 use Rattle.lerc_header.specs.declared.HeaderAnswer.the-variants as header-answer
 use Rattle.lerc_header.specs.Shape.{pixels, cells, maskLength, blockCount}
-use Rattle.lerc_header.specs.Header.{shapeOf, headerBytes, headerOf, headerSays}
+use Rattle.lerc_header.specs.Header.{shapeOf, headerBytes, headerOf, checksumRight, headerSays}
 use Rattle.lerc_mask.specs.Mask.{validBelow}
 use Rattle.lerc_ranges.specs.declared.Ranges.{Ranges}
 use Rattle.lerc_ranges.specs.declared.RangesRead.{RangesRead}
@@ -34,7 +34,7 @@ use Rattle.lerc.specs.Read.{Lent, room, readSaid}
 use Rattle.lerc.proofs.read.Reads as read
 use Rattle.lerc_theorems.specs.Promises.{lent}
 use Rattle.lerc_theorems.specs.Calls.{HeaderCall, PrepareCall, HandedCall, RangesCall, ReadRanges, WalkCall, FillCalls, ReadCall}
-use Rattle.lerc_theorems.specs.Unread.{Unread}
+use Rattle.lerc_theorems.specs.Unread.{SameWithin, Unread}
 
 -- the slices have the room that an accepted header asks for
 abbrev pub Roomy : List ℕ → Lent → Type 0
@@ -110,9 +110,9 @@ pub record DemandTwo : Type 0 where
       → meaning b reuse kept ≡ meaning b reuse other
   -- and without reuse not at all
   pub kept-unread : (b kept other : List ℕ) → meaning b false kept ≡ meaning b false other
-  -- nor are bytes between the body's end and the size looked at: a slice that is long enough and agrees below the end has the same meaning
-  pub behind-end : (b c : List ℕ) (reuse : Bool) (kept : List ℕ) (m : Meaning) → meaning b reuse kept ≡ ok m → take (endOf (m .body)) b ≡ take (endOf (m .body)) c → m .header .size ≤ length c
-      → meaning c reuse kept ≡ ok m
+  -- of the bytes between the body's end and the size the checksum alone is looked at: a slice that is long enough, agrees below the end but for the checksum, and has a right one, has the same meaning
+  pub behind-end : (b c : List ℕ) (reuse : Bool) (kept : List ℕ) (m : Meaning) → meaning b reuse kept ≡ ok m → SameWithin 0 10 b c → SameWithin 14 (endOf (m .body)) b c → m .header .size ≤ length c
+      → checksumRight c (m .header .size) ≡ true → meaning c reuse kept ≡ ok m
   -- the end lies behind the header and within the declared size, which lies within the blob
   pub end-bounds : (b : List ℕ) (reuse : Bool) (kept : List ℕ) (m : Meaning) → meaning b reuse kept ≡ ok m
       → (headerBytes ≤ endOf (m .body)) × (endOf (m .body) ≤ m .header .size) × (m .header .size ≤ length b)

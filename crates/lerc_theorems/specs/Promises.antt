@@ -61,6 +61,7 @@ use Rattle.lerc_header.proofs.open_blob.Reads as open-blob
 use Rattle.lerc_header.proofs.read_header.Reads as read-header
 use Rattle.lerc_mask.proofs.RunsAnswer.refusal.Reads as runs-refusal
 use Rattle.lerc_mask.proofs.is_valid.Reads as is-valid
+use Rattle.lerc_checksum.proofs.checksum.Reads as checksum
 use Rattle.lerc_mask.proofs.count.Reads as count-valid
 use Rattle.lerc_mask.proofs.count_from.Reads as count-from
 use Rattle.lerc_mask.proofs.ones_word.Reads as ones-word
@@ -154,6 +155,8 @@ pub record NoRoom : Type 0 where
   pub copy-words : Writes copy-words.Pre copy-words.Post (λ o. o .1 .0 .now)
   pub fill-bytes : Writes fill-bytes.Pre fill-bytes.Post (λ o. o .1 .0 .now)
   pub fill-words : Writes fill-words.Pre fill-words.Post (λ o. o .1 .0 .now)
+  -- lerc_checksum
+  pub checksum : Answers checksum.Pre checksum.Post
   -- lerc_numeric
   pub integer-refusal : Answers integer-refusal.Pre integer-refusal.Post
   pub plus : Answers plus.Pre plus.Post

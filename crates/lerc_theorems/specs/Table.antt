@@ -5,12 +5,13 @@ use mathlib.Core.Path.{_≡_}
 use mathlib.Core.Logic.{_≢_, _⊎_}
 use mathlib.Core.Bool.{Bool, true, false}
 use mathlib.Core.List.{List}
-use Prim.Native.Nat.{ℕ, _+_, _*_, _^_, _≤_, _<_, min}
+use Prim.Native.Nat.{ℕ, _+_, _-_, _*_, _^_, _≤_, _<_, min}
 use lib.ListN.{length, getD, take, drop}
 use Rattle.lerc_words.specs.declared.Refusal.{Refusal}
-use Rattle.lerc_words.specs.Res.{ok, refuse, placed, wordAt}
+use Rattle.lerc_words.specs.Res.{ok, refuse, placed, wordAt, little}
 use Rattle.lerc_numeric.specs.Numeric.{negative, finite, mag, less, same}
 use Rattle.lerc_numeric.specs.Kinds.{typeSize}
+use Rattle.lerc_checksum.specs.Checksum.{checksum}
 use Rattle.lerc_header.specs.declared.Header.{Header}
 use Rattle.lerc_header.specs.Limits.{depthLimit}
 use Rattle.lerc_header.specs.Header.{headerBytes, rangesAt, shapeOf, pairRight, fieldsRight, withinCeilings, keyRight, headerOf, headerSays}
@@ -87,11 +88,16 @@ pub data HeldRefused (h : Header) (len : ℕ) : Refusal → Type 0 where
   ceiling-passed : fieldsRight h ≡ true → CeilingPassed h → HeldRefused h len (refuse 4)
   blob-cut : fieldsRight h ≡ true → withinCeilings h ≡ true → len < h .size → HeldRefused h len (refuse 1)
 
--- "slice under 70 gives 1; then 2; then 3 ..; Then ceilings (4) ..; Then slice shorter than size: 1."
+-- the checksum that is stored at 10 is not that of the bytes behind it up to the size
+abbrev pub ChecksumWrong : List ℕ → ℕ → Type 0
+ChecksumWrong b size = little 4 b 10 ≢ checksum (take (size - 14) (drop 14 b))
+
+-- "slice under 70 gives 1; then 2; then 3 ..; Then ceilings (4) ..; Then slice shorter than size: 1."; "Refusal 13, after the header's own refusals"
 pub data HeaderRefused (b : List ℕ) : Refusal → Type 0 where
   header-cut : length b < headerBytes → HeaderRefused b (refuse 1)
   key-wrong : headerBytes ≤ length b → keyRight b ≡ false → HeaderRefused b (refuse 2)
   not-held : {n : Refusal} → headerBytes ≤ length b → keyRight b ≡ true → HeldRefused (headerOf b) (length b) n → HeaderRefused b n
+  checksum-wrong : headerBytes ≤ length b → keyRight b ≡ true → HeldRight (headerOf b) (length b) → ChecksumWrong b (headerOf b .size) → HeaderRefused b (refuse 13)
 
 -- ---- the mask: "mask section wrong", "Any breach is 6."; "66 for 6"
 

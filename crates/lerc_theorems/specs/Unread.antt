@@ -1,8 +1,9 @@
--- What is not looked at: "Bytes after size, or between the body's end and size, are never looked at." Two calls on blobs that differ there alone have one outcome.
+-- What is not looked at: "Bytes after size .. are never looked at." Two calls on blobs that differ there alone have one outcome. Between the body's end and the size, the checksum of
+-- a header that is read, or of a whole read, is all that looks.
 -- Assumes nothing.
 use Prim.Native.Nat.{ℕ, _≤_, _<_, max}
 use mathlib.Core.Path.{_≡_}
-use mathlib.Core.Bool.{Bool}
+use mathlib.Core.Bool.{Bool, true}
 use mathlib.Core.List.{List}
 use lib.ListN.{length, getD, take}
 use denote.Ref.{RefT}
@@ -10,7 +11,7 @@ use Rattle.lerc_words.specs.Res.{ok}
 use Rattle.lerc_header.specs.declared.Header.{Header}
 use Rattle.lerc_header.specs.declared.HeaderAnswer.{HeaderAnswer}
 use Rattle.lerc_header.specs.declared.HeaderAnswer.the-variants as header-answer
-use Rattle.lerc_header.specs.Header.{headerBytes, rangesAt, headerOf}
+use Rattle.lerc_header.specs.Header.{headerBytes, rangesAt, headerOf, checksumRight}
 use Rattle.lerc_header.proofs.open_blob.Reads as opening
 use Rattle.lerc_ranges.specs.declared.Ranges.{Ranges}
 use Rattle.lerc_ranges.specs.declared.RangesRead.{RangesRead}
@@ -75,8 +76,8 @@ pub record Unread : Type 0 where
   pub fill-tiles : BehindSize filling.Post (λ o. o .1 .1 .1 .1 .1 .0 .now)
   pub write-list : BehindSize writing.Post (λ o. o .1 .1 .1 .1 .1 .0 .now)
   pub write-image : BehindSize writing.Post (λ o. o .1 .1 .1 .1 .1 .1 .0 .now)
-  -- "the checksum field is ignored": an accepted header depends on the other bytes of the header alone
-  pub header-own : (b c : List ℕ) (h : Header) (told : HeaderAnswer) → h .size ≤ length c → SameWithin 0 10 b c → SameWithin 14 headerBytes b c
+  -- where the checksum is right, an accepted header depends on the other bytes of the header alone
+  pub header-own : (b c : List ℕ) (h : Header) (told : HeaderAnswer) → h .size ≤ length c → checksumRight c (h .size) ≡ true → SameWithin 0 10 b c → SameWithin 14 headerBytes b c
       → HeaderCall b (header-answer.Read h) → HeaderCall c told → told ≡ header-answer.Read h
   -- preparing looks at the mask section alone, and reading ranges at the ranges
   pub prepare-own : (b c : List ℕ) (h : Header) (reuse : Bool) (kept : List ℕ) (said told : MaskAnswer) (old new other : List ℕ) → h .size ≤ length b → h .size ≤ length c

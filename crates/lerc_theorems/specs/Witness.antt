@@ -4,7 +4,7 @@ use Prim.Native.Nat.{ℕ, _+_}
 use mathlib.Core.Path.{_≡_, refl}
 use mathlib.Core.Bool.{true, false}
 use mathlib.Core.List.{List, [], _∷_, _++_}
-use lib.ListN.{length, replicate, drop}
+use lib.ListN.{length, replicate, take, drop}
 use lib.Ieee.{size, span, climb}
 use Rattle.lerc_words.specs.declared.Refusal.{Refusal}
 use Rattle.lerc_words.specs.Res.{Res, ok, fail, _>>=_, refuse, placed, wordAt, little, each}
@@ -16,8 +16,9 @@ use Rattle.lerc_samples.specs.Samples.{sampleAt, stored, offsetKinds, offsetKin
 use Rattle.lerc_bits.specs.Bits.{tabled, plan, digits, chosen, lookedUp, valuesOf, unpacked, counts}
 use Rattle.lerc_bits.specs.Packing.{bytesOf as bytes}
 use Rattle.lerc_mask.specs.Mask.{pixelValid, validFrom, copyAt, repeatAt, endAt, signedAt, stepAt, runs, coded}
+use Rattle.lerc_checksum.specs.Checksum.{word, half, fold, sumsTo, closedTo, withLast, joined, checksum}
 use Rattle.lerc_header.specs.Shape.{strips}
-use Rattle.lerc_header.specs.Header.{errorRight, pairRight, fieldsRight, withinCeilings, held, keyRight, headerOf, headerSays}
+use Rattle.lerc_header.specs.Header.{errorRight, pairRight, fieldsRight, withinCeilings, held, keyRight, headerOf, checksumRight, headerSays}
 use Rattle.lerc_validity.specs.Validity.{uniform, kept, unrolled, maskIn}
 use Rattle.lerc_ranges.specs.declared.Ranges.{Ranges}
 use Rattle.lerc_ranges.specs.Ranges.{uniformRanges, numberAt, byDepth, codedRanges, pairsRight, firstWrong, wrongNumberAt, rangesSays, readRangesSays, constantWords}
@@ -44,13 +45,20 @@ pub record Fields : Type 0 where
   pub mask : List ℕ
   pub rest : List ℕ
 
--- a blob with these fields, its size the true one
-abbrev pub blob : Fields → List ℕ
-blob f =
-    76 ∷ 101 ∷ 114 ∷ 99 ∷ 50 ∷ 32 ∷ 4 ∷ 0 ∷ 0 ∷ 0 ∷ 0 ∷ 0 ∷ 0 ∷ 0 ∷ []
-    ++ bytes 4 (f .rows) ++ bytes 4 (f .columns) ++ bytes 4 (f .depth) ++ bytes 4 (f .valid) ++ bytes 4 (f .side)
+-- key, version and a checksum, and the bytes that it is of
+abbrev pub sealed : ℕ → List ℕ → List ℕ
+sealed stored summed = 76 ∷ 101 ∷ 114 ∷ 99 ∷ 50 ∷ 32 ∷ 4 ∷ 0 ∷ 0 ∷ 0 ∷ [] ++ bytes 4 stored ++ summed
+
+-- a blob with these fields, its size the true one: the bytes behind the checksum
+abbrev pub unsealed : Fields → List ℕ
+unsealed f =
+    bytes 4 (f .rows) ++ bytes 4 (f .columns) ++ bytes 4 (f .depth) ++ bytes 4 (f .valid) ++ bytes 4 (f .side)
     ++ bytes 4 (70 + length (f .mask) + length (f .rest)) ++ bytes 4 (f .kind)
     ++ bytes 8 (f .error) ++ bytes 8 (f .min) ++ bytes 8 (f .max) ++ bytes 4 (length (f .mask)) ++ f .mask ++ f .rest
+
+-- and with its true checksum
+abbrev pub blob : Fields → List ℕ
+blob f = let summed = unsealed f in sealed (checksum summed) summed
 
 -- 1 row, 3 columns, depth 1, kind 1 (u8), error 0.5
 abbrev pub row : ℕ → ℕ → ℕ → ℕ → List ℕ → List ℕ → List ℕ
@@ -80,6 +88,16 @@ threeHundred = 0x4072C00000000000
 -- the whole blob of the rules, 79 bytes
 abbrev pub whole-blob : List ℕ
 whole-blob = row 8 3 ten twelve [] (0x0A ∷ 0x0C ∷ 0x00 ∷ 0x00 ∷ 0x01 ∷ 0x0A ∷ 0x82 ∷ 0x03 ∷ 0x24 ∷ [])
+
+-- the same with what is stored for its checksum
+abbrev pub resealed : ℕ → List ℕ
+resealed stored = sealed stored (drop 14 whole-blob)
+
+-- the same with a byte between the body's end and the size, which is 80, and the checksum for a byte there
+abbrev pub gapped : ℕ → ℕ → List ℕ
+gapped summed byte =
+    let front = drop 14 (row 8 3 ten twelve [] (0x0A ∷ 0x0C ∷ 0x00 ∷ 0x00 ∷ 0x01 ∷ 0x0A ∷ 0x82 ∷ 0x03 ∷ 0x24 ∷ 0x00 ∷ [])) in
+    sealed (checksum (take 65 front ++ (summed ∷ []))) (take 65 front ++ (byte ∷ []))
 
 -- 2 rows, 2 columns, depth 2, tiles of one pixel, kind 1, error 1, minima 0 and maxima 200: eight blocks with one offset each
 abbrev pub grid : List ℕ
@@ -169,6 +187,36 @@ refusals =
     ∷ refused 3 (row 8 3 ten twelve [] (0x0A ∷ 0x0C ∷ 0x00 ∷ 0x01 ∷ []))
     ∷ fill 1 (74 ∷ [])
     ∷ fill 0 (74 ∷ [])
+    ∷ refused 3 (resealed 0)
+    ∷ []
+
+-- ---- the checksum: "after the header's own refusals and before room"
+
+-- no slice has an entry
+abbrev pub nothing : Lent
+nothing = record { kept = []; spare = []; list = []; image = [] }
+
+abbrev pub checksums : List Refusal
+checksums =
+    -- that of the rules' blob is DA 3D 6B 38; one bit of it is another; it is 0
+    refused 3 (resealed 0x386B3DDA)
+    ∷ refused 3 (resealed 0x386B3DDB)
+    ∷ refused 3 (resealed 0)
+    -- another key is 2, no row 3, a side past its ceiling 4, a slice shorter than the size 1, whatever the checksum
+    ∷ refused 3 (75 ∷ drop 1 (resealed 0))
+    ∷ refused 3 (sealed 0 (drop 14 (row 0 3 ten twelve [] [])))
+    ∷ refused 3 (sealed 0 (drop 14 (row 17 3 ten twelve [] [])))
+    ∷ refused 3 (take 78 (resealed 0))
+    -- slices without an entry: 13, and 5 with a true checksum
+    ∷ refusalOf (readSays (resealed 0) false nothing)
+    ∷ refusalOf (readSays whole-blob false nothing)
+    -- bytes between the body's end and the size are summed
+    ∷ refused 3 (gapped 0x00 0x01)
+    ∷ refused 3 (gapped 0x01 0x01)
+    -- bytes behind the size are not
+    ∷ refused 3 (whole-blob ++ (0x01 ∷ []))
+    -- a header by value is not tested again
+    ∷ refusalOf (readRangesSays (resealed 0) (headerOf whole-blob) >>= λ r. fillSays (resealed 0) (headerOf whole-blob) r (255 ∷ []) (74 ∷ []) 0 3)
     ∷ []
 
 -- ---- a call for each rule of the place
@@ -294,6 +342,22 @@ pub witnesses :
     ∷ placed 73 (refuse 10)
     ∷ refuse 11
     ∷ refuse 0
+    ∷ refuse 13
+    ∷ [])
+    × (checksums
+    ≡ refuse 0
+    ∷ refuse 13
+    ∷ refuse 13
+    ∷ refuse 2
+    ∷ refuse 3
+    ∷ refuse 4
+    ∷ refuse 1
+    ∷ refuse 13
+    ∷ refuse 5
+    ∷ refuse 13
+    ∷ refuse 0
+    ∷ refuse 0
+    ∷ refuse 0
     ∷ [])
     × (places
     ≡ placed 66 (refuse 6)
@@ -321,10 +385,10 @@ pub witnesses :
     ∷ [])
 unfolding wordAt little each from count allTo mag code sum countedSum scaled less same lesser integer valueOf whole cut sampleAt stored offsetKinds offsetKind
     bytes counts plan tabled unpacked valuesOf lookedUp digits chosen pixelValid copyAt repeatAt endAt signedAt stepAt runs coded strips errorRight pairRight fieldsRight withinCeilings
-    held keyRight headerOf headerSays uniform kept unrolled maskIn uniformRanges numberAt byDepth codedRanges pairsRight firstWrong wrongNumberAt rangesSays constantWords rawWords
+    held keyRight headerOf word half fold sumsTo closedTo withLast joined checksum checksumRight headerSays uniform kept unrolled maskIn uniformRanges numberAt byDepth codedRanges pairsRight firstWrong wrongNumberAt rangesSays constantWords rawWords
     levelBlock stepOf steppedBlock offsetAt finiteOffset offsetBlock formed flagAt blockSays tileOf pixelOf blockOf placeIn rank isValidCell painted indexOf blockAt chain modeByte moded
     sweepByte swept rawBody blockBody sweptBody constantBody bodySays cellWord meaningFrom room masked readSays published refusedAfter size span climb widened readRangesSays fillSays walkSays bodyWalked wayWalked
-witnesses = (refl, refl, refl)
+witnesses = (refl, refl, refl, refl)
 
 -- ---- how many pixels of a part are valid: of the rules' mask of ten pixels, 0, 2 and 9 valid, its spare bits set
 

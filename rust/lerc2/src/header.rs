@@ -137,7 +137,19 @@ impl Header {
     }
 }
 
-/// Reads a header and holds it to the rules.
+/// The checksum of these bytes, which is never 0. A blob's stands at 10, four
+/// bytes, the lowest first, and is that of its bytes from 14 up to its size.
+///
+/// ```
+/// assert_eq!(lerc2::checksum(&[]), 0xFFFF_FFFF);
+/// assert_eq!(lerc2::checksum(b"ab"), 0x6162_6162);
+/// ```
+pub fn checksum(bytes: &[u8]) -> u32 {
+    raw::checksum(bytes)
+}
+
+/// Reads a header and holds it to the rules; the blob's bytes up to its size
+/// are summed, and must have the checksum that stands at 10.
 pub fn read_header(blob: &[u8]) -> Result<Header, Refusal> {
     let mut record = [0; raw::HEADER];
     Refusal::judge(|place| raw::read_header(blob, &mut record, place))?;

@@ -15,11 +15,14 @@
 //! `p` at depth `d` stands at `p * depth + d`; [`Kind::number`] gives its
 //! number. Cells of pixels that are not valid are not written.
 //!
+//! The checksum is tested where a header is read from the bytes, by
+//! [`read_header`] and [`read`], and not again; [`checksum`] computes it.
+//!
 //! A thread that has changed its float unit must not read: [`float_ready`].
 //!
 //! ```
 //! let blob = [
-//!     &b"Lerc2 "[..], &4u32.to_le_bytes(), &0u32.to_le_bytes(), // key, version, checksum
+//!     &b"Lerc2 "[..], &4u32.to_le_bytes(), &0x386B3DDAu32.to_le_bytes(), // key, version, checksum
 //!     &1u32.to_le_bytes(), &3u32.to_le_bytes(), &1u32.to_le_bytes(), // rows, columns, depth
 //!     &3u32.to_le_bytes(), &8u32.to_le_bytes(), // valid, side
 //!     &79u32.to_le_bytes(), &1u32.to_le_bytes(), // size, kind
@@ -53,7 +56,7 @@ mod steps;
 pub mod raw;
 
 pub use arithmetic::{float_ready, narrow, scaled, sum};
-pub use header::{read_header, Header, Kind};
+pub use header::{checksum, read_header, Header, Kind};
 pub use mask::{is_valid, prepare_mask, Mask};
 pub use ranges::{read_ranges, Ranges, MOST_DEPTH};
 pub use refusal::{Refusal, Why};

@@ -127,6 +127,7 @@ mod c {
         pub fn lerc2_scaled(a: u64, q: u32) -> u64;
         pub fn lerc2_narrow(v: u64) -> u32;
         pub fn lerc2_number(word: u64, kind: u32) -> u64;
+        pub fn lerc2_checksum(bytes: *const u8, n: usize) -> u32;
         pub fn lerc2_stored(
             v: u64,
             kind: u32,
@@ -315,6 +316,11 @@ pub fn scaled(a: u64, q: u32) -> u64 {
 /// The bits of a binary64 number as those of a binary32.
 pub fn narrow(v: u64) -> u32 {
     unsafe { c::lerc2_narrow(v) }
+}
+
+/// The checksum of these bytes.
+pub fn checksum(bytes: &[u8]) -> u32 {
+    unsafe { c::lerc2_checksum(bytes.as_ptr(), bytes.len()) }
 }
 
 /// The number that a word of the kind stands for, as the bits of a binary64.

@@ -32,7 +32,7 @@ pub struct Refusal {
     pub place: usize,
 }
 
-/// Why a call was refused. Each has one number, from 1 to 11.
+/// Why a call was refused. Each has one number: 1 to 11, and 13.
 #[derive(Clone, Copy, Debug, PartialEq, Eq, Hash)]
 pub enum Why {
     /// 1: a field, number or packed run passes the declared size, or the blob
@@ -58,11 +58,13 @@ pub enum Why {
     NotBlocks = 10,
     /// 11: the block number is at or above the count.
     NoSuchBlock = 11,
+    /// 13: the checksum is not that of the blob's bytes.
+    WrongChecksum = 13,
 }
 
 impl Why {
     /// All of them, in the order of their numbers.
-    pub const ALL: [Why; 11] = [
+    pub const ALL: [Why; 12] = [
         Why::PassesSize,
         Why::WrongKey,
         Why::WrongField,
@@ -74,11 +76,16 @@ impl Why {
         Why::DoesNotFit,
         Why::NotBlocks,
         Why::NoSuchBlock,
+        Why::WrongChecksum,
     ];
 
     /// Its number.
     pub fn number(self) -> u32 {
         self as u32
+    }
+
+    fn of(number: u32) -> Option<Why> {
+        Why::ALL.into_iter().find(|why| why.number() == number)
     }
 }
 
@@ -96,6 +103,7 @@ impl fmt::Display for Why {
             Why::DoesNotFit => "a value does not fit its integer kind",
             Why::NotBlocks => "the body is not in blocks",
             Why::NoSuchBlock => "there is no block of this number",
+            Why::WrongChecksum => "the checksum is not that of the bytes",
         })
     }
 }
@@ -149,6 +157,9 @@ impl Refusal {
             }
             (Why::NotBlocks, at) => format!("the sweep or mode byte at {at}"),
             (Why::NoSuchBlock, _) => "the number that was asked for".into(),
+            (Why::WrongChecksum, _) => {
+                "the checksum at 10 and the bytes from 14 up to the size: any may be damaged".into()
+            }
         }
     }
 
@@ -157,14 +168,16 @@ impl Refusal {
     pub(crate) fn judge(entry: impl FnOnce(&mut [u64]) -> u32) -> Result<(), Refusal> {
         let mut place = [0; raw::PLACE];
         let returned = entry(&mut place);
-        match returned {
-            0 => Ok(()),
-            1..=11 => Err(Refusal {
-                why: Why::ALL[returned as usize - 1],
+        if returned == 0 {
+            return Ok(());
+        }
+        match Why::of(returned) {
+            Some(why) => Err(Refusal {
+                why,
                 place: place[0] as usize,
             }),
             // Proved not to come up.
-            _ => unreachable!("the reader returned {returned}"),
+            None => unreachable!("the reader returned {returned}"),
         }
     }
 }
@@ -192,7 +205,7 @@ mod tests {
     #[test]
     fn numbers_and_back() {
         assert_eq!(returning(0, 0), Ok(()));
-        for number in 1..=11 {
+        for number in (1..=11).chain([13]) {
             let refusal = returning(number, 74).unwrap_err();
             assert_eq!((refusal.number(), refusal.place), (number, 74));
             assert_eq!(refusal.why.number(), number);
@@ -247,7 +260,7 @@ mod tests {
     fn sentences_differ() {
         let told = |place: usize| Why::ALL.map(|why| Refusal { why, place }.where_to_look());
         let both: HashSet<String> = told(0).into_iter().chain(told(74)).collect();
-        // Those without a place of their own, 2, 3, 4, 5 and 11, are told once.
-        assert_eq!(both.len(), 2 * Why::ALL.len() - 5);
+        // Those without a place of their own, 2, 3, 4, 5, 11 and 13, are told once.
+        assert_eq!(both.len(), 2 * Why::ALL.len() - 6);
     }
 }

@@ -1,13 +1,16 @@
 //! The whole blob of the rules, step by step and at once, and what each
 //! refusal leaves behind.
 
+mod sealed;
+
 use lerc2::{
     fill, prepare_mask, read, read_header, read_ranges, walk, Header, Kind, Mask, Refusal, Why,
 };
 
 const BODY: [u8; 9] = [0x0A, 0x0C, 0, 0, 1, 0x0A, 0x82, 3, 0x24];
 
-/// One row of three u8, with a mask section and what follows it.
+/// One row of three u8, with a mask section and what follows it, and a true
+/// checksum.
 fn blob(valid: u32, mask: &[u8], after: &[u8]) -> Vec<u8> {
     let size = 70 + mask.len() + after.len();
     let mut blob = b"Lerc2 ".to_vec();
@@ -20,6 +23,7 @@ fn blob(valid: u32, mask: &[u8], after: &[u8]) -> Vec<u8> {
     blob.extend((mask.len() as u32).to_le_bytes());
     blob.extend_from_slice(mask);
     blob.extend_from_slice(after);
+    sealed::seal(&mut blob);
     blob
 }
 

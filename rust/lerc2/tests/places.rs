@@ -2,6 +2,8 @@
 //! bytes of header, the mask section, minima and maxima, sweep and mode byte,
 //! blocks.
 
+mod sealed;
+
 use lerc2::{
     fill, prepare_mask, raw, read, read_header, read_ranges, walk, Kind, Ranges, Refusal, Why,
 };
@@ -60,6 +62,7 @@ impl<'a> Row<'a> {
         }
     }
 
+    /// Its checksum is true.
     fn blob(&self) -> Vec<u8> {
         let size = (self.sweep() + self.body.len()) as u32;
         let shape = [1, 3, self.depth, self.valid, 8];
@@ -71,7 +74,9 @@ impl<'a> Row<'a> {
             blob.extend(number.to_le_bytes());
         }
         blob.extend((self.mask.len() as u32).to_le_bytes());
-        [&blob[..], self.mask, self.ranges, self.body].concat()
+        let mut blob = [&blob[..], self.mask, self.ranges, self.body].concat();
+        sealed::seal(&mut blob);
+        blob
     }
 
     fn first_range(&self) -> usize {

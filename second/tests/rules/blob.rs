@@ -68,13 +68,25 @@ impl Blob {
         let mut bytes = header_bytes(&self.header());
         bytes.extend(&self.mask);
         bytes.extend(&self.body);
-        bytes
+        sealed(bytes)
     }
 }
 
+/// The same with a true checksum, where the bytes reach the declared size.
+pub fn sealed(mut bytes: Vec<u8>) -> Vec<u8> {
+    let size = bytes.get(34..38).map_or(0, |field| {
+        u32::from_le_bytes(field.try_into().unwrap()) as usize
+    });
+    if let Some(summed) = bytes.get(14..size) {
+        let sum = second::checksum(summed);
+        bytes[10..14].copy_from_slice(&sum.to_le_bytes());
+    }
+    bytes
+}
+
+/// The header alone, with a checksum that is not true.
 pub fn header_bytes(header: &Header) -> Vec<u8> {
     let mut bytes = b"Lerc2 ".to_vec();
-    // Any checksum will do.
     let narrow = [
         4,
         0x0BAD_5EED,

@@ -1,6 +1,6 @@
 //! Bodies that are accepted: cells, list, masks and end.
 
-use crate::blob::{hex, Blob};
+use crate::blob::{hex, sealed, Blob};
 use crate::lent::{accepted, cells, whole_and_steps, Lent, IMAGE, KEPT, LIST, SPARE};
 use crate::refusals::OFFSET_KINDS;
 use second::{number, packed_counts, stored, word_size, Refusal};
@@ -55,7 +55,7 @@ fn constant_by_ranges() {
     // One other pair, and there is a sweep byte, which is wrong.
     let mut other = blob.bytes();
     other[73] = 7;
-    assert_eq!(crate::lent::refused_after(&other, &[255]), 8);
+    assert_eq!(crate::lent::refused_after(&sealed(other), &[255]), 8);
 }
 
 #[test]
@@ -217,7 +217,7 @@ fn integers_are_cut_after_the_clamp() {
     };
     let mut bytes = negative.bytes();
     (bytes[70], bytes[74]) = (0xF0, 0xF6);
-    assert_eq!(cells(&bytes), [0xF6, 0xF7, 0xF8]);
+    assert_eq!(cells(&sealed(bytes)), [0xF6, 0xF7, 0xF8]);
 }
 
 #[test]
@@ -418,6 +418,7 @@ fn a_new_mask_replaces_the_kept_one_only_on_acceptance() {
         assert_eq!(lent.spare[..2], [0xA1, SPARE]);
         let mut wrong = bytes.clone();
         wrong[78] = 7;
+        let wrong = sealed(wrong);
         let mut lent = Lent::to_read(&wrong);
         assert_eq!(lent.read_number(&wrong, reuse), Err(8));
         assert_eq!(lent.kept[..2], [KEPT, KEPT]);
@@ -443,18 +444,9 @@ fn bytes_after_the_end_are_not_looked_at() {
     let mut bytes = Blob::whole().bytes();
     bytes.extend([0xFF; 9]);
     assert_eq!(accepted(&bytes).2, 79);
-    // Inside the declared size, too.
+    // Inside the declared size, too, but that they are summed.
     bytes[34] = 85;
-    assert_eq!(accepted(&bytes).2, 79);
-}
-
-#[test]
-fn the_checksum_is_not_looked_at() {
-    for checksum in [0u32, 1, u32::MAX] {
-        let mut bytes = Blob::whole().bytes();
-        bytes[10..14].copy_from_slice(&checksum.to_le_bytes());
-        assert_eq!(cells(&bytes), [10, 11, 12]);
-    }
+    assert_eq!(accepted(&sealed(bytes)).2, 79);
 }
 
 #[test]

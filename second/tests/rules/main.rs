@@ -5,6 +5,7 @@ mod arithmetic;
 mod blob;
 mod bodies;
 mod by_value;
+mod checksum;
 mod given;
 mod inflate;
 mod lent;

@@ -1,6 +1,6 @@
 //! The place of every refusal, with the sentence that it follows from.
 
-use crate::blob::{hex, Blob};
+use crate::blob::{hex, sealed, Blob};
 use crate::given::Given;
 use crate::lent::{refused_at, Lent};
 use second::{packed_counts, prepare_mask, read_header, read_ranges, stored, word_size, Refusal};
@@ -368,7 +368,7 @@ fn a_raw_body_cut_at_every_byte() {
             let mut bytes = whole.clone();
             // Bytes behind the size do not count as there.
             bytes[34..38].copy_from_slice(&(end as u32).to_le_bytes());
-            let refused = refused_at(&bytes, &[0xA0]);
+            let refused = refused_at(&sealed(bytes), &[0xA0]);
             assert_eq!(refused, AT(1, place), "kind {kind}, size {end}");
         }
     }
@@ -420,7 +420,18 @@ fn no_place_before_the_mask() {
         assert_eq!(read(&whole[..length]), Err(AT(1, 0)));
         assert_eq!(read_header(&whole[..length]), Err(AT(1, 0)));
     }
-    for (at, value, number) in [(0, 7, 2), (6, 5, 2), (30, 0, 3), (38, 8, 3), (30, 17, 4)] {
+    let changes = [
+        (0, 7, 2),
+        (6, 5, 2),
+        (30, 0, 3),
+        (38, 8, 3),
+        (30, 17, 4),
+        // The checksum itself, and the first and the last byte that it sums.
+        (10, 0, 13),
+        (14, 2, 13),
+        (78, 0, 13),
+    ];
+    for (at, value, number) in changes {
         let mut bytes = whole.clone();
         bytes[at] = value;
         assert_eq!(read(&bytes), Err(AT(number, 0)));

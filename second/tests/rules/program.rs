@@ -3,7 +3,7 @@
 use std::io::Write;
 use std::process::{Command, Stdio};
 
-use crate::blob::{hex, Blob};
+use crate::blob::{hex, sealed, Blob};
 use second::program_text;
 
 const WHOLE: &str = "width 3 height 1 depth 1 kind 1 valid 3
@@ -36,11 +36,15 @@ fn whole_blob() {
 fn refusals() {
     let mut bytes = Blob::whole().bytes();
     bytes[72] = 2;
+    assert_eq!(program_text(&bytes), "refused 13 at 0\n");
+    assert_eq!(run(&bytes), "refused 13 at 0\n");
+    let bytes = sealed(bytes);
     assert_eq!(program_text(&bytes), "refused 8 at 72\n");
     assert_eq!(run(&bytes), "refused 8 at 72\n");
-    bytes[72] = 0;
     // Other check bits in the flag byte.
+    let mut bytes = Blob::whole().bytes();
     bytes[74] = 5;
+    let bytes = sealed(bytes);
     assert_eq!(run(&bytes), "refused 8 at 74\n");
     assert_eq!(run(&[]), "refused 1 at 0\n");
     assert_eq!(run(&bytes[..78]), "refused 1 at 0\n");

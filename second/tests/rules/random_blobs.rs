@@ -1,6 +1,6 @@
 //! Random blobs with known cells, and random changes to them.
 
-use crate::blob::{header_bytes, Blob};
+use crate::blob::{header_bytes, sealed, Blob};
 use crate::bodies::packed;
 use crate::lent::{whole_and_steps, Lent, IMAGE, LIST};
 use crate::random::Random;
@@ -39,11 +39,15 @@ fn random_blobs_give_their_cells() {
 #[test]
 fn random_changes_do_no_harm() {
     let mut random = Random::new(12);
-    let (mut accepted, mut refused) = (0, [0; 12]);
+    let (mut accepted, mut refused) = (0, [0; 14]);
     for _ in 0..2_000 {
         let bytes = made(&mut random).blob.bytes();
         for _ in 0..20 {
-            let changed = changed(&mut random, &bytes);
+            let mut changed = changed(&mut random, &bytes);
+            // Few are left with the checksum of what they were.
+            if !random.chance(8) {
+                changed = sealed(changed);
+            }
             let cells = read_header(&changed).map_or(0, |header| header.cells());
             if cells > 50_000 {
                 continue;
@@ -59,7 +63,7 @@ fn random_changes_do_no_harm() {
         }
     }
     assert!(accepted > 1_000);
-    for number in [1, 2, 3, 4, 6, 7, 8, 10] {
+    for number in [1, 2, 3, 4, 6, 7, 8, 10, 13] {
         assert!(refused[number] > 10, "number {number}: {refused:?}");
     }
     // Room is never short here, and fill is given only numbers in the list.
@@ -70,7 +74,7 @@ fn random_changes_do_no_harm() {
 fn check_place(bytes: &[u8], refusal: Refusal) {
     let Refusal { number, place } = refusal;
     match number {
-        2..=5 | 9 => assert_eq!(place, 0, "{refusal}"),
+        2..=5 | 9 | 13 => assert_eq!(place, 0, "{refusal}"),
         6 => assert_eq!(place, 66, "{refusal}"),
         1 if place == 0 => assert!(read_header(bytes).is_err(), "{refusal}"),
         _ => {
@@ -432,6 +436,7 @@ fn random_headers_are_judged_alike_by_value_and_in_a_blob() {
         }
         let mut bytes = header_bytes(&header);
         bytes.resize(90, 0);
+        let bytes = sealed(bytes);
         let by_value = second::prepare_mask(&bytes, &header, false, &[], &mut []);
         match read_header(&bytes) {
             Ok(read) => assert_eq!((read, by_value), (header, Err(Refusal::of(5)))),

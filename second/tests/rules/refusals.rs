@@ -1,7 +1,7 @@
 //! Every refusal number of the whole read, in several ways. The helpers also
 //! check that the lent slices are left as the rules say.
 
-use crate::blob::{header_bytes, hex, Blob};
+use crate::blob::{header_bytes, hex, sealed, Blob};
 use crate::lent::{accepted, cells, refused, refused_after, Lent};
 use second::{read_header, Refusal};
 
@@ -38,6 +38,7 @@ fn r1_body_passes_the_declared_size() {
     for size in 70..79 {
         let mut bytes = bytes.clone();
         bytes[34] = size;
+        let bytes = sealed(bytes);
         assert_eq!(refused_after(&bytes, &ALL_VALID), 1, "size {size}");
     }
 }
@@ -234,7 +235,7 @@ fn r4_size() {
     bytes.resize(16_777_215, 0);
     assert_eq!(refused(&bytes), 1);
     bytes.push(0);
-    assert_eq!(cells(&bytes), [10, 11, 12]);
+    assert_eq!(cells(&sealed(bytes)), [10, 11, 12]);
 }
 
 #[test]
@@ -661,7 +662,7 @@ fn r9_constants_outside_their_kind() {
 fn r9_not_for_an_empty_image() {
     let mut bytes = constant(1, 300.0);
     bytes[26] = 0;
-    let (_, blocks, end, _) = accepted(&bytes);
+    let (_, blocks, end, _) = accepted(&sealed(bytes));
     assert_eq!((blocks, end), (0, 70));
 }
 

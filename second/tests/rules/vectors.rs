@@ -281,11 +281,15 @@ fn probes() {
             "refused 10"
         } else if name == "made-checksum" {
             "82 5 160 140"
+        } else if name == "checksum-wrong" {
+            "refused 13"
         } else {
             answers[name.as_str()]
         };
+        // An infinite product is above every maximum.
+        let answer = answer.replace("7fd0000000000000", "7fe8000000000000");
         let bytes = fs::read(path).unwrap();
-        assert_eq!(found(&bytes), without_reason(answer), "{name}");
+        assert_eq!(found(&bytes), without_reason(&answer), "{name}");
     }
     let _ = writeln!(stderr(), "probes: {} blobs", files.len());
 }

@@ -1,8 +1,10 @@
 use mathlib.Core.Path.{_∙_, sym, ap}
 use borrow.Author.Tests.{not-true, not-false, le-leb, lt-leb}
+use native.Mathlib.Omega.{arith}
 use Rattle.lerc_words.specs.Res.{fail}
+use Rattle.lerc_header.specs.declared.Extent.{Extent}
 use Rattle.lerc_header.specs.Header.{headerSays, openSays, heldSaid, refusalOfHeld}
-use Rattle.lerc_header.proofs.Kept.{held-is}
+use Rattle.lerc_header.proofs.Kept.{held-is, held-size}
 use borrow.Author.Needs.{needs}
 use Rattle.lerc_header.proofs.open_blob.Statement.{statement}
 use Rattle.lerc_header.proofs.open_blob.Tie as tie
@@ -26,15 +28,43 @@ returns-3 c =
       sym (c .before .before .before .held .ensures) ∙ ap heldSaid w ∙ ap fail (sym (c .refusal .ensures ∙ ap refusalOfHeld w)),
     )
 
+-- the sizes that the checksum is asked for
+sized : tie.Need-checksum-right-requires
+sized c κs =
+    let held = c .before .before .before in
+    let kept = sym (held .held .ensures) ∙ ap heldSaid (c .before .answer .given .1) in
+    let is = ap (λ (e : Extent). e .size) (held-is _ _ kept) in
+    let sizes = held-size _ _ kept in
+    (omega (arith, is, sizes .0), omega (arith, is, sizes .1))
+
 returns-4 : tie.Need-returns-4
 unfolding headerSays openSays
 returns-4 c =
-    let kept = sym (c .before .before .before .held .ensures) ∙ ap heldSaid (c .before .answer .given .1) in
+    let held = c .before .before .before .before .before in
+    let kept = sym (held .held .ensures) ∙ ap heldSaid (c .before .before .before .answer .given .1) in
+    let size = ap (λ (e : Extent). e .size) (held-is _ _ kept) in
     rw (
-      le-leb _ _ (c .before .before .before .before .before .before .before .if1 .left),
-      sym (c .before .before .before .before .before .before .key-right .ensures) ∙ not-false _ (c .before .before .before .before .before .if2 .left),
-      sym (c .before .before .before .before .fields .ensures),
+      le-leb _ _ (held .before .before .before .before .if1 .left),
+      sym (held .before .before .before .key-right .ensures) ∙ not-false _ (held .before .before .if2 .left),
+      sym (held .before .fields .ensures),
       kept,
+      ← size,
+      sym (c .before .checksum-right .ensures) ∙ not-true _ (c .if3 .taken),
+    )
+
+returns-5 : tie.Need-returns-5
+unfolding headerSays openSays
+returns-5 c =
+    let held = c .before .before .before .before .before in
+    let kept = sym (held .held .ensures) ∙ ap heldSaid (c .before .before .before .answer .given .1) in
+    let size = ap (λ (e : Extent). e .size) (held-is _ _ kept) in
+    rw (
+      le-leb _ _ (held .before .before .before .before .if1 .left),
+      sym (held .before .before .before .key-right .ensures) ∙ not-false _ (held .before .before .if2 .left),
+      sym (held .before .fields .ensures),
+      kept,
+      ← size,
+      sym (c .before .checksum-right .ensures) ∙ not-false _ (c .if3 .left),
       held-is _ _ kept,
     )
 
@@ -51,4 +81,6 @@ open-blob-spec =
     (λ c. search needs)
     (λ c κs. search needs)
     returns-3
-    returns-4)
+    sized
+    returns-4
+    returns-5)

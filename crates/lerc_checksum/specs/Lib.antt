@@ -1,0 +1,4 @@
+pub mod Checksum
+pub mod Parts
+pub mod Laws
+pub mod Witness
