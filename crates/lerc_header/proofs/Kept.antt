@@ -1,7 +1,7 @@
 -- What a header that is held keeps.
 -- Assumes nothing.
 use Prim.Native.Nat.{ℕ, _*_, _^_, _≤_, _<_}
-use mathlib.Core.Path.{_≡_, _∙_, ap, refl}
+use mathlib.Core.Path.{_≡_, _∙_, sym, ap, refl}
 use mathlib.Core.Bool.{Bool, true, false, _&&_}
 use mathlib.Core.List.{List}
 use native.Mathlib.Omega.{arith}
@@ -10,7 +10,7 @@ use lib.ListN.{length}
 use lib.Dec.{leb}
 use borrow.Author.Tests.{ltb-true, leb-true, le-leb}
 use Rattle.lerc_words.specs.declared.Refusal.{Refusal}
-use Rattle.lerc_words.specs.Res.{ok, fail, require}
+use Rattle.lerc_words.specs.Res.{ok, fail, _>>=_, require}
 use Rattle.lerc_words.proofs.Binding.{bind-is, bind-fail, ok-is, require-is}
 use Rattle.lerc_header.specs.declared.Header.{Header}
 use Rattle.lerc_header.specs.declared.Extent.{Extent}
@@ -167,6 +167,22 @@ header-summed b h p =
     rw (is) (require-is _ _ t13)
 
 -- ---- a blob that was opened
+
+abbrev sized : Header → Opened
+sized h = record { header = h; extent = extentOf h }
+
+-- a header that is held: the checksum is all that is left to be told
+pub open-summed : (b : List ℕ) (h : Header) (e : Extent) (t : Bool) → headerBytes ≤ length b → keyRight b ≡ true → h ≡ headerOf b → held h (length b) ≡ ok e → checksumRight b (e .size) ≡ t
+    → openSays b ≡ (require t 13 >>= λ _. ok (record { header = h; extent = e }))
+unfolding headerSays openSays
+open-summed b h e t few key is kept told =
+    let size : h .size ≡ e .size = sym (ap (λ (x : Extent). x .size) (held-is h (length b) kept)) in
+    rw (le-leb _ _ few, key, ← is, kept) (go t (ap (checksumRight b) size ∙ told))
+  where
+    go : (x : Bool) → checksumRight b (h .size) ≡ x
+        → ((require (checksumRight b (h .size)) 13 >>= λ _. ok h) >>= λ (g : Header). ok (sized g)) ≡ (require x 13 >>= λ _. ok (record { header = h; extent = e }))
+    go true y = rw (y, held-is h (length b) kept)
+    go false y = rw (y)
 
 module _ (b : List ℕ) where
   pub open-no : {r : Refusal} → openSays b ≡ fail r → headerSays b ≡ fail r

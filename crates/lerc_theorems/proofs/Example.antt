@@ -31,7 +31,7 @@ use Rattle.lerc_image.specs.declared.FillAnswer.the-variants as fill-answer
 use Rattle.lerc_image.specs.Fill.{fillSays, fillCount, fillSaid, fillImage}
 use Rattle.lerc_fills.specs.Each.{fillEach}
 use Rattle.lerc.specs.Meaning.{blockBody, sweptBody, bodySays, meaningFrom, meaning}
-use Rattle.lerc_theorems.specs.Witness.{grid}
+use Rattle.lerc_witness.specs.Witness.{grid}
 use Rattle.lerc_theorems.specs.Calls.{FillCalls, none, more}
 use Rattle.lerc_theorems.specs.DemandThree.{Case, Opened, CaseFills}
 use Rattle.lerc_theorems.proofs.Calls.{fill-calls}

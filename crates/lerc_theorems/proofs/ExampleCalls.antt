@@ -20,7 +20,7 @@ use Rattle.lerc_image.specs.Walk.{walkSays, walkList}
 use Rattle.lerc.specs.declared.ReadAnswer.the-variants as read-answer
 use Rattle.lerc.specs.Meaning.{Meaning, blocks}
 use Rattle.lerc.specs.Read.{Lent, room, readSays, published}
-use Rattle.lerc_theorems.specs.Witness.{grid}
+use Rattle.lerc_witness.specs.Witness.{grid}
 use Rattle.lerc_theorems.specs.DemandThree.{InHand, ByWalk, ByRead}
 use Rattle.lerc_theorems.proofs.Calls.{ranges-from}
 use Rattle.lerc_theorems.proofs.Made.{header-made, prepare-made, handed-made, walk-made, read-made}

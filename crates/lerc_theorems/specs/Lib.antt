@@ -1,5 +1,4 @@
 pub mod Cases
-pub mod Witness
 pub mod Promises
 pub mod Calls
 pub mod Unread
