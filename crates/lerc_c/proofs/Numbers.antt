@@ -1,8 +1,8 @@
--- Every refusal carries a number from 1 to 13, so 0 always means accepted.
+-- Every refusal carries a number from 1 to 11, or 13, so 0 always means accepted.
 -- Assumes nothing.
 use Prim.Native.Nat.{ℕ, zero, suc, _+_, _*_, _/_, _%_, _-_, _≤_}
 use mathlib.Core.Path.{_≡_, refl}
-use mathlib.Core.Bool.{Bool, true, false, cond, not, _&&_}
+use mathlib.Core.Bool.{Bool, true, false, cond, not, _&&_, _||_}
 use mathlib.Core.List.{List, [], _∷_}
 use native.Mathlib.Omega.{arith}
 use lib.ListN.{length, getD, take, drop, replicate}
@@ -39,7 +39,7 @@ use Rattle.lerc_c.specs.Entries.{headerEntry, prepareEntry, rangesEntry,
 -- ---- answers whose refusals are numbered, and how they are put together
 
 abbrev inTable : ℕ → Bool
-inTable n = leb 1 n && leb n 13
+inTable n = leb 1 n && (leb n 11 || eqb n 13)
 
 pub record Numbered {A : Type 0} (m : Res A) : Type 0 where
   pub number : (r : Refusal) → m ≡ fail r → inTable (r .number) ≡ true
@@ -349,4 +349,4 @@ zero-accepts {A} {m} p e = go m p e
   where
     go : (x : Res A) → Numbered x → numberOf x ≡ 0 → (a : A) × (x ≡ ok a)
     go (ok a) q d = (a, refl)
-    go (fail r) q d = absurd (let h : 1 ≤ r .number = leb-true 1 (r .number) (and-is (leb 1 (r .number)) (leb (r .number) 13) (q .number r refl) .0) in omega arith)
+    go (fail r) q d = absurd (let h : 1 ≤ r .number = leb-true 1 (r .number) (and-is (leb 1 (r .number)) (leb (r .number) 11 || eqb (r .number) 13) (q .number r refl) .0) in omega arith)

@@ -179,7 +179,7 @@ module _ (i j : ℕ) (s t : List ℕ) (h : Swapped i j s t) where
       go (no p) (yes q) = omega (arith, sum-between (wordCount s) q (omega arith), beyond (omega arith))
       go (no p) (no q) = sum-first (wordCount s) (omega arith)
 
-  -- the running sums of all words are apart by the words' difference times their difference
+  -- the running sums of all words are apart by how far the two stand apart, times their difference
   running-whole : runningSum s (wordCount s) + (j - i) * word s j ≡ runningSum t (wordCount s) + (j - i) * word s i
   running-whole = go (decLt j (wordCount s))
     where

@@ -94,11 +94,11 @@ headerOf b =
       mask = little 4 b 66;
     }
 
--- the bytes that are summedBytes: "14 up to the declared size"
+-- "Bytes 14 up to the declared size"
 abbrev pub summedBytes : List ℕ → ℕ → List ℕ
 summedBytes b size = take (size - 14) (drop 14 b)
 
--- the checksum "at 10" is that of the bytes behind it
+-- "checksum 10": what is stored there is that of the bytes behind it
 unfoldable pub checksumRight : List ℕ → ℕ → Bool
 checksumRight b size = eqb (little 4 b 10) (checksum (summedBytes b size))
 
