@@ -13,6 +13,6 @@ if ! command -v gcc >/dev/null; then
 fi
 tools/archive.sh
 mkdir -p target/examples
-for name in read blocks; do
+for name in read blocks stage; do
     gcc -std=c11 -O2 -Wall -Wextra -Werror -pedantic "examples/$name.c" target/staticlib/liblerc_c.a -o "target/examples/$name"
 done

@@ -6,7 +6,8 @@
  * Answers. Every function that can refuse returns 0 where it accepts, else the number of the refusal:
  *    1  a field, number or packed run passes the declared size, or the blob is shorter than it or than 70 bytes
  *    2  key or version differs
- *    3  a header field breaks its rule, or a number of a record does not fit its field
+ *    3  a header field breaks its rule, or a number of a record does not fit its field; or lerc2_publish is given an
+ *       answer, spare or list that staging did not give
  *    4  a ceiling is passed
  *    5  a slice is too short: place, kept mask, spare mask, mask, image, list, or a record
  *    6  mask section wrong, or a mask would be reused that must not be or has another count of valid pixels
@@ -33,7 +34,7 @@
  *    8  inside a block: its flag byte; else the wrong sweep or mode byte
  *    9  inside a block: its flag byte; else (a constant body, lerc2_stored) 0
  *   10  the sweep byte of a raw body in a walk; the mode byte; 0 for a walk on an empty or constant body
- *    2, 3, 4, 5, 11, 13: 0
+ *    2, 3 (of an answer, spare or list too), 4, 5, 11, 13: 0
  * Inside a block are its check bits, offset, counts, raw words and values. The ranges begin at 70 + mask bytes: all
  * minima, then all maxima, each of the kind's size. Behind them comes the sweep byte, and where it is 0, of kinds 0 and 1
  * with error 0.5, the mode byte; a walk looks for them where its ranges say that the body begins.
@@ -55,8 +56,15 @@
  *
  * Records. A header, ranges and what a function says are arrays of uint64_t. After `place`, a record slice that is too
  * short is refused (5), then a number that its field cannot hold (3: a header field of 2^32 or more, a constant mark that
- * is neither 0 nor 1), then what the function's own comment lists, in that order. After any refusal every record is as it
- * was. On acceptance a record's first entries are written and the rest stay.
+ * is neither 0 nor 1), then what the function's own comment lists, in that order. A staged answer with a number that no
+ * answer has is one that staging did not give, which comes last. After any refusal every record is as it was. On
+ * acceptance a record's first entries are written and the rest stay.
+ *
+ * How half-new terrain is avoided. lerc2_stage does all of the checking and writes neither image nor kept mask, so that a
+ * unit can steer by the old image meanwhile. Then lerc2_publish, under the caller's own lock, checks again, and only then
+ * writes: all valid cells, then the mask. A refusal of either leaves image and kept mask as they were. So a unit that
+ * looks at the image under that lock finds the old terrain or the new, and never a part of each. Threads, locks and
+ * fences are the caller's: while a call runs, no other thread may write what is lent to it, nor read what it writes.
  *
  * Sizes that follow from a header: pixels = rows * columns; a mask has (pixels + 7) / 8 bytes; there are
  * ceil(rows / side) * ceil(columns / side) * depth blocks; cells = pixels * depth. Room is judged from the header
@@ -110,7 +118,20 @@ enum {
     LERC2_READ /* how many numbers */
 };
 
-/* what lerc2_prepare_mask says first */
+/* a staged answer: the header, then these. It begins as what lerc2_read says */
+enum {
+    LERC2_STAGED_BLOCKS = LERC2_HEADER,
+    LERC2_STAGED_END,
+    LERC2_STAGED_BODY,   /* LERC2_EMPTY, LERC2_CONSTANT, LERC2_RAW or LERC2_BLOCKS */
+    LERC2_STAGED_MASK,   /* LERC2_KEPT or LERC2_SPARE */
+    LERC2_STAGED_LENGTH, /* of the mask, in bytes */
+    LERC2_STAGED         /* how many numbers */
+};
+
+/* what a body is: of no valid pixel, of one value for each depth, of words, or in blocks */
+enum { LERC2_EMPTY, LERC2_CONSTANT, LERC2_RAW, LERC2_BLOCKS };
+
+/* which slice holds the mask in force: what lerc2_prepare_mask says first, and a staged answer among other things */
 enum { LERC2_KEPT = 1, LERC2_SPARE = 2 };
 
 /* Whether the calling thread's float unit rounds as the reader needs: some telling operands are added, multiplied and
@@ -130,7 +151,8 @@ bool lerc2_float_ready(uint64_t mix);
 uint32_t lerc2_read_header(const uint8_t *blob, size_t blob_count, uint64_t *header, size_t header_count,
                            uint64_t *place, size_t place_count);
 
-/* A whole blob. `kept` is the mask of the blob before, and is used for a blob without one where reuse is true.
+/* A whole blob: lerc2_stage and lerc2_publish, one after the other, and nothing else. `kept` is the mask of the blob
+ * before, and is used for a blob without one where reuse is true.
  * Refuses 5 (place under 1), 5 (said under 13), then the header's 1, 2, 3, 4, 1, 13; 5 (kept, spare, list or image too
  * short); 6 (mask); 1, 7 (ranges); 9 (constant body); 1, 8, 10 (sweep and mode byte); 1 (raw body); 1, 8, 9 (block by
  * block).
@@ -143,6 +165,44 @@ uint32_t lerc2_read_header(const uint8_t *blob, size_t blob_count, uint64_t *hea
 uint32_t lerc2_read(const uint8_t *blob, size_t blob_count, bool reuse, uint8_t *kept, size_t kept_count, uint8_t *spare,
                     size_t spare_count, size_t *list, size_t list_count, uint64_t *image, size_t image_count,
                     uint64_t *said, size_t said_count, uint64_t *place, size_t place_count);
+
+/* ---- A whole blob in two calls: all of the checking, then all of the writing. */
+
+/* All of the checking of a whole read: the new mask is left in the spare, the starts of the blocks in the list. Image
+ * and kept are not written; the image is lent for its room alone, and its words are not looked at.
+ * Refuses 5 (place under 1), 5 (staged under 16), then as lerc2_read: the header's 1, 2, 3, 4, 1, 13; 5 (kept, spare,
+ * list or image too short); 6 (mask); 1, 7 (ranges); 9 (constant body); 1, 8, 10 (sweep and mode byte); 1 (raw body);
+ * 1, 8, 9 (block by block).
+ * Accepted: staged[0 .. 10] is the header, staged[11] the count of blocks (0 for a body without blocks), staged[12] where
+ *   the body ends, staged[13] what the body is, staged[14] which slice holds the mask in force, staged[15] its length. The
+ *   first staged[15] bytes of spare are the new mask where staged[14] is LERC2_SPARE, else spare is as it was.
+ *   list[0 .. blocks - 1] is where each block begins; for a body without blocks the list is as it was. place[0] is 0.
+ * Refused: staged and list are as they were. So is spare, but for one case: where the mask section was accepted and no
+ *   mask was reused, its first mask bytes are the new mask. place[0] is the place, see "Places". */
+uint32_t lerc2_stage(const uint8_t *blob, size_t blob_count, bool reuse, const uint8_t *kept, size_t kept_count,
+                     uint8_t *spare, size_t spare_count, size_t *list, size_t list_count, const uint64_t *image,
+                     size_t image_count, uint64_t *staged, size_t staged_count, uint64_t *place, size_t place_count);
+
+/* All of the writing, for the blob that was staged: with the answer, spare and list as lerc2_stage left them. Everything
+ * is checked again before anything is written; the body is judged by the mask that the blob gives, whatever the spare
+ * holds.
+ * Refuses 5 (place under 1), 5 (staged under 16, said under 2), then what lerc2_stage refuses of these inputs, with its
+ * place: the header's 1, 2, 3, 4, 1, 13; 5 (kept, spare, list or image too short); 6 (mask); 1, 7 (ranges); 9 (constant
+ * body); 1, 8, 10 (sweep and mode byte); 1 (raw body); 1, 8, 9 (block by block); last 3, where staged[0 .. 15] is not the
+ * answer that lerc2_stage gives for these inputs, or the first mask bytes of spare are not the new mask, or
+ * list[0 .. blocks - 1] is not where the blocks begin. Not looked at are the spare behind the mask, and all of it where
+ * the kept mask is reused; the list behind the blocks, and all of it for a body without blocks. A kept mask that was
+ * changed since, with its count still right, is published by, where the answer and the starts are the same.
+ * Accepted: said[0] is where the body ends, said[1] how many words were written: valid pixels times depth. The valid
+ *   cells of the image hold their words, and the first mask bytes of kept are the mask in force, so that image, kept and
+ *   end are those of lerc2_read. place[0] is 0. The same call once more is accepted and changes nothing more, and so is
+ *   one after fills.
+ * Refused: kept, image and said are as they were. place[0] is the place, see "Places".
+ * Staged, spare and list are not written. */
+uint32_t lerc2_publish(const uint8_t *blob, size_t blob_count, bool reuse, const uint64_t *staged, size_t staged_count,
+                       uint8_t *kept, size_t kept_count, const uint8_t *spare, size_t spare_count, const size_t *list,
+                       size_t list_count, uint64_t *image, size_t image_count, uint64_t *said, size_t said_count,
+                       uint64_t *place, size_t place_count);
 
 /* ---- A blob block by block. Header and ranges are given by value: they are held to the rules again, and not compared
  * with the blob; its checksum is not tested again. */

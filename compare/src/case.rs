@@ -1,6 +1,8 @@
 //! One call: the operation, and everything it is lent.
 
-/// The operations of the C interface.
+use crate::publishes::Sort;
+
+/// The operations of the C interface, and two of them one after the other.
 #[derive(Clone, Copy, Debug, PartialEq, Eq)]
 pub enum Op {
     Header,
@@ -9,6 +11,10 @@ pub enum Op {
     Walk,
     Fill,
     Read,
+    Stage,
+    Publish,
+    /// Stage, some fills, publish: on the plain side a whole read.
+    Both,
     Sum,
     Scaled,
     Narrow,
@@ -17,23 +23,28 @@ pub enum Op {
 }
 
 impl Op {
-    /// All but arithmetic.
-    pub const READING: [Op; 6] = [
+    /// The entries that read a blob.
+    pub const READING: [Op; 8] = [
         Op::Header,
         Op::Mask,
         Op::Ranges,
         Op::Walk,
         Op::Fill,
         Op::Read,
+        Op::Stage,
+        Op::Publish,
     ];
 
-    pub const ALL: [Op; 11] = [
+    pub const ALL: [Op; 14] = [
         Op::Header,
         Op::Mask,
         Op::Ranges,
         Op::Walk,
         Op::Fill,
         Op::Read,
+        Op::Stage,
+        Op::Publish,
+        Op::Both,
         Op::Sum,
         Op::Scaled,
         Op::Narrow,
@@ -41,7 +52,7 @@ impl Op {
         Op::Stored,
     ];
 
-    /// The entry's name without `lerc2_`.
+    /// The entry's name without `lerc2_`, or two.
     pub fn name(self) -> &'static str {
         match self {
             Op::Header => "read_header",
@@ -50,6 +61,9 @@ impl Op {
             Op::Walk => "walk",
             Op::Fill => "fill",
             Op::Read => "read",
+            Op::Stage => "stage",
+            Op::Publish => "publish",
+            Op::Both => "stage+publish",
             Op::Sum => "sum",
             Op::Scaled => "scaled",
             Op::Narrow => "narrow",
@@ -60,7 +74,16 @@ impl Op {
 
     /// All but arithmetic.
     pub fn has_blob(self) -> bool {
-        Op::READING.contains(&self)
+        Op::READING.contains(&self) || self == Op::Both
+    }
+
+    /// Those that are given no header read the blob's own.
+    pub fn reads_header(self) -> bool {
+        self.has_blob() && !self.is_given_header()
+    }
+
+    pub fn is_given_header(self) -> bool {
+        matches!(self, Op::Mask | Op::Ranges | Op::Walk | Op::Fill)
     }
 
     /// Those that can are lent a slice for the place.
@@ -84,12 +107,16 @@ pub struct Case {
     pub spare: Vec<u8>,
     pub list: Vec<usize>,
     pub image: Vec<u64>,
+    /// The record of a staged answer, written by `stage`, read by `publish`.
+    pub staged: Vec<u64>,
     pub said: Vec<u64>,
     pub reuse: bool,
-    /// Fill: the block's number. Arithmetic: the operands.
+    /// Fill: the block's number. Both: how many fills. Arithmetic: the operands.
     pub numbers: [u64; 2],
     /// The first number of it is the place of the refusal, afterwards.
     pub place: Vec<u64>,
+    /// How a publish was come to; it is counted, and not lent.
+    pub sort: Option<Sort>,
 }
 
 impl Case {
@@ -105,10 +132,12 @@ impl Case {
             spare: Vec::new(),
             list: Vec::new(),
             image: Vec::new(),
+            staged: Vec::new(),
             said: Vec::new(),
             reuse: false,
             numbers: [0; 2],
             place: vec![7; usize::from(op.can_refuse())],
+            sort: None,
         }
     }
 
@@ -137,10 +166,11 @@ const BYTES: [Part<u8>; 4] = [
     |case| &mut case.spare,
 ];
 
-const NUMBERS: [Part<u64>; 5] = [
+const NUMBERS: [Part<u64>; 6] = [
     |case| &mut case.header,
     |case| &mut case.ranges,
     |case| &mut case.image,
+    |case| &mut case.staged,
     |case| &mut case.said,
     |case| &mut case.place,
 ];
@@ -210,6 +240,7 @@ impl After {
             .or_else(|| first_of("spare", &a.spare, &b.spare))
             .or_else(|| first_of("list", &a.list, &b.list))
             .or_else(|| first_of("image", &a.image, &b.image))
+            .or_else(|| first_of("staged", &a.staged, &b.staged))
             .or_else(|| first_of("said", &a.said, &b.said))
             .or_else(|| first_of("place", &a.place, &b.place))
     }

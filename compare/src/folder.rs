@@ -6,6 +6,7 @@ use crate::checksum;
 use crate::damage;
 use crate::paths::Paths;
 use crate::places::Places;
+use crate::publishes::{Publishes, Sort};
 use crate::random::Random;
 use crate::run::Side;
 use crate::sides::{ranges_record, record};
@@ -38,6 +39,7 @@ pub struct Counts {
     pub table: Table,
     pub paths: Paths,
     pub places: Places,
+    pub publishes: Publishes,
 }
 
 /// The first call on which the sides differ.
@@ -59,6 +61,7 @@ impl Both<'_> {
         }
         self.counts.paths.count(case, &other);
         self.counts.places.count(case, &other);
+        self.counts.publishes.count(case, &other);
         Ok(after)
     }
 
@@ -97,24 +100,27 @@ impl Both<'_> {
         }
     }
 
-    /// Header and whole reads; without room, and if the header is right with
-    /// just enough and with each slice one short.
+    /// Header, whole reads, and stage and publish; without room, and if the
+    /// header is right with just enough and with each slice one short.
     fn reads(&mut self, blob: &[u8]) -> Result<(), Differs> {
         let mut case = Case::new(Op::Header);
         case.blob = blob.to_vec();
         case.header = vec![7; raw::HEADER];
         self.call(&case)?;
-        case.op = Op::Read;
         case.header.clear();
         case.said = vec![7; raw::READ];
-        self.call(&case)?;
+        case.staged = vec![7; raw::STAGED];
+        self.whole_calls(&case)?;
         let Ok(header) = second::read_header(blob) else {
             return Ok(());
         };
         lend(&mut case, &header);
+        case.op = Op::Read;
         for reuse in [true, false] {
             case.reuse = reuse;
             self.call(&case)?;
+            self.both(&case)?;
+            self.publishes(&case)?;
         }
         for short in 0..4 {
             let mut case = case.clone();
@@ -124,9 +130,68 @@ impl Both<'_> {
                 2 => drop(case.list.pop()),
                 _ => drop(case.image.pop()),
             }
+            self.whole_calls(&case)?;
+        }
+        Ok(())
+    }
+
+    /// A whole read, and each of the two that it is made of, by itself.
+    fn whole_calls(&mut self, case: &Case) -> Result<(), Differs> {
+        for op in [Op::Read, Op::Stage, Op::Publish] {
+            let mut case = case.clone();
+            case.op = op;
             self.call(&case)?;
         }
         Ok(())
+    }
+
+    /// Stage and publish from the state of a whole read, with no block filled
+    /// between and with two.
+    fn both(&mut self, read: &Case) -> Result<(), Differs> {
+        for fills in [0, 2] {
+            let mut case = read.clone();
+            case.op = Op::Both;
+            case.numbers[0] = fills;
+            self.call(&case)?;
+        }
+        Ok(())
+    }
+
+    /// What staging leaves is published twice, then with the spare, the last
+    /// start and the answer changed.
+    fn publishes(&mut self, read: &Case) -> Result<(), Differs> {
+        let mut case = read.clone();
+        case.op = Op::Stage;
+        let staged = self.call(&case)?;
+        case = staged.lent;
+        case.op = Op::Publish;
+        if staged.answer != 0 {
+            return self.sorted(Sort::Refused, case).map(|_| ());
+        }
+        let published = self.sorted(Sort::AsStaged, case.clone())?.lent;
+        let (kept, image) = (published.kept, published.image);
+        let again = Case {
+            kept,
+            image,
+            ..case.clone()
+        };
+        self.sorted(Sort::Again, again)?;
+        let mut spare = case.clone();
+        spare.spare.iter_mut().take(1).for_each(|byte| *byte ^= 1);
+        self.sorted(Sort::Spare, spare)?;
+        if let Some(last) = (case.staged[raw::HEADER] as usize).checked_sub(1) {
+            let mut list = case.clone();
+            list.list[last] += 1;
+            self.sorted(Sort::LastStart, list)?;
+        }
+        case.staged[raw::STAGED - 1] += 1;
+        self.sorted(Sort::Forged, case)?;
+        Ok(())
+    }
+
+    fn sorted(&mut self, sort: Sort, case: Case) -> Result<After, Differs> {
+        let sort = Some(sort);
+        self.call(&Case { sort, ..case })
     }
 
     /// What is given a header by value: mask, ranges, walk and fill.

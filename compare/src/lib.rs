@@ -19,6 +19,8 @@ pub mod operands;
 pub mod paths;
 pub mod places;
 pub mod plan;
+pub mod publishes;
+mod publishing;
 pub mod random;
 pub mod run;
 pub mod shrink;

@@ -2,6 +2,7 @@ use compare::arithmetic::{self, PROVED};
 use compare::folder;
 use compare::paths::Paths;
 use compare::places::Places;
+use compare::publishes::Publishes;
 use compare::run::{Failure, Run};
 use compare::sides::{plain, proved};
 use compare::store;
@@ -36,10 +37,11 @@ compare esri FOLDER..
     the same with every NAME.lerc2 of the folders
 
 run, folder and esri count accepted blocks, tiles and bodies by path; run and
-folder count calls by the place at which they are refused.
+folder count calls by the place at which they are refused, and publishes by what
+was done since staging.
 
 Exit status: 0 no disagreement, 1 some, 2 wrong words, or it could not be run,
-or a run of 200,000 calls or more left a path or a place out.
+or a run of 500,000 calls or more left a path, a place or a sort of publish out.
 ";
 
 fn main() -> ExitCode {
@@ -160,6 +162,9 @@ fn run(rest: &[&str]) -> Result<bool, Box<dyn Error>> {
     println!("Accepted whole reads:\n\n{}", report.bodies.text());
     paths_shown(&report.paths);
     places_shown(&report.places);
+    publishes_shown(&report.publishes);
+    let share = 100 * report.publishes.disturbed() / report.table.total().max(1);
+    println!("Something was done before a publish in {share} of 100 calls\n");
     println!(
         "{} calls on {} blobs in {:.0} s, {} disagreements",
         grouped(report.table.total()),
@@ -180,6 +185,10 @@ fn paths_shown(paths: &Paths) {
 
 fn places_shown(places: &Places) {
     println!("Calls by place:\n\n{}", places.text());
+}
+
+fn publishes_shown(publishes: &Publishes) {
+    println!("Publishes by sort:\n\n{}", publishes.text());
 }
 
 fn arithmetic_compared(rest: &[&str]) -> Result<bool, Box<dyn Error>> {
@@ -247,6 +256,7 @@ fn folders_compared(folders: &[&str]) -> Result<bool, Box<dyn Error>> {
     println!("\n{}", counts.table.text());
     paths_shown(&counts.paths);
     places_shown(&counts.places);
+    publishes_shown(&counts.publishes);
     println!(
         "{} calls on {count} blobs, {disagreements} disagreements",
         grouped(counts.table.total())

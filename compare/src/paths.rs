@@ -102,11 +102,12 @@ impl Path {
     }
 }
 
-/// Counts by path, of whole reads and of fills.
+/// Counts by path, of whole reads, of fills and of publishes.
 #[derive(Clone, Default)]
 pub struct Paths {
     pub reads: Counts,
     pub fills: Counts,
+    pub publishes: Counts,
 }
 
 #[derive(Clone, Debug, PartialEq, Eq)]
@@ -138,6 +139,26 @@ impl Counts {
         };
         block_paths(&block, |path| self.add(path));
     }
+
+    /// A blob that was read or published, given the mask in force and the block
+    /// starts.
+    fn add_whole(&mut self, blob: &[u8], mask: &[u8], starts: &[usize]) {
+        let header = second::read_header(blob).expect("it was read");
+        if header.valid == 0 {
+            self.add(Path::Empty);
+            return;
+        }
+        let ranges = second::read_ranges(blob, &header).expect("it was read");
+        self.add(body_path(&header, &ranges, starts));
+        let depths = header.depth as usize;
+        for (block, &start) in starts.iter().enumerate() {
+            if block % depths == 0 {
+                self.add(tile_path(&header, mask, block / depths));
+            }
+            let maximum = ranges.max[block % depths];
+            self.add_block(blob, start, &header, maximum);
+        }
+    }
 }
 
 impl Paths {
@@ -150,7 +171,13 @@ impl Paths {
         match case.op {
             Op::Read => {
                 let blocks = lent.said[raw::HEADER] as usize;
-                self.count_read(&case.blob, &lent.kept, &lent.list[..blocks]);
+                self.reads
+                    .add_whole(&case.blob, &lent.kept, &lent.list[..blocks]);
+            }
+            Op::Publish => {
+                let blocks = lent.staged[raw::HEADER] as usize;
+                self.publishes
+                    .add_whole(&case.blob, &lent.kept, &lent.list[..blocks]);
             }
             Op::Fill => self.count_fill(case),
             _ => {}
@@ -168,27 +195,7 @@ impl Paths {
         let mut image = vec![0; header.cells()];
         let read = second::read(blob, false, &mut kept, &mut spare, &mut list, &mut image);
         if let Ok((_, blocks, _)) = read {
-            self.count_read(blob, &kept, &list[..blocks]);
-        }
-    }
-
-    /// An accepted whole read, given the mask in force and the block starts.
-    fn count_read(&mut self, blob: &[u8], mask: &[u8], starts: &[usize]) {
-        let header = second::read_header(blob).expect("it was read");
-        if header.valid == 0 {
-            self.reads.add(Path::Empty);
-            return;
-        }
-        let ranges = second::read_ranges(blob, &header).expect("it was read");
-        self.reads.add(body_path(&header, &ranges, starts));
-        let depths = header.depth as usize;
-        for (block, &start) in starts.iter().enumerate() {
-            if block % depths == 0 {
-                let tile = tile_path(&header, mask, block / depths);
-                self.reads.add(tile);
-            }
-            let maximum = ranges.max[block % depths];
-            self.reads.add_block(blob, start, &header, maximum);
+            self.reads.add_whole(blob, &kept, &list[..blocks]);
         }
     }
 
@@ -203,7 +210,7 @@ impl Paths {
         self.fills.add_block(&case.blob, start, &header, maximum);
     }
 
-    /// What no whole read had, and what no fill had.
+    /// What no whole read had, no fill, or no publish.
     pub fn missing(&self) -> Vec<String> {
         let mut missing = Vec::new();
         for (path, name) in PATHS {
@@ -213,20 +220,24 @@ impl Paths {
             if self.fills.of(path) == 0 && !path.is_body() {
                 missing.push(format!("{name} (fills)"));
             }
+            if self.publishes.of(path) == 0 {
+                missing.push(format!("{name} (publishes)"));
+            }
         }
         missing
     }
 
     pub fn text(&self) -> String {
-        let mut text = String::from("| path | whole reads | fills |\n|---|---|---|\n");
+        let mut text = String::from("| path | whole reads | fills | publishes |\n");
+        text += "|---|---|---|---|\n";
         for (path, name) in PATHS {
-            let (reads, fills) = (grouped(self.reads.of(path)), self.fills.of(path));
-            // A fill has no body, and not every run has fills.
-            let fills = match fills {
+            // A fill has no body, and not every run has fills and publishes.
+            let [fills, publishes] = [&self.fills, &self.publishes].map(|c| match c.of(path) {
                 0 => "-".into(),
-                _ => grouped(fills),
-            };
-            text += &format!("| {name} | {reads} | {fills} |\n");
+                count => grouped(count),
+            });
+            let reads = grouped(self.reads.of(path));
+            text += &format!("| {name} | {reads} | {fills} | {publishes} |\n");
         }
         text
     }

@@ -59,6 +59,7 @@ pub enum Site {
     Number,
     ShortRecord,
     WideNumber,
+    NotStaged,
     Accepted,
     AcceptedByFold,
     AcceptedUnsummed,
@@ -74,20 +75,30 @@ const EVERY: &[Op] = &[
     Op::Walk,
     Op::Fill,
     Op::Read,
+    Op::Stage,
+    Op::Publish,
     Op::Stored,
 ];
 const WITH_HEADER: &[Op] = &Op::READING;
-const OWN_HEADER: &[Op] = &[Op::Header, Op::Read];
+const OWN_HEADER: &[Op] = &[Op::Header, Op::Read, Op::Stage, Op::Publish];
 const GIVEN_HEADER: &[Op] = &[Op::Mask, Op::Ranges, Op::Walk, Op::Fill];
-const ROOM: &[Op] = &[Op::Mask, Op::Walk, Op::Fill, Op::Read];
-const MASK: &[Op] = &[Op::Mask, Op::Read];
-const RANGES: &[Op] = &[Op::Ranges, Op::Read];
+const ROOM: &[Op] = &[
+    Op::Mask,
+    Op::Walk,
+    Op::Fill,
+    Op::Read,
+    Op::Stage,
+    Op::Publish,
+];
+const WHOLE: &[Op] = &[Op::Read, Op::Stage, Op::Publish];
+const MASK: &[Op] = &[Op::Mask, Op::Read, Op::Stage, Op::Publish];
+const RANGES: &[Op] = &[Op::Ranges, Op::Read, Op::Stage, Op::Publish];
 const GIVEN: &[Op] = &[Op::Walk, Op::Fill];
-const BODY: &[Op] = &[Op::Walk, Op::Read];
-const BLOCK: &[Op] = &[Op::Walk, Op::Fill, Op::Read];
+const BODY: &[Op] = &[Op::Walk, Op::Read, Op::Stage, Op::Publish];
+const BLOCK: &[Op] = &[Op::Walk, Op::Fill, Op::Read, Op::Stage, Op::Publish];
 
 /// All of them in order, with their names and the operations that have them.
-pub const SITES: [(Site, &str, &[Op]); 57] = [
+pub const SITES: [(Site, &str, &[Op]); 58] = [
     (Site::FlagMissing, "flag byte: missing (1)", BLOCK),
     (
         Site::FlagFar,
@@ -152,21 +163,13 @@ pub const SITES: [(Site, &str, &[Op]); 57] = [
     (
         Site::WordMissing,
         "raw word: nothing of it is there (1)",
-        &[Op::Read],
+        WHOLE,
     ),
-    (
-        Site::WordCut,
-        "raw word: some of it is there (1)",
-        &[Op::Read],
-    ),
+    (Site::WordCut, "raw word: some of it is there (1)", WHOLE),
     (Site::RangesGiven, "0: ranges by value (7)", GIVEN),
     (Site::EmptyBody, "0: empty body (10)", &[Op::Walk]),
     (Site::ConstantBody, "0: constant body (10)", &[Op::Walk]),
-    (
-        Site::Constant,
-        "0: a constant does not fit (9)",
-        &[Op::Read],
-    ),
+    (Site::Constant, "0: a constant does not fit (9)", WHOLE),
     (Site::Under70, "0: under 70 bytes (1)", OWN_HEADER),
     (Site::UnderSize, "0: under the size (1)", WITH_HEADER),
     (Site::Key, "0: key or version (2)", OWN_HEADER),
@@ -193,7 +196,7 @@ pub const SITES: [(Site, &str, &[Op]); 57] = [
     (
         Site::SumNoRoom,
         "0: checksum, and a slice is too short (13)",
-        &[Op::Read],
+        WHOLE,
     ),
     (Site::Room, "0: a slice is too short (5)", ROOM),
     (Site::NoBlock, "0: block number (11)", &[Op::Fill]),
@@ -203,6 +206,11 @@ pub const SITES: [(Site, &str, &[Op]); 57] = [
         Site::WideNumber,
         "0: a number of a record (3)",
         GIVEN_HEADER,
+    ),
+    (
+        Site::NotStaged,
+        "0: an answer, mask or list that was not staged (3)",
+        &[Op::Publish],
     ),
     (Site::Accepted, "0: accepted", EVERY),
     (
@@ -240,7 +248,8 @@ impl Default for Places {
 impl Places {
     /// Counts a call that both sides answered alike, given what is left of it.
     pub fn count(&mut self, case: &Case, after: &After) {
-        if !case.op.can_refuse() {
+        // What two calls came upon is counted by each of them.
+        if !case.op.can_refuse() || case.op == Op::Both {
             return;
         }
         match case.place.len() {

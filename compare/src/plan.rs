@@ -5,8 +5,9 @@ use crate::case::{each_part, Case, Element, Op, Part, Visit};
 use crate::checksum;
 use crate::damage;
 use crate::form::{any_form, form, Body, Fault, Form, Wanted};
+use crate::publishing::publishes;
 use crate::random::Random;
-use crate::sides::{ranges_record, record};
+use crate::sides::{plain, ranges_record, record};
 use lerc2::raw;
 use second::{Header, Ranges};
 
@@ -14,16 +15,16 @@ use second::{Header, Ranges};
 const USUAL_CELLS: usize = 20_000;
 
 /// What is known of a blob before it is called with.
-struct Blob {
-    bytes: Vec<u8>,
-    header: Header,
-    ranges: [u64; raw::RANGES],
-    mask: Vec<u8>,
-    starts: Vec<usize>,
+pub(crate) struct Blob {
+    pub bytes: Vec<u8>,
+    pub header: Header,
+    pub ranges: [u64; raw::RANGES],
+    pub mask: Vec<u8>,
+    pub starts: Vec<usize>,
 }
 
 impl Blob {
-    fn new(form: &Form, bytes: Vec<u8>) -> Blob {
+    pub fn new(form: &Form, bytes: Vec<u8>) -> Blob {
         let f = &form.fields;
         let header = Header {
             rows: f.rows,
@@ -85,12 +86,14 @@ pub fn calls(random: &mut Random, out: &mut Vec<Case>) {
         Op::Fill,
         Op::Read,
         Op::Read,
+        Op::Stage,
     ];
     for op in ops {
         if let Some(case) = call(random, &blob, op) {
             out.push(case);
         }
     }
+    staged_calls(random, &form, &blob, out);
     for _ in 0..4 {
         out.push(arithmetic(random));
     }
@@ -105,14 +108,51 @@ pub fn calls(random: &mut Random, out: &mut Vec<Case>) {
     }
 }
 
+/// Stage and publish, in one and by themselves; of some images whose mask is in
+/// the blob as if it were kept.
+fn staged_calls(random: &mut Random, form: &Form, blob: &Blob, out: &mut Vec<Case>) {
+    both(random, blob, out);
+    if random.once_in(3) && !form.section.is_empty() {
+        let form = without_section(form);
+        publishes(random, &Blob::new(&form, form.bytes()), out);
+    } else {
+        publishes(random, blob, out);
+    }
+}
+
+/// Stage and publish in one, and a whole read from the same state.
+fn both(random: &mut Random, blob: &Blob, out: &mut Vec<Case>) {
+    let Some(read) = call(random, blob, Op::Read) else {
+        return;
+    };
+    let op = Op::Both;
+    let fills = random.pick(&[0, 0, 1, 5, u64::MAX]);
+    let numbers = [fills, 0];
+    out.push(Case {
+        op,
+        numbers,
+        ..read.clone()
+    });
+    out.push(read);
+}
+
+/// The same image for those who keep its mask.
+fn without_section(form: &Form) -> Form {
+    let mut form = form.clone();
+    let length = form.section.len();
+    form.section.clear();
+    form.starts.iter_mut().for_each(|start| *start -= length);
+    form
+}
+
 /// A call with lengths and contents at random.
-fn call(random: &mut Random, blob: &Blob, op: Op) -> Option<Case> {
+pub(crate) fn call(random: &mut Random, blob: &Blob, op: Op) -> Option<Case> {
     let mut case = Case::new(op);
     case.place = marks(random, raw::PLACE);
     case.blob = blob.bytes.clone();
     case.reuse = random.once_in(2);
     let mut header = record(&blob.header).to_vec();
-    if matches!(op, Op::Mask | Op::Ranges | Op::Walk | Op::Fill) {
+    if op.is_given_header() {
         if random.once_in(5) {
             damage::header(random, &mut header);
         }
@@ -123,7 +163,7 @@ fn call(random: &mut Random, blob: &Blob, op: Op) -> Option<Case> {
     }
     // The room that the header in use asks for; the blob's own may be damaged.
     let asks = match op {
-        Op::Read => second::read_header(&case.blob).unwrap_or(blob.header),
+        Op::Read | Op::Stage => second::read_header(&case.blob).unwrap_or(blob.header),
         _ => as_header(&header),
     };
     let (cells, blocks, masks) = (asks.cells(), asks.blocks(), asks.mask_length());
@@ -158,12 +198,15 @@ fn call(random: &mut Random, blob: &Blob, op: Op) -> Option<Case> {
                 case.image = marks(random, cells);
             }
         }
-        Op::Read => {
+        Op::Read | Op::Stage => {
             case.kept = mask(random, blob, masks);
             case.spare = bytes(random, masks);
             case.list = list(random, blocks);
             case.image = marks(random, cells);
-            case.said = marks(random, raw::READ);
+            match op {
+                Op::Read => case.said = marks(random, raw::READ),
+                _ => case.staged = marks(random, raw::STAGED),
+            }
         }
         _ => {}
     }
@@ -211,7 +254,7 @@ fn bytes(random: &mut Random, needed: usize) -> Vec<u8> {
     random.bytes(length)
 }
 
-fn marks(random: &mut Random, needed: usize) -> Vec<u64> {
+pub(crate) fn marks(random: &mut Random, needed: usize) -> Vec<u64> {
     let length = around(random, needed);
     let mark = random.word();
     (0..length as u64).map(|n| mark.wrapping_add(n)).collect()
@@ -289,7 +332,7 @@ fn is_raw(blob: &Blob) -> bool {
 }
 
 /// Whole reads of a raw body whose declared size ends at every byte, in a large
-/// one at some in a row.
+/// one at some in a row, and as many stagings or publishes.
 fn raw_cuts(random: &mut Random, blob: &Blob, out: &mut Vec<Case>) {
     const MOST: usize = 48;
     let size = blob.bytes.len().min(blob.header.size as usize);
@@ -298,8 +341,9 @@ fn raw_cuts(random: &mut Random, blob: &Blob, out: &mut Vec<Case>) {
         sizes.start += random.below(sizes.len() - MOST);
         sizes.end = sizes.start + MOST;
     }
-    for size in sizes {
-        let mut case = exact(random, blob, Op::Read);
+    let other = random.pick(&[Op::Stage, Op::Publish]);
+    for (size, op) in sizes.flat_map(|size| [(size, Op::Read), (size, other)]) {
+        let mut case = exact(random, blob, op);
         case.blob[34..38].copy_from_slice(&(size as u32).to_le_bytes());
         checksum::mend(&mut case.blob);
         out.push(case);
@@ -364,16 +408,19 @@ fn exact(random: &mut Random, blob: &Blob, op: Op) -> Case {
     };
     case.header = match op {
         Op::Header => numbers(raw::HEADER),
-        Op::Read => Vec::new(),
-        _ => record(h).to_vec(),
+        _ if op.is_given_header() => record(h).to_vec(),
+        _ => Vec::new(),
     };
     match op {
-        Op::Mask | Op::Read => {
+        Op::Mask | Op::Read | Op::Stage => {
             case.reuse = random.once_in(2);
             case.kept = blob.mask.clone();
             case.spare = vec![0x5A; h.mask_length()];
-            let said = if op == Op::Mask { raw::MASK } else { raw::READ };
-            case.said = numbers(said);
+            match op {
+                Op::Mask => case.said = numbers(raw::MASK),
+                Op::Read => case.said = numbers(raw::READ),
+                _ => case.staged = numbers(raw::STAGED),
+            }
         }
         Op::Ranges => case.ranges = numbers(raw::RANGES),
         Op::Walk | Op::Fill => {
@@ -391,9 +438,14 @@ fn exact(random: &mut Random, blob: &Blob, op: Op) -> Case {
             case.numbers[0] = random.below(h.blocks()) as u64;
             case.image = numbers(h.cells());
         }
-        Op::Read => {
+        Op::Read | Op::Stage => {
             case.list = vec![7; h.blocks()];
             case.image = numbers(h.cells());
+        }
+        Op::Publish => {
+            let staged = plain(&exact(random, blob, Op::Stage)).lent;
+            let said = numbers(raw::PUBLISH);
+            return Case { op, said, ..staged };
         }
         _ => {}
     }
@@ -545,7 +597,12 @@ pub fn large(random: &mut Random, out: &mut Vec<Case>) {
     };
     let form = form(random, wanted);
     let blob = Blob::new(&form, form.bytes());
-    for op in [Op::Mask, Op::Ranges, Op::Walk, Op::Fill, Op::Read] {
+    // All but the header alone.
+    for &op in &Op::READING[1..] {
         out.push(exact(random, &blob, op));
     }
+    out.push(Case {
+        op: Op::Both,
+        ..exact(random, &blob, Op::Read)
+    });
 }

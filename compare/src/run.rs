@@ -4,6 +4,7 @@ use crate::case::{After, Case, Op};
 use crate::paths::Paths;
 use crate::places::Places;
 use crate::plan;
+use crate::publishes::Publishes;
 use crate::random::Random;
 use crate::shrink::shrunk;
 use crate::table::{grouped, Bodies, Table};
@@ -11,8 +12,12 @@ use crate::table::{grouped, Bodies, Table};
 /// One blob in so many is a large one.
 const LARGE: u64 = 8192;
 
-/// A run of so many calls must have taken every path and come upon every place.
-pub const FULL_RUN: u64 = 200_000;
+/// A run of so many calls must have taken every path and come upon every place
+/// and every sort of publish.
+pub const FULL_RUN: u64 = 500_000;
+
+/// One call in so many at least publishes something else than was staged.
+const DISTURBED: u64 = 3;
 
 /// One side of the comparison.
 pub type Side = fn(&Case) -> After;
@@ -52,6 +57,7 @@ pub struct Report {
     pub bodies: Bodies,
     pub paths: Paths,
     pub places: Places,
+    pub publishes: Publishes,
     pub blobs: u64,
     pub failures: Vec<Failure>,
 }
@@ -70,14 +76,30 @@ impl Report {
             ));
         }
         let calls = self.table.total();
-        let missing = [self.paths.missing(), self.places.missing()].concat();
-        if calls < FULL_RUN || missing.is_empty() {
+        let missing = [
+            self.paths.missing(),
+            self.places.missing(),
+            self.publishes.missing(),
+        ]
+        .concat();
+        if calls < FULL_RUN {
             return Ok(true);
         }
-        let (calls, names) = (grouped(calls), missing.join("; "));
-        Err(format!(
-            "none of {calls} calls came upon this, so it was not compared: {names}"
-        ))
+        if !missing.is_empty() {
+            let (calls, names) = (grouped(calls), missing.join("; "));
+            return Err(format!(
+                "none of {calls} calls came upon this, so it was not compared: {names}"
+            ));
+        }
+        let disturbed = self.publishes.disturbed();
+        if disturbed < calls / DISTURBED {
+            let (calls, disturbed) = (grouped(calls), grouped(disturbed));
+            return Err(format!(
+                "only {disturbed} of {calls} calls publish what was not staged or was \
+                 disturbed since, less than one in {DISTURBED}"
+            ));
+        }
+        Ok(true)
     }
 }
 
@@ -88,6 +110,7 @@ impl Run {
             bodies: Bodies::default(),
             paths: Paths::default(),
             places: Places::default(),
+            publishes: Publishes::default(),
             blobs: 0,
             failures: Vec::new(),
         };
@@ -114,6 +137,7 @@ impl Run {
                 }
                 report.paths.count(&case, &other);
                 report.places.count(&case, &other);
+                report.publishes.count(&case, &other);
             }
             cases.clear();
             report.blobs += 1;

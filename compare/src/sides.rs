@@ -4,7 +4,7 @@ use crate::case::{After, Case, Op};
 use crate::lent::Lent;
 use lerc2::raw;
 use second::refusal::{NO_ROOM, WRONG_FIELD};
-use second::{Header, Ranges, Refusal, MOST_DEPTH};
+use second::{BodyKind, Header, Mask, Ranges, Refusal, StageAnswer, Staged, MOST_DEPTH};
 
 /// The slices of a call, marked on both sides.
 struct Slices {
@@ -16,6 +16,7 @@ struct Slices {
     spare: Lent<u8>,
     list: Lent<usize>,
     image: Lent<u64>,
+    staged: Lent<u64>,
     said: Lent<u64>,
     place: Lent<u64>,
 }
@@ -30,6 +31,7 @@ fn called(case: &Case, call: impl Fn(&Case, &mut Slices) -> (u32, u64)) -> After
         spare: Lent::new(&case.spare),
         list: Lent::new(&case.list),
         image: Lent::new(&case.image),
+        staged: Lent::new(&case.staged),
         said: Lent::new(&case.said),
         place: Lent::new(&case.place),
     };
@@ -45,10 +47,12 @@ fn called(case: &Case, call: impl Fn(&Case, &mut Slices) -> (u32, u64)) -> After
         spare: slices.spare.back(&mut outside),
         list: slices.list.back(&mut outside),
         image: slices.image.back(&mut outside),
+        staged: slices.staged.back(&mut outside),
         said: slices.said.back(&mut outside),
         place: slices.place.back(&mut outside),
         reuse: case.reuse,
         numbers: case.numbers,
+        sort: case.sort,
     };
     After {
         answer,
@@ -64,7 +68,8 @@ pub fn proved(case: &Case) -> After {
         let (blob, header, ranges) = (s.blob.slice(), s.header.slice(), s.ranges.slice());
         let (mask, kept, spare) = (s.mask.slice(), s.kept.slice(), s.spare.slice());
         let (list, image, said) = (s.list.slice(), s.image.slice(), s.said.slice());
-        let (place, reuse, [a, b]) = (s.place.slice(), case.reuse, case.numbers);
+        let (staged, place) = (s.staged.slice(), s.place.slice());
+        let (reuse, [a, b]) = (case.reuse, case.numbers);
         let number = a as usize;
         let answer = match case.op {
             Op::Header => raw::read_header(blob, header, place),
@@ -73,6 +78,9 @@ pub fn proved(case: &Case) -> After {
             Op::Walk => raw::walk(blob, header, ranges, mask, list, said, place),
             Op::Fill => raw::fill(blob, header, ranges, mask, list, number, image, said, place),
             Op::Read => raw::read(blob, reuse, kept, spare, list, image, said, place),
+            Op::Stage => raw::stage(blob, reuse, kept, spare, list, image, staged, place),
+            Op::Publish => raw::publish(blob, reuse, staged, kept, spare, list, image, said, place),
+            Op::Both => return proved_both(case, s),
             Op::Stored => raw::stored(a, b as u32, said, place),
             Op::Sum => return (0, raw::sum(a, b)),
             Op::Scaled => return (0, raw::scaled(a, b as u32)),
@@ -81,6 +89,65 @@ pub fn proved(case: &Case) -> After {
         };
         (answer, 0)
     })
+}
+
+/// Stage, some fills if there are blocks, publish. Said is what a whole read
+/// says; the word is the number of words written.
+fn proved_both(case: &Case, s: &mut Slices) -> (u32, u64) {
+    let (blob, reuse) = (s.blob.slice(), case.reuse);
+    let (kept, spare, list) = (s.kept.slice(), s.spare.slice(), s.list.slice());
+    let (image, said, place) = (s.image.slice(), s.said.slice(), s.place.slice());
+    if said.len() < raw::READ {
+        place.iter_mut().take(1).for_each(|place| *place = 0);
+        return (NO_ROOM, 0);
+    }
+    let mut staged = [7; raw::STAGED];
+    let answer = raw::stage(blob, reuse, kept, spare, list, image, &mut staged, place);
+    if answer != 0 {
+        return (answer, 0);
+    }
+    let mask = if staged[14] == 1 { &*kept } else { &*spare };
+    let filled = proved_fills(case, blob, &staged, mask, list, image, place);
+    if filled != 0 {
+        return (filled, 0);
+    }
+    let mut words = [0; raw::PUBLISH];
+    let answer = raw::publish(
+        blob, reuse, &staged, kept, spare, list, image, &mut words, place,
+    );
+    if answer == 0 {
+        said[..raw::READ].copy_from_slice(&staged[..raw::READ]);
+        said[raw::READ - 1] = words[0];
+    }
+    (answer, words[1])
+}
+
+/// As many blocks as the call says, of those that there are.
+fn proved_fills(
+    case: &Case,
+    blob: &[u8],
+    staged: &[u64],
+    mask: &[u8],
+    list: &[usize],
+    image: &mut [u64],
+    place: &mut [u64],
+) -> u32 {
+    let (header, blocks) = (&staged[..raw::HEADER], staged[raw::HEADER]);
+    let mut ranges = [0; raw::RANGES];
+    for n in 0..case.numbers[0].min(blocks) {
+        let number = (n * 7919 % blocks) as usize;
+        let said = &mut [0];
+        let answer = match raw::read_ranges(blob, header, &mut ranges, place) {
+            0 => raw::fill(
+                blob, header, &ranges, mask, list, number, image, said, place,
+            ),
+            refused => refused,
+        };
+        if answer != 0 {
+            return answer;
+        }
+    }
+    0
 }
 
 /// The plain reader, lent the same records.
@@ -94,6 +161,16 @@ pub fn plain(case: &Case) -> After {
             Op::Walk => placed(slices, plain_walk),
             Op::Fill => placed(slices, |slices| plain_fill(case, slices)),
             Op::Read => placed(slices, |slices| plain_read(case, slices)),
+            Op::Stage => placed(slices, |slices| plain_stage(case, slices)),
+            Op::Publish => placed(slices, |slices| plain_publish(case, slices)),
+            Op::Both => {
+                let answer = placed(slices, |slices| plain_read(case, slices));
+                let words = match answer {
+                    0 => slices.said.slice()[2] * slices.said.slice()[3],
+                    _ => 0,
+                };
+                return (answer, words);
+            }
             Op::Stored => placed(slices, |slices| plain_stored(case, slices)),
             Op::Sum => return (0, second::sum(a, b)),
             Op::Scaled => return (0, second::scaled(a, b as u32)),
@@ -203,6 +280,37 @@ fn plain_read(case: &Case, s: &mut Slices) -> Result<(), Refusal> {
     Ok(())
 }
 
+fn plain_stage(case: &Case, s: &mut Slices) -> Result<(), Refusal> {
+    room(s.staged.slice(), raw::STAGED)?;
+    let staged = second::stage(
+        s.blob.slice(),
+        case.reuse,
+        s.kept.slice(),
+        s.spare.slice(),
+        s.list.slice(),
+        s.image.slice(),
+    )?;
+    s.staged.slice()[..raw::STAGED].copy_from_slice(&staged_record(&staged));
+    Ok(())
+}
+
+fn plain_publish(case: &Case, s: &mut Slices) -> Result<(), Refusal> {
+    room(s.staged.slice(), raw::STAGED)?;
+    room(s.said.slice(), raw::PUBLISH)?;
+    let published = second::publish(
+        s.blob.slice(),
+        case.reuse,
+        staged_of(s.staged.slice()),
+        s.kept.slice(),
+        s.spare.slice(),
+        s.list.slice(),
+        s.image.slice(),
+    )?;
+    let said = [published.end as u64, published.words as u64];
+    s.said.slice()[..raw::PUBLISH].copy_from_slice(&said);
+    Ok(())
+}
+
 fn plain_stored(case: &Case, s: &mut Slices) -> Result<(), Refusal> {
     room(s.said.slice(), raw::STORED)?;
     let [v, kind] = case.numbers;
@@ -248,6 +356,48 @@ pub(crate) fn ranges_of(record: &[u64]) -> Result<Ranges, Refusal> {
         min: numbers(2),
         max: numbers(2 + MOST_DEPTH),
     })
+}
+
+/// Bodies by their numbers in a staged answer.
+const BODIES: [BodyKind; 4] = [
+    BodyKind::Empty,
+    BodyKind::Constant,
+    BodyKind::Raw,
+    BodyKind::Blocks,
+];
+
+/// Numbers that are no answer are as good as a refused one: staging did not
+/// give it.
+pub(crate) fn staged_of(record: &[u64]) -> StageAnswer {
+    let none = Refusal::of(WRONG_FIELD);
+    let length = record[15] as usize;
+    Ok(Staged {
+        header: header_of(record)?,
+        blocks: record[11] as usize,
+        end: record[12] as usize,
+        body: *BODIES.get(record[13] as usize).ok_or(none)?,
+        mask: match record[14] {
+            1 => Mask::Kept(length),
+            2 => Mask::Spare(length),
+            _ => return Err(none),
+        },
+    })
+}
+
+pub(crate) fn staged_record(staged: &Staged) -> [u64; raw::STAGED] {
+    let (mask, length) = match staged.mask {
+        Mask::Kept(length) => (1, length),
+        Mask::Spare(length) => (2, length),
+    };
+    let body = BODIES.iter().position(|&body| body == staged.body);
+    let mut numbers = [0; raw::STAGED];
+    numbers[..raw::HEADER].copy_from_slice(&record(&staged.header));
+    numbers[11] = staged.blocks as u64;
+    numbers[12] = staged.end as u64;
+    numbers[13] = body.expect("one of the four") as u64;
+    numbers[14] = mask;
+    numbers[15] = length as u64;
+    numbers
 }
 
 pub fn record(header: &Header) -> [u64; raw::HEADER] {

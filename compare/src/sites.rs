@@ -26,7 +26,7 @@ pub fn sites(case: &Case, after: &After) -> Vec<Site> {
     };
     let refused = Refused {
         case,
-        after,
+        mask: mask_bytes(case, after, &header),
         number: after.answer,
         place: place as usize,
         header,
@@ -35,15 +35,22 @@ pub fn sites(case: &Case, after: &After) -> Vec<Site> {
     refused.sites()
 }
 
+/// Whether it was a block that was refused.
+pub fn is_of_block(case: &Case, after: &After) -> bool {
+    let last = Site::Value as usize;
+    sites(case, after).iter().any(|&site| site as usize <= last)
+}
+
 /// What is told of records, header and slices alone, or of no blob at all.
 fn before_body(case: &Case, number: u32) -> Option<Site> {
-    let own = matches!(case.op, Op::Header | Op::Read);
+    let own = case.op.reads_header();
     match number {
         0 => Some(Site::Accepted),
         1 if own && case.blob.len() < 70 => Some(Site::Under70),
         1 if held(case).is_none() => Some(Site::UnderSize),
         2 => Some(Site::Key),
         3 if !own && has_wide_number(case) => Some(Site::WideNumber),
+        3 if case.op == Op::Publish && held(case).is_some() => Some(Site::NotStaged),
         3 => Some(Site::Field),
         4 => Some(Site::Ceiling),
         5 if has_short_record(case) => Some(Site::ShortRecord),
@@ -68,18 +75,18 @@ fn of_sum(wrong: Wrong) -> Site {
 
 /// What else the checksum makes of such a call.
 fn also(case: &Case, number: u32) -> Option<Site> {
-    let own = matches!(case.op, Op::Header | Op::Read);
-    let given = case.op.has_blob() && !own;
+    let (own, given) = (case.op.reads_header(), case.op.is_given_header());
+    let whole = own && case.op != Op::Header;
     let by_fold = || checksum::truth(&case.blob) != checksum::words_of(&case.blob);
     match number {
         0 if own && by_fold() => Some(Site::AcceptedByFold),
         0 if given && checksum::wrong(&case.blob).is_some() => Some(Site::AcceptedUnsummed),
-        13 if case.op == Op::Read && has_short_slice(case) => Some(Site::SumNoRoom),
+        13 if whole && has_short_slice(case) => Some(Site::SumNoRoom),
         _ => None,
     }
 }
 
-/// Of a whole read whose header is right, but for the checksum.
+/// Of a blob whose header is right, but for the checksum.
 fn has_short_slice(case: &Case) -> bool {
     let header = second::read_header(&checksum::mended(&case.blob));
     header.is_ok_and(|header| {
@@ -92,9 +99,9 @@ fn has_short_slice(case: &Case) -> bool {
 
 /// The header in use, and the bytes up to its size if they are there.
 fn held(case: &Case) -> Option<(Header, &[u8])> {
-    let header = match case.op {
-        Op::Header | Op::Read => second::read_header(&case.blob),
-        _ => header_of(&case.header),
+    let header = match case.op.reads_header() {
+        true => second::read_header(&case.blob),
+        false => header_of(&case.header),
     };
     let header = header.ok()?;
     Some((header, case.blob.get(..header.size as usize)?))
@@ -106,13 +113,16 @@ fn has_short_record(case: &Case) -> bool {
         Op::Walk => raw::WALK,
         Op::Fill => raw::FILL,
         Op::Read => raw::READ,
+        Op::Publish => raw::PUBLISH,
         Op::Stored => raw::STORED,
         _ => 0,
     };
-    let header = !matches!(case.op, Op::Read | Op::Stored);
+    let header = case.op == Op::Header || case.op.is_given_header();
+    let staged = matches!(case.op, Op::Stage | Op::Publish);
     let ranges = matches!(case.op, Op::Ranges | Op::Walk | Op::Fill);
     case.said.len() < said
         || header && case.header.len() < raw::HEADER
+        || staged && case.staged.len() < raw::STAGED
         || ranges && case.ranges.len() < raw::RANGES
 }
 
@@ -121,10 +131,32 @@ fn has_wide_number(case: &Case) -> bool {
     header_of(&case.header).is_err() || ranges && ranges_of(&case.ranges).is_err()
 }
 
+/// The mask in force, if there is one. A publish is lent a spare that need not
+/// hold it, and does not write it there.
+fn mask_bytes(case: &Case, after: &After, header: &Header) -> Vec<u8> {
+    let mut spare = after.lent.spare.clone();
+    match case.op {
+        Op::Walk | Op::Fill => return case.mask.clone(),
+        Op::Publish => {
+            let (blob, kept) = (&case.blob, &case.kept);
+            // Refused is a mask that no block is judged by.
+            let _ = second::prepare_mask(blob, header, case.reuse, kept, &mut spare);
+        }
+        _ => {}
+    }
+    let valid = header.valid as usize;
+    let uniform = valid == 0 || valid == header.pixels();
+    match header.mask == 0 && !uniform {
+        true => case.kept.clone(),
+        false => spare,
+    }
+}
+
 /// A call that is refused for what stands behind the header.
 struct Refused<'a> {
     case: &'a Case,
-    after: &'a After,
+    /// The one in force.
+    mask: Vec<u8>,
     number: u32,
     place: usize,
     header: Header,
@@ -135,13 +167,15 @@ struct Refused<'a> {
 impl Refused<'_> {
     fn sites(&self) -> Vec<Site> {
         let site = match (self.number, self.case.op) {
-            (6, Op::Mask | Op::Read) => self.mask(),
-            (7, Op::Ranges | Op::Read) => return self.range(),
             (7, Op::Walk | Op::Fill) => self.at_0(Site::RangesGiven),
             (1, Op::Ranges) => self.ranges_missing(),
             (_, Op::Walk) => self.walk(),
             (_, Op::Fill) => self.fill(),
-            (_, Op::Read) => self.read(),
+            (6, Op::Mask) => self.section(),
+            (7, Op::Ranges) => return self.range(),
+            (6, Op::Read | Op::Stage | Op::Publish) => self.section(),
+            (7, Op::Read | Op::Stage | Op::Publish) => return self.range(),
+            (_, Op::Read | Op::Stage | Op::Publish) => self.body(),
             _ => None,
         };
         Vec::from_iter(site)
@@ -151,7 +185,7 @@ impl Refused<'_> {
         (self.place == 0).then_some(site)
     }
 
-    fn mask(&self) -> Option<Site> {
+    fn section(&self) -> Option<Site> {
         let valid = self.header.valid as usize;
         let site = if valid == 0 || valid == self.header.pixels() {
             Site::MaskOfUniform
@@ -221,7 +255,7 @@ impl Refused<'_> {
 
     // ---- the body
 
-    fn read(&self) -> Option<Site> {
+    fn body(&self) -> Option<Site> {
         match second::read_ranges(self.bytes, &self.header) {
             Err(_) => self.ranges_missing(),
             Ok(ranges) if ranges.constant => self.at_0(Site::Constant),
@@ -310,19 +344,8 @@ impl Refused<'_> {
         None
     }
 
-    /// The mask in force.
-    fn mask_bytes(&self) -> &[u8] {
-        let valid = self.header.valid as usize;
-        let uniform = valid == 0 || valid == self.header.pixels();
-        match self.case.op {
-            Op::Walk | Op::Fill => &self.case.mask,
-            _ if self.header.mask == 0 && !uniform => &self.case.kept,
-            _ => &self.after.lent.spare,
-        }
-    }
-
     fn valid_of(&self, tile: usize) -> usize {
-        pixels(&self.header, self.mask_bytes(), tile).len()
+        pixels(&self.header, &self.mask, tile).len()
     }
 
     /// Where the block at `at` ends, if it is right.

@@ -1,6 +1,7 @@
 //! A call as a text file, one line for each thing that it is lent.
 
 use crate::case::{Case, Op};
+use crate::publishes::SORTS;
 use std::fmt::Write;
 
 pub fn text(case: &Case) -> String {
@@ -11,6 +12,7 @@ pub fn text(case: &Case) -> String {
         words.join(" ")
     };
     let list: Vec<u64> = case.list.iter().map(|&start| start as u64).collect();
+    let sort = case.sort.map_or("", |sort| SORTS[sort as usize].1);
     let lines = [
         ("op", case.op.name().to_string()),
         ("blob", bytes(&case.blob)),
@@ -21,10 +23,12 @@ pub fn text(case: &Case) -> String {
         ("spare", bytes(&case.spare)),
         ("list", numbers(&list)),
         ("image", numbers(&case.image)),
+        ("staged", numbers(&case.staged)),
         ("said", numbers(&case.said)),
         ("reuse", u8::from(case.reuse).to_string()),
         ("numbers", numbers(&case.numbers)),
         ("place", numbers(&case.place)),
+        ("sort", sort.to_string()),
     ];
     for (name, value) in lines {
         writeln!(text, "{name} {value}").unwrap();
@@ -54,12 +58,17 @@ pub fn case(text: &str) -> Result<Case, String> {
             "spare" => case.spare = bytes(value)?,
             "list" => case.list = numbers(value)?.iter().map(|&n| n as usize).collect(),
             "image" => case.image = numbers(value)?,
+            "staged" => case.staged = numbers(value)?,
             "said" => case.said = numbers(value)?,
             "reuse" => case.reuse = value == "1",
             "numbers" => {
                 case.numbers = numbers(value)?.try_into().map_err(|_| "two numbers")?;
             }
             "place" => case.place = numbers(value)?,
+            "sort" => {
+                let sort = SORTS.iter().find(|sort| sort.1 == value);
+                case.sort = sort.map(|sort| sort.0);
+            }
             _ => return Err(format!("no line is called {name}")),
         }
     }

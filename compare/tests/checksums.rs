@@ -115,7 +115,7 @@ fn blobs_of_a_folder_are_damaged() {
     for blob in blobs(10) {
         let counts = folder_counts(&blob, plain).unwrap();
         let fields = damaged(&blob).len() as u64;
-        for op in [Op::Header, Op::Read] {
+        for op in [Op::Header, Op::Read, Op::Stage, Op::Publish] {
             assert!(counts.table.of(op, 13) >= fields);
             assert!(counts.table.of(op, 0) > 0);
         }
@@ -124,7 +124,7 @@ fn blobs_of_a_folder_are_damaged() {
         let case = folder_counts(&blob, untested).err().unwrap();
         assert!(wrong(&case.blob).is_some());
         let case = folder_counts(&blob, tested_by_value).err().unwrap();
-        assert!(!matches!(case.op, Op::Header | Op::Read));
+        assert!(case.op.is_given_header());
     }
 }
 

@@ -527,6 +527,17 @@ fn whole_read(blob: &[u8]) -> Case {
     case
 }
 
+/// A publish of what staging left.
+fn publish(blob: &[u8]) -> Case {
+    let mut case = whole_read(blob);
+    case.op = Op::Stage;
+    case.staged = vec![0; raw::STAGED];
+    Case {
+        op: Op::Publish,
+        ..plain(&case).lent
+    }
+}
+
 fn fill(blob: &[u8], block: u64) -> Case {
     let header = second::read_header(blob).unwrap();
     let ranges = second::read_ranges(blob, &header).unwrap();
@@ -551,8 +562,9 @@ fn found(calls: &[Case]) -> Paths {
 fn calls_are_counted() {
     let whole = [whole_steps(), largest_counts(), table_counts()].concat();
     for (name, blob, mut paths) in [heads(), whole, float_steps()].concat() {
-        let found = found(&[whole_read(&blob), fill(&blob, 0)]);
+        let found = found(&[whole_read(&blob), fill(&blob, 0), publish(&blob)]);
         assert_eq!(found.reads, counts(&paths), "{name}");
+        assert_eq!(found.publishes, counts(&paths), "{name}");
         paths.retain(|path| !path.is_body());
         assert_eq!(found.fills, counts(&paths), "{name}");
     }
@@ -573,12 +585,13 @@ fn a_fill_is_counted_by_its_tile_and_depth() {
 #[test]
 fn refused_calls_are_not_counted() {
     let blob = block_of_2(0.5, 99, &counts_of(4), 9);
-    let mut calls = [whole_read(&blob), fill(&blob, 0)];
+    let mut calls = [whole_read(&blob), fill(&blob, 0), publish(&blob)];
     calls.iter_mut().for_each(|case| case.image.clear());
     let mut found = found(&calls);
     found.count_blob(&blob[..80]);
     assert_eq!(found.reads, Counts::default());
     assert_eq!(found.fills, Counts::default());
+    assert_eq!(found.publishes, Counts::default());
 }
 
 /// Maxima by value that are not of the image's kind.
@@ -616,7 +629,12 @@ fn maxima_with_a_fraction() {
 fn a_full_run_that_leaves_a_path_out_is_told() {
     assert_eq!(full_report(FULL_RUN).verdict(), Ok(true));
     for (path, name) in PATHS {
-        for (op, calls) in [(Op::Read, "whole reads"), (Op::Fill, "fills")] {
+        let all = [
+            (Op::Read, "whole reads"),
+            (Op::Fill, "fills"),
+            (Op::Publish, "publishes"),
+        ];
+        for (op, calls) in all {
             if op == Op::Fill && path.is_body() {
                 continue;
             }
@@ -645,7 +663,9 @@ fn a_run_comes_upon_every_path() {
     let paths = run.go(plain, plain).paths;
     for (path, name) in PATHS {
         let (reads, fills) = (paths.reads.of(path), paths.fills.of(path));
+        let publishes = paths.publishes.of(path);
         assert!(reads >= 300, "{name}: {reads}");
+        assert!(publishes >= 300, "{name}: {publishes}");
         assert!(fills >= 20 || path.is_body(), "{name}: {fills}");
     }
 }
@@ -717,7 +737,7 @@ fn every_whole_step_comes_up_with_each_head() {
 #[test]
 fn the_program_shows_the_paths() {
     let run = Command::new(env!("CARGO_BIN_EXE_compare"))
-        .args(["run", "--seed", "1", "--calls", "200000"])
+        .args(["run", "--seed", "1", "--calls", "500000"])
         .output()
         .unwrap();
     assert!(run.status.success());

@@ -97,8 +97,29 @@ impl Image {
         case.list = vec![73; header.blocks()];
         case.image = vec![7; header.cells()];
         case.said = vec![7; raw::READ];
+        case.staged = vec![7; raw::STAGED];
+        if op == Op::Publish {
+            // What staging left, if it accepts.
+            let stage = Case {
+                op: Op::Stage,
+                ..case
+            };
+            case = Case {
+                op,
+                ..plain(&stage).lent
+            };
+            case.place = vec![7];
+        }
         case
     }
+}
+
+/// Those that read a whole blob.
+const WHOLE: [Op; 3] = [Op::Read, Op::Stage, Op::Publish];
+
+/// Those, and others.
+fn with_whole(others: &[Op]) -> Vec<Op> {
+    [&WHOLE, others].concat()
 }
 
 /// What a call is for, the call, and its number and place.
@@ -141,7 +162,7 @@ fn inside_a_block() {
         (CountsWrong, block(&[1, 10, 0x82, 2, 0x24]), 8, 73),
     ];
     for (site, image, number, place) in images {
-        for op in [Op::Read, Op::Walk, Op::Fill] {
+        for op in with_whole(&[Op::Walk, Op::Fill]) {
             let mut case = image.call(op);
             case.list.fill(place as usize);
             held(vec![(site, case, number, place)]);
@@ -226,7 +247,7 @@ fn numbers_of_the_ranges() {
         (BeforeMinimum, [1.0, nan, nan, 2.0], 78),
     ];
     for (site, words, place) in wrong {
-        for op in [Op::Ranges, Op::Read] {
+        for op in with_whole(&[Op::Ranges]) {
             held(vec![(site, two_depths(words).call(op), 7, place)]);
         }
     }
@@ -235,7 +256,7 @@ fn numbers_of_the_ranges() {
 #[test]
 fn ranges_cut_or_by_value() {
     use Site::*;
-    for op in [Op::Ranges, Op::Read] {
+    for op in with_whole(&[Op::Ranges]) {
         for there in [0, 1, 15] {
             let mut image = two_depths([f32::NAN; 4]);
             image.after.truncate(there);
@@ -261,13 +282,14 @@ fn ranges_cut_or_by_value() {
 #[test]
 fn masks() {
     let masked = |valid, section: &[u8], reuse| {
-        [Op::Mask, Op::Read].map(|op| {
+        let call = |&op: &Op| {
             let mut image = row(&[]);
             (image.valid, image.section) = (valid, section.to_vec());
             let mut case = image.call(op);
             case.reuse = reuse;
             case
-        })
+        };
+        Vec::from_iter(with_whole(&[Op::Mask]).iter().map(call))
     };
     let cases = [
         (Site::MaskRuns, masked(2, &[0, 0], true)),
@@ -280,7 +302,8 @@ fn masks() {
         (Site::MaskMissing, masked(2, &[], false)),
     ];
     for (site, cases) in cases {
-        held(Vec::from_iter(cases.map(|case| (site, case, 6, 66))));
+        let known = cases.into_iter().map(|case| (site, case, 6, 66));
+        held(known.collect());
     }
 }
 
@@ -291,7 +314,7 @@ fn sweep_and_mode() {
         error: 0.5,
         ..row(after)
     };
-    for op in [Op::Walk, Op::Read] {
+    for op in with_whole(&[Op::Walk]) {
         held(vec![
             (SweepMissing, row(&[10, 12]).call(op), 1, 72),
             (SweepWrong, row(&[10, 12, 2]).call(op), 8, 72),
@@ -324,15 +347,22 @@ fn other_bodies() {
     empty.header[3] = 0;
     let mut constant = block(&[3, 10]).call(Op::Walk);
     constant.ranges[1] = 1;
-    let mut too_large = block(&[3, 10]);
-    too_large.max = 10.0;
-    let mut too_large = too_large.call(Op::Read);
-    for at in [50, 58] {
-        too_large.blob[at..at + 8].copy_from_slice(&300f64.to_le_bytes());
-    }
-    mend(&mut too_large.blob);
+    held(vec![
+        (EmptyBody, empty, 10, 0),
+        (ConstantBody, constant, 10, 0),
+    ]);
+    let too_large = |op| {
+        let mut image = block(&[3, 10]);
+        image.max = 10.0;
+        let mut case = image.call(op);
+        for at in [50, 58] {
+            case.blob[at..at + 8].copy_from_slice(&300f64.to_le_bytes());
+        }
+        mend(&mut case.blob);
+        case
+    };
     // Words of four bytes at 79, 83 and 87.
-    let raw = |there: usize| {
+    let raw = |there: usize, op| {
         let mut after = [10u32, 12].map(u32::to_le_bytes).concat();
         after.push(1);
         after.extend(vec![7; there]);
@@ -341,18 +371,18 @@ fn other_bodies() {
             kind,
             ..row(&after)
         }
-        .call(Op::Read)
+        .call(op)
     };
-    held(vec![
-        (EmptyBody, empty, 10, 0),
-        (ConstantBody, constant, 10, 0),
-        (Constant, too_large, 9, 0),
-        (WordMissing, raw(0), 1, 79),
-        (WordCut, raw(1), 1, 79),
-        (WordCut, raw(3), 1, 79),
-        (WordMissing, raw(4), 1, 83),
-        (WordCut, raw(11), 1, 87),
-    ]);
+    for op in WHOLE {
+        held(vec![
+            (Constant, too_large(op), 9, 0),
+            (WordMissing, raw(0, op), 1, 79),
+            (WordCut, raw(1, op), 1, 79),
+            (WordCut, raw(3, op), 1, 79),
+            (WordMissing, raw(4, op), 1, 83),
+            (WordCut, raw(11, op), 1, 87),
+        ]);
+    }
 }
 
 /// A change of a call for which there is room for everything.
@@ -361,7 +391,7 @@ type Change = fn(&mut Case);
 #[test]
 fn no_place() {
     use Site::*;
-    let changes: [(Site, Op, Change, u32); 13] = [
+    let changes: [(Site, Op, Change, u32); 29] = [
         (Under70, Op::Header, |case| case.blob.truncate(69), 1),
         (UnderSize, Op::Header, |case| case.blob.truncate(74), 1),
         (UnderSize, Op::Fill, |case| case.blob.truncate(74), 1),
@@ -375,6 +405,22 @@ fn no_place() {
         (ShortRecord, Op::Ranges, |case| case.ranges.truncate(129), 5),
         (NoBlock, Op::Fill, |case| case.numbers[0] = 1, 11),
         (Accepted, Op::Read, |_| (), 0),
+        (Accepted, Op::Stage, |_| (), 0),
+        (Accepted, Op::Publish, |_| (), 0),
+        (Under70, Op::Publish, |case| case.blob.truncate(69), 1),
+        (UnderSize, Op::Stage, |case| case.blob.truncate(74), 1),
+        (Field, Op::Publish, |case| case.blob[30] = 0, 3),
+        (Room, Op::Stage, |case| case.image.clear(), 5),
+        (Room, Op::Publish, |case| case.list.clear(), 5),
+        (ShortRecord, Op::Stage, |case| case.staged.truncate(15), 5),
+        (ShortRecord, Op::Publish, |case| case.staged.truncate(15), 5),
+        (ShortRecord, Op::Publish, |case| case.said.truncate(1), 5),
+        (NotStaged, Op::Publish, |case| case.staged[12] += 1, 3),
+        (NotStaged, Op::Publish, |case| case.staged[0] |= 1 << 32, 3),
+        (NotStaged, Op::Publish, |case| case.staged[13] = 4, 3),
+        (NotStaged, Op::Publish, |case| case.spare[0] ^= 1, 3),
+        (NotStaged, Op::Publish, |case| case.list[0] += 1, 3),
+        (Accepted, Op::Publish, |case| case.kept[0] = 0, 0),
     ];
     for (site, op, change, number) in changes {
         let mut case = block(&[3, 10]).call(op);
@@ -409,13 +455,15 @@ fn wrong_checksums() {
         (SumOther, sum ^ 3),
     ];
     for (site, stored) in wrong {
-        for op in [Op::Header, Op::Read] {
+        for op in with_whole(&[Op::Header]) {
             held(vec![(site, stored_in(&blob, stored, op), 13, 0)]);
         }
         // Before room, and not at all where the header is by value.
-        let mut read = stored_in(&blob, stored, Op::Read);
-        read.image.clear();
-        held(vec![(SumNoRoom, read, 13, 0)]);
+        for op in WHOLE {
+            let mut short = stored_in(&blob, stored, op);
+            short.image.clear();
+            held(vec![(SumNoRoom, short, 13, 0)]);
+        }
         for op in [Op::Mask, Op::Ranges, Op::Walk, Op::Fill] {
             let case = stored_in(&blob, stored, op);
             held(vec![(AcceptedUnsummed, case, 0, 0)]);
@@ -440,7 +488,8 @@ fn checksums_that_the_words_do_not_give() {
         put_odd(&mut random, &mut form);
         let blob = form.bytes();
         let words = by_words(&blob[14..form.size()]);
-        for op in [Op::Header, Op::Read] {
+        // A publish has the answer of another size.
+        for op in [Op::Header, Op::Read, Op::Stage] {
             let sum = truth(&blob).unwrap();
             let taken = stored_in(&blob, sum, op);
             held(vec![(Site::AcceptedByFold, taken, 0, 0)]);
@@ -530,7 +579,7 @@ fn a_run_comes_upon_every_place() {
 #[test]
 fn the_program_shows_the_places() {
     let run = Command::new(env!("CARGO_BIN_EXE_compare"))
-        .args(["run", "--seed", "1", "--calls", "200000"])
+        .args(["run", "--seed", "1", "--calls", "500000"])
         .output()
         .unwrap();
     assert!(run.status.success());

@@ -8,6 +8,7 @@ use common::sum_by_count;
 use compare::case::{After, Case, Op};
 use compare::checksum::{by_words, mended, stored, truth, words_of, wrong};
 use compare::counted::counted;
+use compare::publishes::Sort;
 use compare::run::{Report, Run};
 use compare::sides::{plain, proved};
 use compare::store;
@@ -281,14 +282,14 @@ fn sum_is_found(other: fn(&Case) -> After) -> Case {
 #[test]
 fn a_checksum_that_is_not_tested() {
     let small = sum_is_found(untested);
-    assert!(matches!(small.op, Op::Header | Op::Read));
+    assert!(small.op.reads_header());
     assert!(wrong(&small.blob).is_some());
 }
 
 #[test]
 fn a_checksum_tested_by_value() {
     let small = sum_is_found(tested_by_value);
-    assert!(!matches!(small.op, Op::Header | Op::Read));
+    assert!(small.op.is_given_header());
 }
 
 /// Odd sizes alone tell.
@@ -396,7 +397,7 @@ fn a_checksum_tested_too_late() {
         }
     }
     let small = sum_is_found(other);
-    assert_eq!(small.op, Op::Read);
+    assert!(small.op.reads_header() && small.op != Op::Header);
 }
 
 /// The checksum before the fields, wherever the size is there.
@@ -404,7 +405,7 @@ fn a_checksum_tested_too_late() {
 fn a_checksum_tested_too_early() {
     fn other(case: &Case) -> After {
         let mut after = plain(case);
-        let own = matches!(case.op, Op::Header | Op::Read);
+        let own = case.op.reads_header();
         if own && matches!(after.answer, 3 | 4) && wrong(&case.blob).is_some() {
             after.answer = 13;
         }
@@ -438,7 +439,495 @@ fn a_place_of_13() {
         moved(after, |place| if is_sum { 10 } else { place })
     }
     let small = place_is_found(other);
-    assert!(matches!(small.op, Op::Header | Op::Read));
+    assert!(small.op.reads_header());
+}
+
+/// A fault of a publish alone, and the call made small.
+fn publish_is_found(other: fn(&Case) -> After) -> (Case, String) {
+    let failure = run(other).failures.remove(0);
+    assert_eq!(failure.small.op, Op::Publish, "{}", failure.difference);
+    let saved = store::text(&failure.small);
+    assert_eq!(store::case(&saved).unwrap(), failure.small);
+    (failure.small, failure.difference)
+}
+
+/// What the plain reader stages of a publish's inputs, if it accepts them.
+fn staged(case: &Case) -> Option<Case> {
+    let stage = Case {
+        op: Op::Stage,
+        staged: vec![0; raw::STAGED],
+        place: vec![0],
+        ..case.clone()
+    };
+    let after = plain(&stage);
+    (after.answer == 0).then_some(after.lent)
+}
+
+/// The plain publish of a call that is put right in part, with what it is not
+/// looked at left as it was.
+fn as_if(case: &Case, mend: fn(&mut Case, &Case)) -> After {
+    let Some(right) = staged(case).filter(|_| case.op == Op::Publish) else {
+        return plain(case);
+    };
+    let mut other = case.clone();
+    mend(&mut other, &right);
+    let mut after = plain(&other);
+    after.lent.spare.clone_from(&case.spare);
+    after.lent.list.clone_from(&case.list);
+    after.lent.staged.clone_from(&case.staged);
+    after
+}
+
+const ACCEPTED_FOR_3: &str = "answer 3 and 0";
+
+#[test]
+fn a_spare_that_is_not_compared() {
+    fn other(case: &Case) -> After {
+        as_if(case, |other, right| other.spare.clone_from(&right.spare))
+    }
+    let (small, difference) = publish_is_found(other);
+    assert_eq!(difference, ACCEPTED_FOR_3);
+    assert_ne!(small.spare, staged(&small).unwrap().spare);
+}
+
+/// All but the last bit of it, which often is behind the last pixel.
+#[test]
+fn a_last_bit_of_the_spare() {
+    fn other(case: &Case) -> After {
+        as_if(case, |other, right| {
+            let last = right.staged[15] as usize - 1;
+            other.spare[last] = other.spare[last] & !1 | right.spare[last] & 1;
+        })
+    }
+    assert_eq!(publish_is_found(other).1, ACCEPTED_FOR_3);
+}
+
+#[test]
+fn a_list_that_is_not_compared() {
+    fn other(case: &Case) -> After {
+        as_if(case, |other, right| other.list.clone_from(&right.list))
+    }
+    let (small, difference) = publish_is_found(other);
+    assert_eq!(difference, ACCEPTED_FOR_3);
+    assert_ne!(small.list, staged(&small).unwrap().list);
+}
+
+#[test]
+fn a_last_start_that_is_not_compared() {
+    fn other(case: &Case) -> After {
+        as_if(case, |other, right| {
+            if let Some(last) = (right.staged[11] as usize).checked_sub(1) {
+                other.list[last] = right.list[last];
+            }
+        })
+    }
+    assert_eq!(publish_is_found(other).1, ACCEPTED_FOR_3);
+}
+
+/// Starts of which only 32 bits are compared.
+#[test]
+fn starts_compared_in_32_bits() {
+    fn other(case: &Case) -> After {
+        as_if(case, |other, right| {
+            for (start, right) in other.list.iter_mut().zip(&right.list) {
+                if *start as u32 == *right as u32 {
+                    *start = *right;
+                }
+            }
+        })
+    }
+    assert_eq!(publish_is_found(other).1, ACCEPTED_FOR_3);
+}
+
+/// Of the answer only the number of blocks.
+#[test]
+fn an_answer_of_which_the_count_is_compared() {
+    fn other(case: &Case) -> After {
+        as_if(case, |other, right| {
+            if other.staged.len() >= raw::STAGED && other.staged[11] == right.staged[11] {
+                other.staged.clone_from(&right.staged);
+            }
+        })
+    }
+    assert_eq!(publish_is_found(other).1, ACCEPTED_FOR_3);
+}
+
+/// Each number of the answer is looked at.
+#[test]
+fn a_number_of_the_answer_that_is_not_compared() {
+    fn without<const AT: usize>(case: &Case) -> After {
+        as_if(case, |other, right| {
+            if other.staged.len() >= raw::STAGED {
+                other.staged[AT] = right.staged[AT];
+            }
+        })
+    }
+    let others: [fn(&Case) -> After; 16] = [
+        without::<0>,
+        without::<1>,
+        without::<2>,
+        without::<3>,
+        without::<4>,
+        without::<5>,
+        without::<6>,
+        without::<7>,
+        without::<8>,
+        without::<9>,
+        without::<10>,
+        without::<11>,
+        without::<12>,
+        without::<13>,
+        without::<14>,
+        without::<15>,
+    ];
+    for (at, other) in others.into_iter().enumerate() {
+        assert_eq!(publish_is_found(other).1, ACCEPTED_FOR_3, "{at}");
+    }
+}
+
+/// Fields, body and mask of which only the lower 32 bits are looked at.
+#[test]
+fn an_answer_cut_to_32_bits() {
+    fn other(case: &Case) -> After {
+        as_if(case, |other, _| {
+            for at in [0, 1, 2, 3, 4, 5, 6, 10, 13, 14] {
+                if let Some(number) = other.staged.get_mut(at) {
+                    *number &= u64::from(u32::MAX);
+                }
+            }
+        })
+    }
+    assert_eq!(publish_is_found(other).1, ACCEPTED_FOR_3);
+}
+
+/// 3 before what the blob itself earns.
+#[test]
+fn the_answer_looked_at_first() {
+    fn other(case: &Case) -> After {
+        let mut after = plain(case);
+        let own = |number| !matches!(number, 0 | 3 | 5);
+        if case.op == Op::Publish && own(after.answer) {
+            after.answer = 3;
+        }
+        after
+    }
+    let (_, difference) = publish_is_found(other);
+    assert!(difference.ends_with(" and 3"), "{difference}");
+}
+
+/// A spare that is wrong comes before a block that is.
+#[test]
+fn the_spare_looked_at_before_the_blocks() {
+    fn other(case: &Case) -> After {
+        let mut after = plain(case);
+        let is_block = matches!(after.answer, 1 | 8) && after.place() > Some(66);
+        if case.op == Op::Publish && is_block {
+            let header = second::read_header(&case.blob).unwrap();
+            let mut spare = case.spare.clone();
+            let mask =
+                second::prepare_mask(&case.blob, &header, case.reuse, &case.kept, &mut spare);
+            if mask.is_ok() && spare != case.spare {
+                (after.answer, after.lent.place[0]) = (3, 0);
+            }
+        }
+        after
+    }
+    let (_, difference) = publish_is_found(other);
+    assert!(difference.ends_with(" and 3"), "{difference}");
+}
+
+/// A record that is no answer, before what the blob earns.
+#[test]
+fn numbers_that_no_field_holds_first() {
+    fn other(case: &Case) -> After {
+        let mut after = plain(case);
+        let has_wide = case.staged.iter().take(7).any(|&number| number >> 32 > 0);
+        let is_own = !matches!(after.answer, 0 | 3 | 5);
+        if case.op == Op::Publish && is_own && has_wide {
+            (after.answer, after.lent.place[0]) = (3, 0);
+        }
+        after
+    }
+    let (_, difference) = publish_is_found(other);
+    assert!(difference.ends_with(" and 3"), "{difference}");
+}
+
+/// The body judged by the mask that the spare holds.
+#[test]
+fn a_body_judged_by_the_spare() {
+    fn other(case: &Case) -> After {
+        let after = plain(case);
+        let Some(right) = staged(case).filter(|_| case.op == Op::Publish) else {
+            return after;
+        };
+        let (header, ranges) = match second::read_header(&case.blob) {
+            Ok(header) if right.staged[13] == 3 && right.staged[14] == 2 => {
+                (header, second::read_ranges(&case.blob, &header).unwrap())
+            }
+            _ => return after,
+        };
+        let mut list = case.list.clone();
+        match second::walk(&case.blob, &header, &ranges, &case.spare, &mut list) {
+            Err(refusal) if after.answer == 3 => {
+                let mut after = after;
+                (after.answer, after.lent.place[0]) = (refusal.number, refusal.place as u64);
+                after
+            }
+            _ => after,
+        }
+    }
+    let (_, difference) = publish_is_found(other);
+    assert!(difference.starts_with("answer 3 and "), "{difference}");
+}
+
+/// What is not to be looked at: a spare under reuse, the list of a raw body.
+#[test]
+fn more_compared_than_is_asked() {
+    fn spare(case: &Case) -> After {
+        let mut after = plain(case);
+        let mask = case.staged.get(14).copied();
+        let kept = case.kept.iter().zip(&case.spare).all(|(a, b)| a == b);
+        if case.op == Op::Publish && after.answer == 0 && mask == Some(1) && !kept {
+            after.lent.clone_from(case);
+            (after.answer, after.lent.place[0]) = (3, 0);
+        }
+        after
+    }
+    fn list(case: &Case) -> After {
+        let mut after = plain(case);
+        let body = case.staged.get(13).copied();
+        let in_blob = case.list.iter().any(|&start| start < case.blob.len());
+        if case.op == Op::Publish && after.answer == 0 && body != Some(3) && in_blob {
+            after.lent.clone_from(case);
+            (after.answer, after.lent.place[0]) = (3, 0);
+        }
+        after
+    }
+    assert_eq!(publish_is_found(spare).1, "answer 0 and 3");
+    assert_eq!(publish_is_found(list).1, "answer 0 and 3");
+}
+
+/// A refusal that has written: the mask into the spare or the kept mask, a cell.
+#[test]
+fn a_publish_that_writes_before_it_refuses() {
+    fn spare(case: &Case) -> After {
+        let mut after = plain(case);
+        if case.op == Op::Publish && after.answer == 3 {
+            if let Some(right) = staged(case) {
+                after.lent.spare = right.spare;
+            }
+        }
+        after
+    }
+    fn kept(case: &Case) -> After {
+        let mut after = plain(case);
+        if case.op == Op::Publish && after.answer == 3 {
+            if let Some(right) = staged(case).filter(|right| right.staged[14] == 2) {
+                let length = right.staged[15] as usize;
+                after.lent.kept[..length].copy_from_slice(&right.spare[..length]);
+            }
+        }
+        after
+    }
+    fn image(case: &Case) -> After {
+        let mut after = plain(case);
+        if case.op == Op::Publish && after.answer == 3 {
+            let right = staged(case).map(|right| Case {
+                op: Op::Publish,
+                ..right
+            });
+            if let Some(right) = right {
+                after.lent.image = plain(&right).lent.image;
+            }
+        }
+        after
+    }
+    assert!(publish_is_found(spare).1.starts_with("spare["));
+    assert!(publish_is_found(kept).1.starts_with("kept["));
+    assert!(publish_is_found(image).1.starts_with("image["));
+}
+
+/// An accepted publish that leaves the kept mask, or takes a reused one from the
+/// spare.
+#[test]
+fn a_publish_with_another_kept_mask() {
+    fn left(case: &Case) -> After {
+        let mut after = plain(case);
+        if case.op == Op::Publish {
+            after.lent.kept.clone_from(&case.kept);
+        }
+        after
+    }
+    fn taken(case: &Case) -> After {
+        let mut after = plain(case);
+        if case.op == Op::Publish && after.answer == 0 {
+            let length = case.staged[15] as usize;
+            after.lent.kept[..length].copy_from_slice(&case.spare[..length]);
+        }
+        after
+    }
+    assert!(publish_is_found(left).1.starts_with("kept["));
+    let (small, difference) = publish_is_found(taken);
+    assert!(difference.starts_with("kept["), "{difference}");
+    assert!(small.reuse);
+}
+
+/// A kept mask that changed with its count right is published by.
+#[test]
+fn a_publish_by_the_mask_of_staging() {
+    fn other(case: &Case) -> After {
+        let mut after = plain(case);
+        if case.sort == Some(Sort::Kept) && after.answer == 0 {
+            after.lent.clone_from(case);
+            (after.answer, after.lent.place[0]) = (3, 0);
+        }
+        after
+    }
+    let (small, difference) = publish_is_found(other);
+    assert_eq!(difference, "answer 0 and 3");
+    assert!(small.reuse);
+}
+
+/// What was published, or filled, already is refused.
+#[test]
+fn a_publish_that_is_taken_once() {
+    fn again(case: &Case) -> After {
+        refused_as(case, Sort::Again)
+    }
+    fn filled(case: &Case) -> After {
+        refused_as(case, Sort::Filled)
+    }
+    fn refused_as(case: &Case, sort: Sort) -> After {
+        let mut after = plain(case);
+        if case.sort == Some(sort) && after.answer == 0 {
+            after.lent.clone_from(case);
+            (after.answer, after.lent.place[0]) = (3, 0);
+        }
+        after
+    }
+    assert_eq!(publish_is_found(again).1, "answer 0 and 3");
+    assert_eq!(publish_is_found(filled).1, "answer 0 and 3");
+}
+
+/// The number of words said for an image that is partly valid.
+#[test]
+fn words_of_all_pixels() {
+    fn other(case: &Case) -> After {
+        let mut after = plain(case);
+        if case.op == Op::Publish && after.answer == 0 {
+            let header = second::read_header(&case.blob).unwrap();
+            after.lent.said[1] = header.cells() as u64;
+        }
+        after
+    }
+    assert!(publish_is_found(other).1.starts_with("said[1]"));
+}
+
+/// Faults of staging.
+fn stage_is_found(other: fn(&Case) -> After) -> String {
+    let failure = run(other).failures.remove(0);
+    assert_eq!(failure.small.op, Op::Stage, "{}", failure.difference);
+    failure.difference
+}
+
+/// A raw body that is listed, and said to be in blocks.
+#[test]
+fn a_stage_that_lists_a_raw_body() {
+    fn listed(case: &Case) -> After {
+        let mut after = plain(case);
+        if case.op == Op::Stage && after.answer == 0 && after.lent.staged[13] == 2 {
+            after.lent.list[0] = after.lent.staged[12] as usize;
+        }
+        after
+    }
+    fn said(case: &Case) -> After {
+        let mut after = plain(case);
+        if case.op == Op::Stage && after.answer == 0 && after.lent.staged[13] == 2 {
+            after.lent.staged[13] = 3;
+        }
+        after
+    }
+    assert!(stage_is_found(listed).starts_with("list["));
+    assert_eq!(stage_is_found(said), "staged[13]: 0x2 and 0x3");
+}
+
+/// A stage that publishes: the mask, or the cells; and one that leaves the list
+/// of a blob that it refuses.
+#[test]
+fn a_stage_that_writes_too_much() {
+    fn kept(case: &Case) -> After {
+        let mut after = plain(case);
+        if case.op == Op::Stage && after.answer == 0 && after.lent.staged[14] == 2 {
+            let (lent, length) = (&mut after.lent, case.kept.len().min(case.spare.len()));
+            lent.kept[..length].copy_from_slice(&lent.spare[..length]);
+        }
+        after
+    }
+    fn image(case: &Case) -> After {
+        let mut after = plain(case);
+        if case.op == Op::Stage && after.answer == 0 {
+            if let Some(word) = after.lent.image.first_mut() {
+                *word ^= 1;
+            }
+        }
+        after
+    }
+    fn list(case: &Case) -> After {
+        let mut after = plain(case);
+        if case.op == Op::Stage && after.answer == 8 {
+            if let Some(start) = after.lent.list.first_mut() {
+                *start = 70;
+            }
+        }
+        after
+    }
+    assert!(stage_is_found(kept).starts_with("kept["));
+    assert!(stage_is_found(image).starts_with("image["));
+    assert!(stage_is_found(list).starts_with("list["));
+}
+
+/// A stage that asks no room of the image, and one that leaves no mask behind
+/// where a block is refused.
+#[test]
+fn a_stage_that_does_too_little() {
+    fn room(case: &Case) -> After {
+        let mut roomy = case.clone();
+        if case.op == Op::Stage {
+            let cells = second::read_header(&case.blob).map_or(0, |header| header.cells());
+            roomy.image.resize(case.image.len().max(cells), 0);
+        }
+        let mut after = plain(&roomy);
+        after.lent.image.clone_from(&case.image);
+        if case.op != Op::Stage {
+            return plain(case);
+        }
+        after
+    }
+    fn mask(case: &Case) -> After {
+        let mut after = plain(case);
+        if case.op == Op::Stage && after.answer == 8 {
+            after.lent.spare.clone_from(&case.spare);
+        }
+        after
+    }
+    let difference = stage_is_found(room);
+    assert!(difference.starts_with("answer 5 and "), "{difference}");
+    assert!(stage_is_found(mask).starts_with("spare["));
+}
+
+/// Stage and publish in one that differ from a whole read.
+#[test]
+fn a_pair_that_is_no_whole_read() {
+    fn other(case: &Case) -> After {
+        let mut after = plain(case);
+        if case.op == Op::Both && after.answer == 0 {
+            after.lent.said[12] += 1;
+        }
+        after
+    }
+    let failure = run(other).failures.remove(0);
+    assert_eq!(failure.small.op, Op::Both);
+    assert!(failure.difference.starts_with("said[12]"));
 }
 
 /// A call that was saved without a line for the place has room for it.

@@ -14,7 +14,7 @@ const ERROR_OF_MODES: u64 = 0x3FE0_0000_0000_0000;
 
 /// The bodies with bytes of their own, and where the first word or block
 /// begins.
-enum Body {
+pub(crate) enum Body {
     Raw(usize),
     Blocks(usize),
 }
@@ -101,7 +101,8 @@ pub fn read(
     Ok((header, blocks, end))
 }
 
-fn read_body(
+/// Nothing is written if it is refused.
+pub(crate) fn read_body(
     bytes: &[u8],
     header: &Header,
     mask: &[u8],
@@ -136,7 +137,7 @@ fn read_body(
 
 /// A refusal's place is the sweep or the mode byte's, whichever is missing or
 /// wrong.
-fn body_at(bytes: &[u8], place: usize, header: &Header) -> Result<Body, Refusal> {
+pub(crate) fn body_at(bytes: &[u8], place: usize, header: &Header) -> Result<Body, Refusal> {
     let sweep = byte(bytes, place)?;
     let at = place + 1;
     match sweep {
@@ -155,7 +156,7 @@ fn body_at(bytes: &[u8], place: usize, header: &Header) -> Result<Body, Refusal>
 }
 
 /// The starts of all blocks from `at` on, and where the last one ends.
-fn check_blocks(
+pub(crate) fn check_blocks(
     bytes: &[u8],
     header: &Header,
     ranges: &Ranges,
@@ -204,14 +205,17 @@ fn write_constants(
     image: &mut [u64],
 ) -> Result<(), Refusal> {
     let depths = header.depth as usize;
-    let minima = ranges.min[..depths].iter();
-    let words = minima
-        .map(|&min| stored(min, header.kind))
-        .collect::<Result<Vec<u64>, Refusal>>()?;
+    let words = constant_words(header, ranges)?;
     for pixel in (0..header.pixels()).filter(|&pixel| is_valid(mask, pixel)) {
         image[pixel * depths..][..depths].copy_from_slice(&words);
     }
     Ok(())
+}
+
+/// The word of each depth.
+pub(crate) fn constant_words(header: &Header, ranges: &Ranges) -> Result<Vec<u64>, Refusal> {
+    let minima = ranges.min[..header.depth as usize].iter();
+    minima.map(|&min| stored(min, header.kind)).collect()
 }
 
 fn write_raw(
@@ -222,18 +226,25 @@ fn write_raw(
     image: &mut [u64],
 ) -> Result<usize, Refusal> {
     let depths = header.depth as usize;
-    let word_bytes = word_size(header.kind);
-    let pixel_bytes = depths * word_bytes;
-    let end = at + header.valid as usize * pixel_bytes;
+    let pixel_bytes = depths * word_size(header.kind);
     // All words must be there before a cell is written.
-    if end > bytes.len() {
-        let whole_words = (bytes.len() - at) / word_bytes;
-        return Err(Refusal::at(PASSES_SIZE, at + whole_words * word_bytes));
-    }
+    let end = raw_end(bytes, at, header)?;
     let valid = (0..header.pixels()).filter(|&pixel| is_valid(mask, pixel));
     for (nth, pixel) in valid.enumerate() {
         let cells = &mut image[pixel * depths..][..depths];
         read_raw_words(bytes, at + nth * pixel_bytes, header.kind, cells)?;
+    }
+    Ok(end)
+}
+
+/// Where the words that begin at `at` end. A refusal's place is that of the
+/// first one that is not whole.
+pub(crate) fn raw_end(bytes: &[u8], at: usize, header: &Header) -> Result<usize, Refusal> {
+    let word_bytes = word_size(header.kind);
+    let end = at + header.valid as usize * header.depth as usize * word_bytes;
+    if end > bytes.len() {
+        let whole_words = (bytes.len() - at) / word_bytes;
+        return Err(Refusal::at(PASSES_SIZE, at + whole_words * word_bytes));
     }
     Ok(end)
 }

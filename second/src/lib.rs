@@ -1,12 +1,13 @@
 //! A reader of one Lerc2 version 4 blob, written from the rules alone.
 //!
 //! The steps can be called one by one ([`read_header`], [`prepare_mask`],
-//! [`read_ranges`], [`walk`], [`fill`]) or all at once ([`read`]). Numbers are
-//! handed around as the bits of a binary64; cells are native words, which are
-//! the sample's own bits, zero-extended.
+//! [`read_ranges`], [`walk`], [`fill`]), as two ([`stage`], [`publish`]) or all
+//! at once ([`read`]). Numbers are handed around as the bits of a binary64;
+//! cells are native words, which are the sample's own bits, zero-extended.
 //!
 //! A refusal is a number and the place of what is at fault, and leaves every
-//! lent slice as it was, except that an accepted new mask stays in the spare.
+//! lent slice as it was, except that an accepted new mask stays in the spare;
+//! that of [`publish`] leaves the spare as well.
 
 mod block;
 mod body;
@@ -19,6 +20,7 @@ mod numbers;
 mod packed;
 mod ranges;
 pub mod refusal;
+mod stage;
 mod text;
 mod tile;
 
@@ -30,4 +32,5 @@ pub use numbers::{is_finite, less, narrow, number, same, scaled, stored, sum, wo
 pub use packed::{packed_counts, MOST_COUNTS};
 pub use ranges::{read_ranges, Ranges, MOST_DEPTH};
 pub use refusal::Refusal;
+pub use stage::{publish, stage, BodyKind, PublishAnswer, Published, StageAnswer, Staged};
 pub use text::{program_text, MOST_BYTES, MOST_CELLS};

@@ -46,7 +46,8 @@ impl From<Refusal> for u32 {
 pub const PASSES_SIZE: u32 = 1;
 /// Key or version differs.
 pub const WRONG_KEY: u32 = 2;
-/// A header field breaks its rule.
+/// A header field breaks its rule, or an answer, spare or list is not what
+/// staging gave.
 pub const WRONG_FIELD: u32 = 3;
 /// A ceiling is passed.
 pub const CEILING: u32 = 4;

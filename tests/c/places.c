@@ -19,7 +19,7 @@ static uint8_t right[SIZE + 1], wrong[SIZE], unsealed[SIZE];
 
 /* all that is lent, with marks */
 struct lent {
-    uint64_t header[LERC2_HEADER], ranges[LERC2_RANGES], image[4], said[LERC2_RANGES], place[3];
+    uint64_t header[LERC2_HEADER], ranges[LERC2_RANGES], staged[LERC2_STAGED], image[4], said[LERC2_RANGES], place[3];
     uint8_t kept[4], spare[4]; /* no padding, since all of it is compared */
     size_t list[2];
 };
@@ -66,6 +66,19 @@ static uint32_t read_all(struct lent *l, struct how h) {
                       h.place);
 }
 
+static uint32_t stage(struct lent *l, struct how h) {
+    return lerc2_stage(h.blob, SIZE, false, l->kept, 4, l->spare, 4, l->list, 2, l->image, 4, l->said, h.said, l->place,
+                       h.place);
+}
+
+/* with what staging of the right blob leaves */
+static uint32_t publish(struct lent *l, struct how h) {
+    const uint8_t spare[1] = {0xFF};
+    const size_t list[1] = {FLAG};
+    return lerc2_publish(h.blob, SIZE, false, l->staged, LERC2_STAGED, l->kept, 4, spare, 1, list, 1, l->image, 4, l->said,
+                         h.said, l->place, h.place);
+}
+
 static uint32_t prepare_mask(struct lent *l, struct how h) {
     return lerc2_prepare_mask(h.blob, SIZE, l->header, LERC2_HEADER, false, l->kept, 4, l->spare, 4, l->said, h.said, l->place,
                               h.place);
@@ -105,6 +118,7 @@ static const struct entry {
     uint32_t number;
     uint64_t place;
 } entries[] = {{"read_header", read_header, LERC2_HEADER, 0, 0}, {"read", read_all, LERC2_READ, 8, FLAG},
+               {"stage", stage, LERC2_STAGED, 8, FLAG},          {"publish", publish, 2, 8, FLAG},
                {"prepare_mask", prepare_mask, 2, 0, 0},          {"read_ranges", read_ranges, LERC2_RANGES, 0, 0},
                {"walk", walk, 2, 8, FLAG},                       {"fill", fill, 1, 8, FLAG},
                {"fill far out", fill_far, 1, 1, SIZE_MAX},       {"stored", stored, 1, 9, 0}};
@@ -112,8 +126,11 @@ static const struct entry {
 /* marks everywhere, but for the records that are read */
 static struct lent marked(void) {
     struct lent l;
-    uint64_t place;
+    uint64_t place, image[3] = {0};
+    uint8_t masks[2] = {0};
+    size_t start;
     memset(&l, MARK, sizeof l);
+    lerc2_stage(right, SIZE, false, &masks[0], 1, &masks[1], 1, &start, 1, image, 3, l.staged, LERC2_STAGED, &place, 1);
     lerc2_read_header(right, SIZE, l.header, LERC2_HEADER, &place, 1);
     lerc2_read_ranges(right, SIZE, l.header, LERC2_HEADER, l.ranges, LERC2_RANGES, &place, 1);
     return l;
@@ -134,7 +151,8 @@ static bool one(const struct entry *e, const char *what, struct how h, uint32_t 
 
 /* every bit of the field the other way round, one by one, and a field of 0: whatever is lent stays */
 static bool false_checksums(const struct entry *e) {
-    bool reads = e->function == read_header || e->function == read_all, far = e->function == fill_far, same = true;
+    bool reads = e->function == read_header || e->function == read_all || e->function == stage || e->function == publish;
+    bool far = e->function == fill_far, same = true;
     uint32_t number = reads ? 13 : far ? 1 : 0;
     uint64_t place = far ? e->place : 0;
     struct how usual = {unsealed, e->said, 3};

@@ -24,6 +24,11 @@ def both(name, blob, step, number, place):
     return name, blob, line(number, place), '%s %s' % (step, line(number, place))
 
 
+def with_stage(name, blob, read, blocks):
+    """staging refuses what a whole read refuses, and what it accepts is published"""
+    return name, blob, read, blocks, 'stage ' + read if read else None
+
+
 def headers():
     whole = made(WHOLE, error=0.5)
     for name, blob, number in (('nothing', b'', 1), ('69 bytes', whole[:69], 1), ('78 of 79 bytes', whole[:78], 1),
@@ -100,8 +105,9 @@ def other_bodies():
 
 
 def cases():
-    """name, blob, the line of `read` or None where it accepts, the last line of `blocks`"""
-    return [*headers(), *checksums(), *masks(), *ranges(), *front_bytes(), *blocks(), *other_bodies()]
+    """name, blob, the line of `read` or None where it accepts, the last line of `blocks`, that of `stage`"""
+    rows = [*headers(), *checksums(), *masks(), *ranges(), *front_bytes(), *blocks(), *other_bodies()]
+    return [with_stage(*row) for row in rows]
 
 
 def planted():
@@ -109,4 +115,7 @@ def planted():
     blob = made(bytes.fromhex('0A0C00 070A'))
     at = flag_at(blob, 0)
     for number, place in ((8, at + 1), (8, 0), (1, at)):
-        yield both('planted', blob, 'walk', number, place)
+        yield with_stage(*both('planted', blob, 'walk', number, place))
+    right = both('planted', blob, 'walk', 8, at)
+    for stage in ('stage ' + line(8, 0), 'stage ' + line(3, at), 'publish ' + line(8, at), None):
+        yield (*right, stage)

@@ -2,7 +2,7 @@
 """Runs the C examples on the stored blobs of lerc_fill_cases and compares what they write with Esri's cells; then on blobs that are
 refused (refused.py), and compares number and place.
 
-    python3 tests/c/run.py FOLDER [EMULATOR AND ITS WORDS]      FOLDER has the programs read and blocks (target/examples)
+    python3 tests/c/run.py FOLDER [EMULATOR AND ITS WORDS]      FOLDER has the programs read, blocks and stage (target/examples)
 
 In data blob i is file 2i and what Esri's decoder gave for it file 2i + 1 (its form is in tests/fill/make.py). What data/names
 calls planted has a wrong expectation, and must differ; so have the refusals that refused.py plants. Ends with status 1 if
@@ -20,6 +20,7 @@ import refused  # noqa: E402
 
 DATA = os.path.join(os.path.dirname(os.path.abspath(__file__)), '../../crates/lerc_fill_cases/data')
 WORD = ('B', 'B', 'H', 'H', 'I', 'I', 'I', 'Q')
+PROGRAMS = ('read', 'blocks', 'stage')
 
 
 class Expected:
@@ -36,14 +37,20 @@ class Expected:
         return self.mask[pixel // 8] >> (7 - pixel % 8) & 1
 
     def lines(self):
-        """The cells, as both programs write them."""
+        """The cells, as all programs write them."""
         return ['cell %d %s' % (c, word if self.has(c) else '-') for c, word in enumerate(self.cells)]
+
+    def head(self):
+        return 'width %d height %d depth %d kind %d valid %d' % (self.columns, self.rows, self.depth, self.kind, self.valid)
 
     def read(self):
         """All that `read` writes."""
-        head = (self.columns, self.rows, self.depth, self.kind, self.valid)
-        lines = ['width %d height %d depth %d kind %d valid %d' % head, 'blocks %d' % self.blocks]
-        return lines + self.lines() + ['end %d' % self.end]
+        return [self.head(), 'blocks %d' % self.blocks] + self.lines() + ['end %d' % self.end]
+
+    def stage(self):
+        """All that `stage` writes: what was staged, what was published, the cells. Every stored body is in blocks."""
+        found = ['body in blocks', 'blocks %d end %d' % (self.blocks, self.end), 'mask new %d' % len(self.mask)]
+        return [self.head()] + found + ['published end %d words %d' % (self.end, self.valid * self.depth)] + self.lines()
 
 
 def fits(e, lines):
@@ -73,7 +80,7 @@ def compare_refusals(commands):
     missed = [name for name, blob, *lines in planted if same_refusal(commands, blob, lines)]
     for name in differ + missed:
         print('%s: the refusal %s' % (name, 'does not show what was planted' if name in missed else 'differs'))
-    print('%d refusals with their places, by read and by blocks: %d differ' % (len(cases), len(differ)))
+    print('%d refusals with their places, by read, by blocks and by stage: %d differ' % (len(cases), len(differ)))
     print('%d planted refusals that must differ' % len(planted))
     return len(differ) + len(missed)
 
@@ -87,7 +94,7 @@ def main():
     if len(sys.argv) < 2:
         return wrong('no folder')
     folder, emulator = sys.argv[1], sys.argv[2:]
-    for name in ('read', 'blocks'):
+    for name in PROGRAMS:
         if not os.access(os.path.join(folder, name), os.X_OK):
             return wrong('there is no program %s in %s (examples/build.sh makes it)' % (name, folder))
     if emulator and not shutil.which(emulator[0]):
@@ -100,18 +107,18 @@ def main():
     for misled, blob, expect in zip(planted, files[0::2], files[1::2]):
         e = Expected(expect)
         said = {}
-        for name in ('read', 'blocks'):
+        for name in PROGRAMS:
             ran = subprocess.run(emulator + [os.path.join(folder, name)], stdin=open(blob, 'rb'), stdout=subprocess.PIPE, text=True)
             said[name] = ran.stdout.splitlines() if ran.returncode == 0 else []
-        for name, same in (('read', said['read'] == e.read()), ('blocks', fits(e, said['blocks']))):
+        for name, same in (('read', said['read'] == e.read()), ('blocks', fits(e, said['blocks'])), ('stage', said['stage'] == e.stage())):
             if same == misled:
                 differ += 1
                 print('%s: %s %s' % (os.path.basename(blob), name, 'does not find what was planted' if misled else 'differs'))
         found += misled
         cells += 0 if misled else e.valid * e.depth
-    print('%d blobs, %d valid cells, by read and by blocks: %d differ' % (len(planted) - found, cells, differ))
+    print('%d blobs, %d valid cells, by read, by blocks and by stage: %d differ' % (len(planted) - found, cells, differ))
     print('%d planted expectations that must differ' % found)
-    differ += compare_refusals([emulator + [os.path.join(folder, name)] for name in ('read', 'blocks')])
+    differ += compare_refusals([emulator + [os.path.join(folder, name)] for name in PROGRAMS])
     return 1 if differ or not found or len(files) != 2 * len(planted) else 0
 
 

@@ -12,7 +12,7 @@ enum { STACK = 1 << 18, PAINT = 0xA5, BYTES = 1 << 20, MASK = 1 << 14, CELLS = 1
 
 static uint8_t stack[STACK] __attribute__((aligned(16)));
 static uint8_t blob[BYTES], kept[MASK], spare[MASK];
-static uint64_t header[LERC2_HEADER], ranges[LERC2_RANGES], image[CELLS], said[LERC2_READ], place[1];
+static uint64_t header[LERC2_HEADER], ranges[LERC2_RANGES], staged[LERC2_STAGED], image[CELLS], said[LERC2_READ], place[1];
 static size_t size, list[CELLS], count, length;
 static const uint8_t *mask;
 
@@ -24,6 +24,8 @@ uintptr_t return_address;
 
 NOTED(lerc2_read_header);
 NOTED(lerc2_read);
+NOTED(lerc2_stage);
+NOTED(lerc2_publish);
 NOTED(lerc2_prepare_mask);
 NOTED(lerc2_read_ranges);
 NOTED(lerc2_walk);
@@ -63,6 +65,16 @@ static void call_fill(void) {
 static void call_read(void) {
     answer = noted_lerc2_read(blob, size, false, kept, MASK, spare, MASK, list, CELLS, image, CELLS, said, LERC2_READ, place,
                               1);
+}
+
+static void call_stage(void) {
+    answer = noted_lerc2_stage(blob, size, false, kept, MASK, spare, MASK, list, CELLS, image, CELLS, staged, LERC2_STAGED,
+                               place, 1);
+}
+
+static void call_publish(void) {
+    answer = noted_lerc2_publish(blob, size, false, staged, LERC2_STAGED, kept, MASK, spare, MASK, list, CELLS, image, CELLS,
+                                 said, 2, place, 1);
 }
 
 /* operands that are far apart, that cancel, that are small and that are not finite */
@@ -158,6 +170,8 @@ static void use_blob(const char *path) {
     size = fread(blob, 1, BYTES, file);
     fclose(file);
     used("lerc2_read", call_read);
+    used("lerc2_stage", call_stage);
+    used("lerc2_publish", call_publish);
     if (!used("lerc2_read_header", call_read_header) || !used("lerc2_prepare_mask", call_prepare_mask)) {
         return;
     }

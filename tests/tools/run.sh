@@ -379,7 +379,7 @@ if command -v python3 >/dev/null; then
     wrong_words 'no folder' python3 tests/c/run.py
     wrong_words 'no program read in nosuch' python3 tests/c/run.py nosuch
     mkdir "$ROOM/nothing"
-    for program in read blocks; do printf '#!/bin/sh\n' >"$ROOM/nothing/$program" && chmod +x "$ROOM/nothing/$program"; done
+    for program in read blocks stage; do printf '#!/bin/sh\n' >"$ROOM/nothing/$program" && chmod +x "$ROOM/nothing/$program"; done
     gives 'programs that write nothing differ' 1 python3 tests/c/run.py "$ROOM/nothing"
     wrong_words 'usage: ' python3 tests/stack/run.py nosuch
     # scripts that write stored cases: in a copy, since a wrong word must not change one
@@ -666,7 +666,7 @@ if command -v cargo >/dev/null && command -v gcc >/dev/null && tools/archive.sh 
     gives 'compare folder' 0 compare folder "$ROOM/blobs"
     holds 'compare folder counts disagreements' grep -q ' calls on 1 blobs, 0 disagreements$' "$out"
     gives 'the examples' 0 examples/build.sh
-    for program in read blocks; do
+    for program in read blocks stage; do
         lost_by() { "target/examples/$program" <crates/lerc2/stdin >/dev/full; }
         gives "examples/$program.c to a full device" 3 lost_by
     done
@@ -681,6 +681,8 @@ if command -v cargo >/dev/null && command -v gcc >/dev/null && tools/archive.sh 
     places() { "$ROOM/places" <"$1"; }
     gives 'the place of each function' 0 places crates/lerc2/stdin
     gives 'the place of each function, another blob' 2 places README.md
+    gives 'tests/c/stage.c is built' 0 gcc -std=c11 -O2 -Wall -Wextra -Werror -pedantic tests/c/stage.c target/staticlib/liblerc_c.a -o "$ROOM/stage"
+    gives 'stage and publish' 0 "$ROOM/stage"
     gives 'tests/c/checksum.c is built' 0 gcc -std=c11 -O2 -Wall -Wextra -Werror -pedantic tests/c/checksum.c target/staticlib/liblerc_c.a -o "$ROOM/checksum"
     gives 'the checksum by itself' 0 "$ROOM/checksum"
     gives 'the examples on stored blobs and refused ones' 0 python3 tests/c/run.py target/examples
@@ -703,7 +705,7 @@ if command -v cargo >/dev/null && command -v gcc >/dev/null && tools/archive.sh 
     fi
     if [ "$(uname -m)" = x86_64 ] && [ -z "$words" ]; then
         # gcc adds code that begins with small numbers flushed to zero
-        for program in read blocks; do
+        for program in read blocks stage; do
             gcc -std=c11 -O2 -ffast-math "examples/$program.c" target/staticlib/liblerc_c.a -o "$ROOM/flushing"
             flushing() { "$ROOM/flushing" <crates/lerc2/stdin; }
             gives "examples/$program.c with -ffast-math" 2 flushing

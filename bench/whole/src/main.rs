@@ -1,5 +1,6 @@
 //! Measures whole reads, and walks with all fills, of the proved reader and of
-//! the plain one (with the feature `esri` of Esri's library too): least times
+//! the plain one (with the feature `esri` of Esri's library too), and of the
+//! proved one a whole read in two calls, each of them and both: least times
 //! of interleaved rounds, and exact counts of instructions by callgrind or by
 //! an emulator, under which times are not taken.
 //!
@@ -40,6 +41,11 @@ const LINEAR: f64 = 1.3;
 /// How much more a cell of the largest image may cost than one of the
 /// smallest.
 const GROWTH: f64 = 1.1;
+/// What a whole read of one image cost, in instructions a cell, when it was one
+/// operation, and how much of that each of the two may.
+const ONE_IMAGE: &str = "u16 256x256";
+const ONE_READ: f64 = 27.99;
+const OF_TWO: [(Way, f64); 2] = [(Way::Stage, 0.45), (Way::Publish, 1.15)];
 /// Rounds of one line go on for so long.
 const SECONDS: f64 = 2.0;
 /// A reader's turn lasts so long at least: the clock is not exact for less.
@@ -54,7 +60,8 @@ pub struct Line {
     name: String,
     way: Way,
     cells: usize,
-    bar: f64,
+    /// Against the plain reader, where it has such a way.
+    bar: Option<f64>,
     sized: bool,
     /// Nanoseconds a cell and instructions a cell, by reader.
     times: Vec<Option<f64>>,
@@ -103,6 +110,9 @@ fn one(file: &str, way: &str, reader: &str, calls: &str) -> Result<(), Box<dyn E
     let (Some(way), Some(&reader)) = (way, reader) else {
         return Err("no such way or reader".into());
     };
+    if !reader.has(way) {
+        return Err(format!("{} does not {}", reader.name(), way.name()).into());
+    }
     let blob = fs::read(file).map_err(|error| format!("{file}: {error}"))?;
     let mut task =
         Task::prepared(&blob, way).map_err(|number| format!("{file}: refused {number}"))?;
@@ -166,7 +176,7 @@ fn lines(
     let ways = if floats {
         &[Way::Read][..]
     } else {
-        &Way::WHOLE
+        &Way::TABLE
     };
     let (mut lines, mut left) = (Vec::new(), LeftOut::default());
     for image in images {
@@ -183,19 +193,28 @@ fn lines(
     Ok((lines, left))
 }
 
-/// A task that both readers do alike, or why it is not measured.
+/// A task that both readers do alike, or why it is not measured. What the plain
+/// one does not have is held to its whole read.
 fn agreed(image: &Image, way: Way) -> Result<Result<Task, String>, Box<dyn Error>> {
-    let done = Task::new(&image.blob).and_then(|mut task| {
+    let done = Task::prepared(&image.blob, way).and_then(|mut task| {
         task.go(way, Reader::Proved)?;
+        if way == Way::Stage {
+            task.go(Way::Publish, Reader::Proved)?;
+        }
         Ok(task)
     });
+    let plain_way = if Reader::Plain.has(way) {
+        way
+    } else {
+        Way::Read
+    };
     let mut task = match done {
         Ok(task) => task,
         Err(number) => return Ok(Err(format!("refused {number}"))),
     };
     let cells = task.image.clone();
     task.image.fill(0);
-    if task.go(way, Reader::Plain).is_err() || task.image != cells {
+    if task.go(plain_way, Reader::Plain).is_err() || task.image != cells {
         return Err(format!("{}: the readers differ", image.name).into());
     }
     if task.header.valid == 0 {
@@ -237,7 +256,7 @@ fn line(image: &Image, way: Way, how: &How) -> Result<Result<Line, String>, Box<
         name: image.name.clone(),
         way,
         cells: count,
-        bar: bar(&task, &image.blob),
+        bar: Reader::Plain.has(way).then(|| bar(&task, &image.blob)),
         sized: image.sized,
         times: a_cell(times, 1e9),
         counts: a_cell(counts, 1.0),
@@ -395,7 +414,8 @@ fn columns(timed: bool, to_esri: bool) -> Vec<Column> {
         let count = move |line: &Line| shown(Line::ratio(&line.counts, other));
         columns.push(column(&format!("{name}, instr"), Box::new(count)));
     }
-    columns.push(column("bar", Box::new(|line| line.bar.to_string())));
+    let bar = |line: &Line| line.bar.map_or("-".into(), |bar| bar.to_string());
+    columns.push(column("bar", Box::new(bar)));
     columns
 }
 
@@ -422,6 +442,7 @@ fn verdicts(lines: &[Line]) -> String {
     .to_string();
     text += &bars(lines);
     text += &growths(lines);
+    text += &parts(lines);
     text
 }
 
@@ -465,7 +486,7 @@ fn bars(lines: &[Line]) -> String {
     ];
     for way in Way::WHOLE {
         for (name, bar) in classes {
-            let of_class = |line: &&Line| line.way == way && line.bar == bar;
+            let of_class = |line: &&Line| line.way == way && line.bar == Some(bar);
             if !lines.iter().any(|line| of_class(&line)) {
                 continue;
             }
@@ -482,6 +503,27 @@ fn bars(lines: &[Line]) -> String {
             let name = format!("{name}: {}", way.name());
             text += &verdict(&name, time, worst(|line| &line.counts));
         }
+    }
+    text
+}
+
+/// What each of the two calls costs of a whole read, by instructions alone.
+fn parts(lines: &[Line]) -> String {
+    let mut text = String::new();
+    for (way, bar) in OF_TWO {
+        let is_it = |line: &&Line| line.way == way && line.name == ONE_IMAGE;
+        let Some(line) = lines.iter().find(is_it) else {
+            continue;
+        };
+        let time = timed(lines).then(|| Verdict::of(None, bar, ""));
+        let count = line.counts[0];
+        let words = format!(" ({} a cell)", shown(count));
+        let count = Verdict::of(count.map(|count| count / ONE_READ), bar, &words);
+        let name = format!(
+            "{ONE_IMAGE}: {}, at most {bar} of {ONE_READ} instructions a cell",
+            way.name()
+        );
+        text += &verdict(&name, time, count);
     }
     text
 }

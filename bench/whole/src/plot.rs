@@ -10,7 +10,10 @@ const ROW: f64 = 16.0;
 const SCALE: f64 = 80.0;
 
 pub fn svg(lines: &[Line]) -> String {
-    let bars: Vec<&Line> = lines.iter().collect();
+    let bars: Vec<(&Line, f64)> = lines
+        .iter()
+        .filter_map(|line| Some((line, line.bar?)))
+        .collect();
     let upper = 60.0 + ROW * bars.len() as f64;
     let height = upper + 300.0;
     let mut out = format!(
@@ -25,8 +28,8 @@ pub fn svg(lines: &[Line]) -> String {
     };
     let title = format!("Proved reader: times the plain one ({key})");
     out += &text(10.0, 18.0, &title);
-    for (n, line) in bars.iter().enumerate() {
-        ratio_row(&mut out, line, 34.0 + ROW * n as f64);
+    for (n, (line, bar)) in bars.iter().enumerate() {
+        ratio_row(&mut out, line, *bar, 34.0 + ROW * n as f64);
     }
     curves(&mut out, lines, upper + 20.0);
     out += "</svg>\n";
@@ -37,7 +40,7 @@ fn text(x: f64, y: f64, words: &str) -> String {
     format!("<text x=\"{x:.1}\" y=\"{y:.1}\">{words}</text>\n")
 }
 
-fn ratio_row(out: &mut String, line: &Line, y: f64) {
+fn ratio_row(out: &mut String, line: &Line, bar: f64, y: f64) {
     *out += &text(
         10.0,
         y + 10.0,
@@ -56,7 +59,7 @@ fn ratio_row(out: &mut String, line: &Line, y: f64) {
             );
         }
     }
-    let x = LEFT + line.bar * SCALE;
+    let x = LEFT + bar * SCALE;
     *out += &format!(
         "<line x1=\"{x:.1}\" x2=\"{x:.1}\" y1=\"{y:.1}\" y2=\"{:.1}\" stroke=\"#c0392b\" stroke-width=\"2\"/>\n",
         y + 11.0

@@ -7,6 +7,12 @@ use second::{Header, Mask, Ranges};
 pub enum Way {
     /// A whole read.
     Read,
+    /// All of its checking.
+    Stage,
+    /// All of its writing, with a staged answer that is there already.
+    Publish,
+    /// The two, one after the other.
+    Both,
     /// Mask, ranges, walk, and each block filled.
     Steps,
     /// The walk alone.
@@ -26,13 +32,27 @@ pub enum Reader {
 }
 
 impl Way {
-    pub const ALL: [Way; 5] = [Way::Read, Way::Steps, Way::Walk, Way::Runs, Way::Reuse];
-    /// Those that give every cell of an image.
+    pub const ALL: [Way; 8] = [
+        Way::Read,
+        Way::Stage,
+        Way::Publish,
+        Way::Both,
+        Way::Steps,
+        Way::Walk,
+        Way::Runs,
+        Way::Reuse,
+    ];
+    /// Those that are measured of whole images.
+    pub const TABLE: [Way; 5] = [Way::Read, Way::Stage, Way::Publish, Way::Both, Way::Steps];
+    /// Those of them that the plain reader has too.
     pub const WHOLE: [Way; 2] = [Way::Read, Way::Steps];
 
     pub fn name(self) -> &'static str {
         match self {
             Way::Read => "read",
+            Way::Stage => "stage",
+            Way::Publish => "publish",
+            Way::Both => "stage and publish",
             Way::Steps => "walk and fills",
             Way::Walk => "walk",
             Way::Runs => "mask by runs",
@@ -56,11 +76,11 @@ impl Reader {
         }
     }
 
-    /// Esri's library has no steps.
-    #[cfg_attr(not(feature = "esri"), allow(unused_variables))]
+    /// Two calls are the proved reader's alone; Esri's library has no steps.
     pub fn has(self, way: Way) -> bool {
         match self {
-            Reader::Proved | Reader::Plain => true,
+            Reader::Proved => true,
+            Reader::Plain => !matches!(way, Way::Stage | Way::Publish | Way::Both),
             #[cfg(feature = "esri")]
             Reader::Esri => way == Way::Read,
         }
@@ -82,6 +102,8 @@ pub struct Task {
     pub image: Vec<u64>,
     /// What the last call said, as the C interface does; nothing for steps.
     said: [u64; raw::READ],
+    /// What was staged last.
+    staged: [u64; raw::STAGED],
     /// Where the proved reader tells the place of a refusal.
     place: [u64; raw::PLACE],
     #[cfg(feature = "esri")]
@@ -112,6 +134,7 @@ impl Task {
             list: vec![0; header.blocks()],
             image: vec![0; header.cells()],
             said: [0; raw::READ],
+            staged: [0; raw::STAGED],
             place: [0; raw::PLACE],
             #[cfg(feature = "esri")]
             decoded: compare::esri::Decoded::new(&header),
@@ -127,8 +150,10 @@ impl Task {
         }
         let (record, place) = (&mut task.header_record, &mut task.place);
         accepted(raw::read_header(&task.blob, record, place))?;
-        if way == Way::Walk {
-            task.prepare_walk()?;
+        match way {
+            Way::Walk => task.prepare_walk()?,
+            Way::Publish => proved_stage(&mut task)?,
+            _ => (),
         }
         Ok(task)
     }
@@ -141,7 +166,8 @@ impl Task {
         accepted(raw::read_ranges(blob, &self.header_record, record, place))
     }
 
-    /// Keeps the mask of the section, and takes the section out.
+    /// Keeps the mask of the section, and takes the section out; the checksum is
+    /// mended.
     fn keep_mask(&mut self) -> Result<(), u32> {
         let unkept = self.kept.clone();
         second::prepare_mask(&self.blob, &self.header, false, &unkept, &mut self.kept)?;
@@ -149,18 +175,26 @@ impl Task {
         self.blob[34..38].copy_from_slice(&size.to_le_bytes());
         self.blob[66..70].fill(0);
         self.blob.drain(70..70 + self.header.mask as usize);
+        let checksum = second::checksum(&self.blob[14..size as usize]);
+        self.blob[10..14].copy_from_slice(&checksum.to_le_bytes());
         self.header = second::read_header(&self.blob)?;
         Ok(())
     }
 
     /// One call, or all calls of the steps; the refusal's number where there is
     /// one, or the library's own. Callgrind counts while it is in one of the
-    /// functions below.
+    /// functions below. It must be a way that the reader has.
     #[inline(never)]
     pub fn go(&mut self, way: Way, reader: Reader) -> Result<(), u32> {
         match (way, reader) {
             (Way::Read, Reader::Proved) => measured_proved_read(self),
             (Way::Read, Reader::Plain) => measured_plain_read(self).map(|said| self.say_read(said)),
+            (Way::Stage, Reader::Proved) => measured_proved_stage(self),
+            (Way::Publish, Reader::Proved) => measured_proved_publish(self),
+            (Way::Both, Reader::Proved) => measured_proved_both(self),
+            (Way::Stage | Way::Publish | Way::Both, Reader::Plain) => {
+                unreachable!("the plain reader has no such calls")
+            }
             (Way::Steps, Reader::Proved) => measured_proved_steps(self),
             (Way::Steps, Reader::Plain) => measured_plain_steps(self),
             (Way::Walk, Reader::Proved) => measured_proved_walk(self),
@@ -257,6 +291,51 @@ fn measured_plain_read(task: &mut Task) -> Result<(Header, usize, usize), u32> {
         ..
     } = task;
     plain::read(blob, false, kept, spare, list, image)
+}
+
+#[no_mangle]
+#[inline(never)]
+fn measured_proved_stage(task: &mut Task) -> Result<(), u32> {
+    proved_stage(task)
+}
+
+#[no_mangle]
+#[inline(never)]
+fn measured_proved_publish(task: &mut Task) -> Result<(), u32> {
+    proved_publish(task)
+}
+
+#[no_mangle]
+#[inline(never)]
+fn measured_proved_both(task: &mut Task) -> Result<(), u32> {
+    proved_stage(task)?;
+    proved_publish(task)
+}
+
+fn proved_stage(task: &mut Task) -> Result<(), u32> {
+    let (kept, image) = (&task.kept, &task.image);
+    let (spare, list) = (&mut task.spare, &mut task.list);
+    let (staged, place) = (&mut task.staged, &mut task.place);
+    accepted(raw::stage(
+        &task.blob, false, kept, spare, list, image, staged, place,
+    ))
+}
+
+fn proved_publish(task: &mut Task) -> Result<(), u32> {
+    let (kept, image) = (&mut task.kept, &mut task.image);
+    let (spare, list) = (&task.spare, &task.list);
+    let (said, place) = (&mut task.said, &mut task.place);
+    accepted(raw::publish(
+        &task.blob,
+        false,
+        &task.staged,
+        kept,
+        spare,
+        list,
+        image,
+        said,
+        place,
+    ))
 }
 
 #[no_mangle]
@@ -394,10 +473,35 @@ mod tests {
         let sort = Sort::plain(3, 0.5, Body::Blocks).with_holes();
         for depth in [1, 2] {
             let blob = blob(&Sort { depth, ..sort }, 50, 70);
-            for way in Way::ALL {
+            for way in Way::ALL.into_iter().filter(|&way| Reader::Plain.has(way)) {
                 let [proved, plain] =
                     [Reader::Proved, Reader::Plain].map(|reader| done(&blob, way, reader));
                 assert_eq!(proved.written(), plain.written(), "{way:?}");
+            }
+        }
+    }
+
+    /// Staging writes no cell and no kept mask; what follows is a whole read.
+    #[test]
+    fn two_calls_are_a_whole_read() {
+        let plain = Sort::plain(3, 0.5, Body::Blocks);
+        for sort in [
+            plain,
+            plain.with_holes(),
+            Sort::plain(3, 0.5, Body::Raw),
+            Sort::plain(3, 0.5, Body::Constant),
+        ] {
+            let blob = blob(&sort, 50, 70);
+            let whole = done(&blob, Way::Read, Reader::Plain);
+            let staged = done(&blob, Way::Stage, Reader::Proved);
+            assert_eq!((&staged.spare, &staged.list), (&whole.spare, &whole.list));
+            assert!(staged.image.iter().all(|&word| word == 0));
+            assert!(staged.kept.iter().all(|&byte| byte == 0));
+            for way in [Way::Publish, Way::Both] {
+                let two = done(&blob, way, Reader::Proved);
+                assert_eq!((&two.image, &two.kept), (&whole.image, &whole.kept));
+                assert_eq!(two.said[0], whole.said[12]);
+                assert_eq!(two.staged[..13], whole.said);
             }
         }
     }

@@ -3,6 +3,7 @@
 use compare::case::{Case, Op};
 use compare::paths::{Path, Paths, PATHS};
 use compare::places::{Places, Site, SITES};
+use compare::publishes::{Outcome, Publishes, Sort, PAIRS, SORTS, SPARES};
 use compare::run::{Failure, Report};
 use compare::table::{Bodies, Table};
 
@@ -14,12 +15,13 @@ pub fn full_report(calls: u64) -> Report {
         bodies: Bodies::default(),
         paths: paths_but(None),
         places: places_but(None),
+        publishes: publishes_but(calls, |_| false),
         blobs: 1,
         failures: Vec::new(),
     }
 }
 
-/// Every path is counted but one, of whole reads or of fills.
+/// Every path is counted but one, of whole reads, of fills or of publishes.
 pub fn paths_but(left_out: Option<(Path, Op)>) -> Paths {
     let mut paths = Paths::default();
     for (path, _) in PATHS {
@@ -28,6 +30,9 @@ pub fn paths_but(left_out: Option<(Path, Op)>) -> Paths {
         }
         if left_out != Some((path, Op::Fill)) && !path.is_body() {
             paths.fills.add(path);
+        }
+        if left_out != Some((path, Op::Publish)) {
+            paths.publishes.add(path);
         }
     }
     paths
@@ -42,6 +47,29 @@ pub fn places_but(left_out: Option<(Site, Op)>) -> Places {
         }
     }
     places
+}
+
+/// Every sort of publish is counted but those with this name, and enough of them
+/// for so many calls.
+pub fn publishes_but(calls: u64, left_out: fn(&str) -> bool) -> Publishes {
+    let mut publishes = Publishes::default();
+    for (sort, name, outcomes) in SORTS {
+        let counted = outcomes.iter().filter(|_| !left_out(name));
+        counted.for_each(|&outcome| publishes.add(sort, outcome));
+    }
+    for (spare, name, outcomes) in SPARES {
+        let counted = outcomes.iter().filter(|_| !left_out(name));
+        counted.for_each(|&came| publishes.add_spare(spare, came));
+    }
+    for (pair, name) in PAIRS {
+        if !left_out(name) {
+            publishes.add_pair(pair);
+        }
+    }
+    for _ in 0..calls / 3 {
+        publishes.add(Sort::Blob, Outcome::NoRoom);
+    }
+    publishes
 }
 
 pub fn a_failure() -> Failure {

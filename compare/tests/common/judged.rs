@@ -1,12 +1,12 @@
 //! Sides that test the checksum in another way.
 
-use compare::case::{After, Case, Op};
+use compare::case::{After, Case};
 use compare::checksum::{mend, truth};
 use compare::sides::plain;
 
 /// The plain reader, to which the checksum is right where `is_right` says so.
 pub fn judged(case: &Case, is_right: impl Fn(&[u8]) -> bool) -> After {
-    if !matches!(case.op, Op::Header | Op::Read) || truth(&case.blob).is_none() {
+    if !case.op.reads_header() || truth(&case.blob).is_none() {
         return plain(case);
     }
     let mut other = case.clone();

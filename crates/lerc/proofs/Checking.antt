@@ -28,16 +28,18 @@ use Rattle.lerc_image.specs.Blocks.{Chain, allBlocks}
 use Rattle.lerc_image.specs.Walk.{Walk, walkSaid, walkOf}
 use Rattle.lerc_image.specs.Tiles.{checkedTiles}
 use Rattle.lerc_image.proofs.Chain.{chain-lengths}
-use Rattle.lerc.specs.declared.ReadAnswer.the-variants as answer
+use Rattle.lerc_validity.specs.declared.MaskAnswer.{MaskAnswer}
+use Rattle.lerc.specs.declared.BodyKind.the-variants as kind
 use Rattle.lerc.specs.declared.body.BodyFound.{BodyFound}
 use Rattle.lerc.specs.declared.body.BodyFound.the-variants as found
 use Rattle.lerc.specs.Meaning.{Body, blocks, constant, missingWordAt, rawBody, blockBody, constantBody, bodyFrom, sweptBody, bodySays}
-use Rattle.lerc.specs.Read.{readSaid}
-use Rattle.lerc.specs.Parts.{Ready, Checked, bodyCount}
+use Rattle.lerc_image.specs.Own.{ownMask, ownTiles}
+use Rattle.lerc.specs.Stage.{stagedBody, stageSaid}
+use Rattle.lerc.specs.Parts.{Ready, stagedBy, answerOf, Checked}
 
 -- a refusal
 pub found-no : {y : Res Body} {s : List ℕ} {h : Header} {m words : List ℕ} {why : Refusal} → y ≡ fail why → Checked y s h m words (found.Refused why)
-found-no e = rw (e) (record { says = refl; means = refl })
+found-no e = rw (e) (record { says = λ said. refl; means = refl })
 
 -- ---- constant
 
@@ -61,7 +63,7 @@ module _ (h : Header) (r : Ranges) (s m : List ℕ) where
   unfolding constantBody
   constant-found rest {ws} e l q =
       let t : ws ≡ take (h .depth) (over ws rest) = rw (← l) (sym (take-append-seam ws (drop (length ws) rest))) in
-      rw (e, q) (record { says = refl; means = ap (λ (x : List ℕ). ok (constant x (r .at))) t })
+      rw (e, q) (record { says = λ said. refl; means = ap (λ (x : List ℕ). ok (constant x (r .at))) t })
 
 -- ---- raw
 
@@ -72,7 +74,7 @@ module _ (s : List ℕ) (h : Header) (at : ℕ) (m words : List ℕ) where
 
   pub raw-found : at + h .valid * h .depth * typeSize (h .kind) ≤ length s → Checked (rawBody s h at) s h m words (found.Raw at (at + h .valid * h .depth * typeSize (h .kind)))
   unfolding rawBody rawWords
-  raw-found l = record { says = rw (le-leb _ _ l); means = refl }
+  raw-found l = record { says = λ said. rw (le-leb _ _ l); means = refl }
 
 -- ---- blocks
 
@@ -82,20 +84,26 @@ module _ (s : List ℕ) (h : Header) (maxima m : List ℕ) (at : ℕ) (p : Ready
   unfolding checkedTiles
   tiles-are = rw (p .header, le-leb _ _ (p .mask), take-all (h .size) s (omega (arith, p .whole)))
 
-  pub blocks-no : {why : Refusal} → walkSaid (walk.Refused why) ≡ walkOf h (checkedTiles s h m maxima at) → Checked (blockBody s h maxima m at) s h m maxima (found.Refused why)
+-- by the blob's own mask
+pub own-are : (s : List ℕ) (h : Header) (maxima : List ℕ) (at : ℕ) → Ready s h (ownMask s h) → ownTiles s h maxima at ≡ allBlocks s h maxima (ownMask s h) at
+unfolding ownTiles
+own-are s h maxima at p = rw (p .header, take-all (h .size) s (omega (arith, p .whole)))
+
+module _ (s : List ℕ) (h : Header) (maxima m : List ℕ) (at : ℕ) where
+  pub blocks-no : {why : Refusal} → walkSaid (walk.Refused why) ≡ walkOf h (allBlocks s h maxima m at) → Checked (blockBody s h maxima m at) s h m maxima (found.Refused why)
   unfolding blockBody
-  blocks-no e = found-no (rw (bind-fail (allBlocks s h maxima m at) _ (sym (e ∙ ap (walkOf h) tiles-are))))
+  blocks-no e = found-no (rw (bind-fail (allBlocks s h maxima m at) _ (sym e)))
 
   count-said : {n end : ℕ} (x : Res Chain) → allBlocks s h maxima m at ≡ x → walkSaid (walk.Walked n end) ≡ walkOf h x
-      → readSaid (answer.Whole h n end) ≡ ((x >>= λ c. ok (blocks c)) >>= bodyCount h)
-  count-said (ok c) q e =
+      → (said : MaskAnswer) → stageSaid (answerOf h said (found.Blocks at n end)) ≡ ((x >>= λ c. ok (blocks c)) >>= λ b. ok (stagedBody h said b))
+  count-said (ok c) q e said =
       let l : blockCount (shapeOf h) ≡ length (c .starts) = sym (chain-lengths s h maxima m (blockCount (shapeOf h)) 0 at c q .0) in
-      ap (λ (w : Walk). ok (record { header = h; blocks = w .blocks; end = w .end })) (ok-is e) ∙ rw (l)
-  count-said (fail r) q e = absurd (let z : _≡_ {A = ℕ} 0 1 = cc in omega arith)
+      ap (λ (w : Walk). stageSaid (stagedBy h said kind.Blocks (w .blocks) (w .end))) (ok-is e) ∙ rw (l)
+  count-said (fail r) q e said = absurd (let z : _≡_ {A = ℕ} 0 1 = cc in omega arith)
 
-  pub blocks-found : {n end : ℕ} → walkSaid (walk.Walked n end) ≡ walkOf h (checkedTiles s h m maxima at) → Checked (blockBody s h maxima m at) s h m maxima (found.Blocks at n end)
+  pub blocks-found : {n end : ℕ} → walkSaid (walk.Walked n end) ≡ walkOf h (allBlocks s h maxima m at) → Checked (blockBody s h maxima m at) s h m maxima (found.Blocks at n end)
   unfolding blockBody
-  blocks-found e = record { says = count-said (allBlocks s h maxima m at) refl (e ∙ ap (walkOf h) tiles-are); means = refl }
+  blocks-found e = record { says = count-said (allBlocks s h maxima m at) refl e; means = refl }
 
 -- ---- which of them
 
@@ -119,7 +127,7 @@ module _ (s : List ℕ) (h : Header) (m : List ℕ) {words : List ℕ} where
   -- no valid pixel: nothing is read
   pub body-empty : h .valid ≡ 0 → Checked (bodySays s h m) s h m words found.Empty
   unfolding bodySays
-  body-empty v = record { says = rw (eq-eqb (h .valid) 0 v); means = rw (eq-eqb (h .valid) 0 v) }
+  body-empty v = record { says = λ said. rw (eq-eqb (h .valid) 0 v); means = rw (eq-eqb (h .valid) 0 v) }
 
   module _ {f : BodyFound} (k : Ranges) where
     pub swept-to : (w : Way) → swept s (h .kind) (h .error) (k .at) ≡ ok w → Checked (bodyFrom s h k m w) s h m words f → Checked (sweptBody s h k m) s h m words f

@@ -4,3 +4,7 @@ pub mod Endings
 pub mod Checking
 pub mod Writing
 pub mod MaskKept
+pub mod Answers
+pub mod Staging
+pub mod Publishes
+pub mod Both

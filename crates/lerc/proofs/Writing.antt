@@ -1,4 +1,4 @@
--- What writing a checked body leaves in list and image: one law for each kind of body.
+-- What listing and writing a checked body leave in list and image: one law for each kind of body.
 -- Assumes nothing.
 use mathlib.Core.Path.{_≡_, _∙_, sym, refl}
 use mathlib.Core.Bool.{Bool, true, false, cond}
@@ -9,7 +9,7 @@ use native.Mathlib.Nat.{mod-lt}
 use lib.ListN.{length, take}
 use lib.Dec.{leb, eqb}
 use lib.Seq.{getD-take}
-use borrow.Author.Tests.{eqb-true, leb-true, le-leb}
+use borrow.Author.Tests.{eq-eqb, eqb-true, leb-true, le-leb}
 use Rattle.lerc_words.specs.declared.Refusal.{Refusal}
 use Rattle.lerc_words.specs.Res.{Res, ok, fail, _>>=_, marked, require, refuse, after}
 use Rattle.lerc_words.proofs.Marking.{marked-is}
@@ -25,14 +25,16 @@ use Rattle.lerc_block.specs.Block.{rawWords}
 use Rattle.lerc_image.specs.Geometry.{isValidCell}
 use Rattle.lerc_image.specs.Paint.{painted}
 use Rattle.lerc_image.specs.Blocks.{Chain, allBlocks}
-use Rattle.lerc_image.specs.Tiles.{checkedTiles, writtenList, writtenImage}
+use Rattle.lerc_image.specs.Tiles.{checkedTiles, listedTiles, filledTiles, tilesListed}
+use Rattle.lerc_slices.specs.Slices.{beginsWith}
 use Rattle.lerc_image.proofs.Painting.{painted-words}
-use Rattle.lerc_image.proofs.Stages.{checked-written}
+use Rattle.lerc_image.proofs.Beginning.{begins-none}
+use Rattle.lerc_image.proofs.Stages.{starts-begin, checked-listed, checked-begins, checked-filled}
 use Rattle.lerc.specs.declared.body.BodyFound.{BodyFound}
 use Rattle.lerc.specs.declared.body.BodyFound.the-variants as found
 use Rattle.lerc.specs.Meaning.{Body, empty, constant, blocks, missingWordAt, rawBody, blockBody, startsOf, cellWord}
 use Rattle.lerc.specs.Linear.{depthWord, rawWord, RawAsked}
-use Rattle.lerc.specs.Parts.{ToWrite, Written, bodyIn, bodyImage}
+use Rattle.lerc.specs.Parts.{ToWrite, Writable, bodyIn, bodyImage, listAfter, listHolds, imageAfter}
 use Rattle.lerc.proofs.Bodies.{image-empty, image-raw}
 use Rattle.lerc.proofs.Endings.{raw-starts}
 use Rattle.lerc.proofs.Checking.{tiles-are}
@@ -48,10 +50,13 @@ raw-inside s h at b q =
 
 module _ {s : List ℕ} {h : Header} {m words : List ℕ} {f : BodyFound} (w : ToWrite s h m words f) where
   abbrev listed : List ℕ → List ℕ
-  listed list = after (bodyIn s h m words f) list (λ y. over (startsOf y) list)
+  listed list = listAfter (bodyIn s h m words f) list
+
+  abbrev holds : List ℕ → Bool
+  holds list = listHolds (bodyIn s h m words f) list
 
   abbrev filled : List ℕ → List ℕ
-  filled image = after (bodyIn s h m words f) image (bodyImage h m image)
+  filled image = imageAfter (bodyIn s h m words f) h m image
 
   pub shaped : Shaped (shapeOf h)
   shaped = held-shaped h (length s) (w .ready .header)
@@ -60,6 +65,9 @@ module _ {s : List ℕ} {h : Header} {m words : List ℕ} {f : BodyFound} (w : T
 
   pub list-refused : {why : Refusal} (list : List ℕ) → f ≡ found.Refused why → list ≡ listed list
   list-refused list e = rw (e)
+
+  pub holds-refused : {why : Refusal} (list : List ℕ) → f ≡ found.Refused why → false ≡ holds list
+  holds-refused list e = rw (e)
 
   pub image-refused : {why : Refusal} (image : List ℕ) → f ≡ found.Refused why → image ≡ filled image
   image-refused image e = rw (e)
@@ -80,6 +88,9 @@ module _ {s : List ℕ} {h : Header} {m words : List ℕ} {f : BodyFound} (w : T
       go true = refl
       go false = refl
 
+  pub holds-empty : (list : List ℕ) → f ≡ found.Empty → true ≡ holds list
+  holds-empty list e = sym (rw (e) (rw (eq-eqb (h .valid) 0 (none-valid e)) (begins-none list)))
+
   pub image-none : (image : List ℕ) → f ≡ found.Empty → image ≡ filled image
   image-none image e = rw (e) (go (eqb (h .valid) 0))
     where
@@ -91,6 +102,9 @@ module _ {s : List ℕ} {h : Header} {m words : List ℕ} {f : BodyFound} (w : T
 
   pub list-constant : {end : ℕ} (list : List ℕ) → f ≡ found.Constant end → list ≡ listed list
   list-constant list e = rw (e)
+
+  pub holds-constant : {end : ℕ} (list : List ℕ) → f ≡ found.Constant end → true ≡ holds list
+  holds-constant list e = sym (rw (e) (begins-none list))
 
   pub image-constant : {end : ℕ} (image : List ℕ) {new : List ℕ} → f ≡ found.Constant end → new ≡ painted image (isValidCell (shapeOf h) m) (depthWord (shapeOf h) words) → new ≡ filled image
   unfolding cellWord
@@ -113,6 +127,11 @@ module _ {s : List ℕ} {h : Header} {m words : List ℕ} {f : BodyFound} (w : T
       go (ok b) q = rw (raw-starts s h at b q)
       go (fail r) q = refl
 
+  pub holds-raw : {at end : ℕ} (list : List ℕ) → f ≡ found.Raw at end → true ≡ holds list
+  holds-raw {at} list e =
+      let q : rawBody s h at ≡ ok (w .body) = rw (e) at (w .is) in
+      sym (rw (e, q, raw-starts s h at (w .body) q) (begins-none list))
+
   pub image-written : {at end : ℕ} (image : List ℕ) {new : List ℕ} → f ≡ found.Raw at end → new ≡ painted image (isValidCell (shapeOf h) m) (rawWord s at (typeSize (h .kind)) (shapeOf h) m) → new ≡ filled image
   unfolding rawBody rawWords
   image-written {at} {end} image e q =
@@ -131,10 +150,19 @@ module _ {s : List ℕ} {h : Header} {m words : List ℕ} {f : BodyFound} (w : T
     checked : checkedTiles s h m words at ≡ ok (chained .0)
     checked = tiles-are s h words m at (w .ready) ∙ chained .1
 
-    pub blocks-written : (list image : List ℕ) {new-list new-image : List ℕ} → blockCount (shapeOf h) ≤ length list → cells (shapeOf h) ≤ length image
-        → (new-list ≡ writtenList s h m words at list (length image)) × (new-image ≡ writtenImage s h m words at (length list) image)
-        → Written (bodyIn s h m words f) h m list new-list image new-image
-    unfolding blockBody cellWord
-    blocks-written list image l r (p, q) =
-        let (u, v) = checked-written s h m words at checked list image l r in
-        record { list = rw (e, chained .1) (p ∙ u); image = rw (e, chained .1) (q ∙ v) }
+    -- the list is that of the heads
+    pub blocks-listed : (list : List ℕ) {new : List ℕ} → blockCount (shapeOf h) ≤ length list → new ≡ listedTiles s h m at list → new ≡ listed list
+    unfolding blockBody
+    blocks-listed list l p = rw (e, chained .1) (p ∙ checked-listed s h m words at checked list l)
+
+    -- and so is what is compared
+    pub blocks-hold : (list : List ℕ) {r : Bool} → blockCount (shapeOf h) ≤ length list → r ≡ tilesListed s h m at list → r ≡ holds list
+    unfolding blockBody
+    blocks-hold list l p = rw (e, chained .1) (p ∙ checked-begins s h m words at checked list l)
+
+  pub blocks-filled : {list image new : List ℕ} {at n end : ℕ} → (e : f ≡ found.Blocks at n end) → Writable s h m words f list image → new ≡ filledTiles s h m words list image → new ≡ filled image
+  unfolding blockBody cellWord
+  blocks-filled {list} {image} {new} {at} e v p =
+      let (c, q) = chained e in
+      let b : beginsWith (c .starts) list ≡ true = rw (e, q) at (v .starts) in
+      rw (e, q) (p ∙ checked-filled s h m words at (checked e) list image (v .long) (v .room) (starts-begin s h words m at q list b))

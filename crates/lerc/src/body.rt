@@ -3,14 +3,17 @@ ghost use mathlib.Core.Path.{_≡_};
 ghost use mathlib.Core.List.{List};
 ghost use Prim.Native.Nat.{ℕ, _≤_};
 ghost use lib.ListN.{length};
-ghost use Rattle.lerc_words.specs.Res.{refuse, placed};
+ghost use Rattle.lerc_words.specs.Res.{ok, refuse, placed};
 ghost use Rattle.lerc_header.specs.Limits.{depthLimit};
-ghost use Rattle.lerc_header.specs.Header.{shapeOf};
-ghost use Rattle.lerc_header.specs.Shape.{blockCount, cells};
-ghost use Rattle.lerc.specs.declared.ReadAnswer.the-variants as Answer;
+ghost use Rattle.lerc_header.specs.Header.{shapeOf, extentOf, held};
+ghost use Rattle.lerc_header.specs.Shape.{blockCount};
+ghost use Rattle.lerc_image.specs.Blocks.{allBlocks};
+ghost use Rattle.lerc_image.specs.Walk.{walkSaid, walkOf};
 ghost use Rattle.lerc.specs.Meaning.{missingWordAt, rawBody, blockBody, constantBody, sweptBody, bodySays};
-ghost use Rattle.lerc.specs.Parts.{Ready, answerOf, bodyIn, Checked, ToWrite, Written};
-use super::ReadAnswer;
+ghost use Rattle.lerc.specs.Parts.{Ready, answerOf, stagedBy, maskBy, bodyIn, listAfter, listHolds, imageAfter, Checked, ToWrite, Writable};
+use super::BodyKind;
+use super::StageAnswer;
+use super::Staged;
 use super::linear;
 use lerc_header::DEPTHS;
 use lerc_header::HEADER;
@@ -21,6 +24,7 @@ use lerc_ranges::ConstantsAnswer;
 use lerc_ranges::Ranges;
 use lerc_ranges::RangesAnswer;
 use lerc_sweep::WayAnswer;
+use lerc_validity::MaskAnswer;
 use lerc_words::Refusal;
 
 // What a body is, where its words or blocks begin, and where it ends.
@@ -39,32 +43,35 @@ pub(crate) struct BodyChecked {
 }
 
 impl BodyChecked {
-    pub(crate) fn answer(self, h: Header) -> ReadAnswer
-        ensures { λ r. ⌜ r ≡ answerOf h (self .found) ⌝ }
+    // what staging answers, where this mask is in force
+    pub(crate) fn answer(self, header: Header, mask: MaskAnswer) -> StageAnswer
+        ensures { λ r. ⌜ r ≡ answerOf header mask (self .found) ⌝ }
     {
         let found = self.found;
         match found {
-            BodyFound::Empty => whole(h, 0, HEADER),
-            BodyFound::Constant { end } => whole(h, 0, end),
-            BodyFound::Raw { at: _at, end } => whole(h, 0, end),
+            BodyFound::Empty => tell(header, mask, BodyKind::Empty, 0, HEADER),
+            BodyFound::Constant { end } => tell(header, mask, BodyKind::Constant, 0, end),
+            BodyFound::Raw { at: _at, end } => tell(header, mask, BodyKind::Raw, 0, end),
             BodyFound::Blocks {
                 at: _at,
                 count,
                 end,
-            } => whole(h, count, end),
-            BodyFound::Refused(why) => ReadAnswer::Refused(why),
+            } => tell(header, mask, BodyKind::Blocks, count, end),
+            BodyFound::Refused(why) => StageAnswer::Refused(why),
         }
     }
 }
 
-fn whole(header: Header, blocks: usize, end: usize) -> ReadAnswer
-    ensures { λ r. ⌜ r ≡ Answer.Whole header blocks end ⌝ }
+fn tell(header: Header, mask: MaskAnswer, body: BodyKind, blocks: usize, end: usize) -> StageAnswer
+    ensures { λ r. ⌜ r ≡ stagedBy header mask body blocks end ⌝ }
 {
-    ReadAnswer::Whole {
+    StageAnswer::Staged(Staged {
         header,
+        body,
         blocks,
         end,
-    }
+        mask,
+    })
 }
 
 fn shape(h: Header) -> Shape
@@ -115,9 +122,9 @@ fn missing_word(len: usize, at: usize, kind: u32) -> Refusal
 }
 
 // raw words, which must all fit: 1
-fn check_raw(s: &[u8], h: Header, at: usize, mask: &[u8]) -> BodyFound
-    requires { ⌜ Ready (now s) h (now mask) ⌝ }
-    ensures { λ a. ⌜ ((words : List ℕ) → Checked (rawBody (now (s .entry)) h at) (now (s .entry)) h (now (mask .entry)) words a) ⌝ }
+fn check_raw(s: &[u8], h: Header, at: usize) -> BodyFound
+    requires { ⌜ held h (length (now s)) ≡ ok (extentOf h) ⌝ }
+    ensures { λ a. ⌜ ((m words : List ℕ) → Checked (rawBody (now (s .entry)) h at) (now (s .entry)) h m words a) ⌝ }
 {
     let bytes = h.valid as usize * h.depth as usize * lerc_numeric::size(h.kind);
     if s.len() < bytes {
@@ -132,12 +139,36 @@ fn check_raw(s: &[u8], h: Header, at: usize, mask: &[u8]) -> BodyFound
     }
 }
 
-// blocks: 1, 8, 9
-fn check_blocks(s: &[u8], h: Header, maxima: &[u64; DEPTHS], at: usize, mask: &[u8]) -> BodyFound
-    requires { ⌜ Ready (now s) h (now mask) ⌝ }
-    ensures { λ a. ⌜ Checked (blockBody (now (s .entry)) h (now (maxima .entry)) (now (mask .entry)) at) (now (s .entry)) h (now (mask .entry)) (now (maxima .entry)) a ⌝ }
+// Blocks (1, 8, 9), judged by a mask that is held, or else by the one that stands in the blob.
+fn judge_blocks(
+    s: &[u8],
+    h: Header,
+    maxima: &[u64; DEPTHS],
+    at: usize,
+    mask: &[u8],
+    lent: bool,
+) -> WalkAnswer
+    requires { ⌜ Ready (now s) h (maskBy (now s) h lent (now mask)) ⌝ }
+    ensures { λ a. ⌜ walkSaid a ≡ walkOf h (allBlocks (now (s .entry)) h (now (maxima .entry)) (maskBy (now (s .entry)) h lent (now (mask .entry))) at) ⌝ }
 {
-    let walked = lerc_image::check_tiles(s, h, mask, maxima, at);
+    if lent {
+        return lerc_image::check_tiles(s, h, mask, maxima, at);
+    }
+    lerc_image::check_own_tiles(s, h, maxima, at)
+}
+
+fn check_blocks(
+    s: &[u8],
+    h: Header,
+    maxima: &[u64; DEPTHS],
+    at: usize,
+    mask: &[u8],
+    lent: bool,
+) -> BodyFound
+    requires { ⌜ Ready (now s) h (maskBy (now s) h lent (now mask)) ⌝ }
+    ensures { λ a. ⌜ Checked (blockBody (now (s .entry)) h (now (maxima .entry)) (maskBy (now (s .entry)) h lent (now (mask .entry))) at) (now (s .entry)) h (maskBy (now (s .entry)) h lent (now (mask .entry))) (now (maxima .entry)) a ⌝ }
+{
+    let walked = judge_blocks(s, h, maxima, at, mask, lent);
     let WalkAnswer::Walked { blocks, end } = walked else {
         return BodyFound::Refused(walked.refusal());
     };
@@ -149,22 +180,22 @@ fn check_blocks(s: &[u8], h: Header, maxima: &[u64; DEPTHS], at: usize, mask: &[
 }
 
 // the body that a sweep byte announces
-fn check_swept(s: &[u8], h: Header, ranges: Ranges, mask: &[u8]) -> BodyFound
-    requires { ⌜ Ready (now s) h (now mask) ⌝ }
-    ensures { λ a. ⌜ Checked (sweptBody (now (s .entry)) h ranges (now (mask .entry))) (now (s .entry)) h (now (mask .entry)) (ranges .max) a ⌝ }
+fn check_swept(s: &[u8], h: Header, ranges: Ranges, mask: &[u8], lent: bool) -> BodyFound
+    requires { ⌜ Ready (now s) h (maskBy (now s) h lent (now mask)) ⌝ }
+    ensures { λ a. ⌜ Checked (sweptBody (now (s .entry)) h ranges (maskBy (now (s .entry)) h lent (now (mask .entry)))) (now (s .entry)) h (maskBy (now (s .entry)) h lent (now (mask .entry))) (ranges .max) a ⌝ }
 {
     let way = lerc_sweep::read_sweep(s, ranges.at, h.kind, h.error);
     match way {
-        WayAnswer::Raw(at) => check_raw(s, h, at, mask),
-        WayAnswer::Blocks(at) => check_blocks(s, h, &ranges.max, at, mask),
+        WayAnswer::Raw(at) => check_raw(s, h, at),
+        WayAnswer::Blocks(at) => check_blocks(s, h, &ranges.max, at, mask, lent),
         WayAnswer::Refused(why) => BodyFound::Refused(why),
     }
 }
 
 // What the body is: empty, constant, raw or in blocks. Nothing is written.
-pub(crate) fn check_body(s: &[u8], h: Header, mask: &[u8]) -> BodyChecked
-    requires { ⌜ Ready (now s) h (now mask) ⌝ }
-    ensures { λ a. ⌜ Checked (bodySays (now (s .entry)) h (now (mask .entry))) (now (s .entry)) h (now (mask .entry)) (a .words) (a .found) ⌝ }
+pub(crate) fn check_body(s: &[u8], h: Header, mask: &[u8], lent: bool) -> BodyChecked
+    requires { ⌜ Ready (now s) h (maskBy (now s) h lent (now mask)) ⌝ }
+    ensures { λ a. ⌜ Checked (bodySays (now (s .entry)) h (maskBy (now (s .entry)) h lent (now (mask .entry)))) (now (s .entry)) h (maskBy (now (s .entry)) h lent (now (mask .entry))) (a .words) (a .found) ⌝ }
 {
     if h.valid == 0 {
         return BodyChecked {
@@ -185,22 +216,60 @@ pub(crate) fn check_body(s: &[u8], h: Header, mask: &[u8]) -> BodyChecked
     if r.constant {
         return check_constant(h, r);
     }
-    let found = check_swept(s, h, r, mask);
+    let found = check_swept(s, h, r, mask, lent);
     let words = r.max;
     BodyChecked { found, words }
 }
 
-// List and image of a checked body; nothing is left that could be refused.
+// The list of a checked body in blocks; another has none.
+pub(crate) fn list_body(s: &[u8], h: Header, mask: &[u8], body: BodyChecked, list: &mut [usize])
+    requires { ⌜ (ToWrite (now s) h (now mask) (body .words) (body .found)) × (blockCount (shapeOf h) ≤ length (now list)) ⌝ }
+    ensures { λ r. ⌜ now (list .exit) ≡ listAfter (bodyIn (now (s .entry)) h (now (mask .entry)) (body .words) (body .found)) (now (list .entry)) ⌝ }
+{
+    let found = body.found;
+    match found {
+        BodyFound::Blocks {
+            at,
+            count: _n,
+            end: _end,
+        } => lerc_image::list_tiles(s, h, mask, at, &mut list[..]),
+        BodyFound::Empty => {}
+        BodyFound::Constant { end: _end } => {}
+        BodyFound::Raw { at: _at, end: _end } => {}
+        BodyFound::Refused(_why) => {}
+    }
+}
+
+// Whether the list begins with the starts of a checked body; one without blocks has none.
+pub(crate) fn is_listed(s: &[u8], h: Header, mask: &[u8], body: BodyChecked, list: &[usize]) -> bool
+    requires { ⌜ (ToWrite (now s) h (now mask) (body .words) (body .found)) × (blockCount (shapeOf h) ≤ length (now list)) ⌝ }
+    ensures { λ r. ⌜ r ≡ listHolds (bodyIn (now (s .entry)) h (now (mask .entry)) (body .words) (body .found)) (now (list .entry)) ⌝ }
+{
+    let found = body.found;
+    match found {
+        BodyFound::Blocks {
+            at,
+            count: _n,
+            end: _end,
+        } => lerc_image::are_listed(s, h, mask, at, list),
+        BodyFound::Empty => true,
+        BodyFound::Constant { end: _end } => true,
+        BodyFound::Raw { at: _at, end: _end } => true,
+        BodyFound::Refused(_why) => false,
+    }
+}
+
+// The image of a checked body, whose blocks begin as the list says; nothing is left that could be refused.
 pub(crate) fn write_body(
     s: &[u8],
     h: Header,
     mask: &[u8],
     body: BodyChecked,
-    list: &mut [usize],
+    list: &[usize],
     image: &mut [u64],
 )
-    requires { ⌜ (ToWrite (now s) h (now mask) (body .words) (body .found)) × (blockCount (shapeOf h) ≤ length (now list)) × (cells (shapeOf h) ≤ length (now image)) ⌝ }
-    ensures { λ r. ⌜ Written (bodyIn (now (s .entry)) h (now (mask .entry)) (body .words) (body .found)) h (now (mask .entry)) (now (list .entry)) (now (list .exit)) (now (image .entry)) (now (image .exit)) ⌝ }
+    requires { ⌜ Writable (now s) h (now mask) (body .words) (body .found) (now list) (now image) ⌝ }
+    ensures { λ r. ⌜ now (image .exit) ≡ imageAfter (bodyIn (now (s .entry)) h (now (mask .entry)) (body .words) (body .found)) h (now (mask .entry)) (now (image .entry)) ⌝ }
 {
     let found = body.found;
     let words = body.words;
@@ -214,10 +283,10 @@ pub(crate) fn write_body(
             linear::write_raw(form, s, at, size, mask, &mut image[..])
         }
         BodyFound::Blocks {
-            at,
+            at: _at,
             count: _n,
             end: _end,
-        } => lerc_image::write_tiles(s, h, mask, &words, at, &mut list[..], &mut image[..]),
+        } => lerc_image::fill_tiles(s, h, mask, &words, list, &mut image[..]),
         BodyFound::Empty => {}
         BodyFound::Refused(_why) => {}
     }

@@ -17,6 +17,10 @@ use Rattle.lerc_header.specs.declared.Header.{Header}
 use Rattle.lerc_header.specs.Header.{shapeOf, headerSays}
 use Rattle.lerc.specs.declared.ReadAnswer.{ReadAnswer}
 use Rattle.lerc.specs.declared.ReadAnswer.the-variants as answer
+use Rattle.lerc.specs.declared.Staged.{Staged}
+use Rattle.lerc.specs.declared.StageAnswer.{StageAnswer}
+use Rattle.lerc.specs.declared.StageAnswer.the-variants as stage-answer
+use Rattle.lerc.specs.declared.PublishAnswer.the-variants as publish-answer
 use Rattle.lerc_header.specs.Shape.{blockCount}
 use Rattle.lerc_samples.specs.Samples.{stored}
 use Rattle.lerc_ranges.specs.declared.Ranges.{Ranges}
@@ -29,9 +33,10 @@ use Rattle.lerc_image.specs.Geometry.{tileOf, validInTile}
 use Rattle.lerc_image.specs.Walk.{walkSays, Walk, walkList, BlocksWalked}
 use Rattle.lerc_image.specs.Fill.{fillSays, fillImage, Filled}
 use Rattle.lerc.specs.Meaning.{Meaning, startsOf, endOf}
-use Rattle.lerc.specs.Read.{Lent, room, readSays, Masked, refusedAfter, readAfter, ReadTold, WholeRead}
-use Rattle.lerc_c.specs.Records.{headerRoom, headerNumbers, headerFrom, rangesRoom, rangesNumbers, rangesFrom}
-use Rattle.lerc_c.specs.Entries.{Returned, headerEntry, HeaderDone, readRoom, readEntry, maskedEntry, readNumbers, ReadDone, prepareEntry, PrepareDone, rangesEntry, RangesDone, walkEntry, WalkDone, fillEntry, FillDone, storedEntry, StoredDone}
+use Rattle.lerc.specs.Read.{Lent, room, readSays, Masked, masked, refusedAfter, readAfter, ReadTold, WholeRead}
+use Rattle.lerc.specs.Stage.{StageRead, PublishTold, publishSays, Publishing}
+use Rattle.lerc_c.specs.Records.{headerRoom, headerNumbers, headerFrom, rangesRoom, rangesNumbers, rangesFrom, stagedRoom, stagedNumbers, stagedFrom}
+use Rattle.lerc_c.specs.Entries.{Returned, headerEntry, HeaderDone, readRoom, readEntry, maskedEntry, readNumbers, ReadDone, stageEntry, stagedMaskEntry, StageDone, publishEntry, toldNumbers, PublishDone, prepareEntry, PrepareDone, rangesEntry, RangesDone, walkEntry, WalkDone, fillEntry, FillDone, storedEntry, StoredDone}
 use Rattle.lerc_c.proofs.RecordParts.{long, over-behind, first-put}
 
 -- ---- read header
@@ -82,6 +87,69 @@ module _ (b : List ℕ) (reuse : Bool) (l : Lent) (said : List ℕ) where
       let (m, r, c) = bind-counts (readSays b reuse l) _ (sym (w .says)) in
       let z = read-said m said (sym (ap (λ (v : ReadTold). v .header) c)) (ap (λ (v : ReadTold). v .blocks) c) (ap (λ (v : ReadTold). v .end) c) p q in
       record { why = rw (le-leb readRoom (length said) long, r); lent = read-lent long w; said = rw (le-leb readRoom (length said) long, r) z }
+
+-- ---- stage
+
+module _ (b : List ℕ) (reuse : Bool) (l : Lent) (staged : List ℕ) where
+  abbrev Stage : Refusal → List ℕ → List ℕ → List ℕ → Type 0
+  Stage r spare' list' staged' = StageDone (stageEntry b reuse l staged) (stagedMaskEntry b reuse l staged) r l spare' list' staged staged'
+
+  pub stage-short : length staged < stagedRoom → Stage (refuse 5) (l .spare) (l .list) staged
+  unfolding stageEntry stagedMaskEntry
+  stage-short h = rw (lt-leb stagedRoom (length staged) h) (record { why = refl; spare = refl; list = refl; staged = refl })
+
+  module _ (long : stagedRoom ≤ length staged) where
+    -- with room for the answer, it is the reader's
+    stage-is : stageEntry b reuse l staged ≡ readSays b reuse l
+    unfolding stageEntry
+    stage-is = rw (le-leb stagedRoom (length staged) long)
+
+    staged-mask-is : stagedMaskEntry b reuse l staged ≡ masked b reuse l
+    unfolding stagedMaskEntry
+    staged-mask-is = rw (le-leb stagedRoom (length staged) long)
+
+    pub stage-refused : {why : Refusal} {n : Refusal} {spare' list' : List ℕ} → StageRead b reuse (stage-answer.Refused why) l spare' list' → n ≡ why → Stage n spare' list' staged
+    stage-refused w d =
+        let e = bind-fail (readSays b reuse l) _ (sym (w .says)) in
+        rw (stage-is, staged-mask-is) (record { why = rw (e) d; spare = w .spare; list = w .list; staged = rw (e) })
+
+    pub stage-done : {found : Staged} {spare' list' staged' : List ℕ} → StageRead b reuse (stage-answer.Staged found) l spare' list' → staged' ≡ over (stagedNumbers found) staged
+        → Stage (refuse 0) spare' list' staged'
+    stage-done w q =
+        let (m, r, c) = bind-counts (readSays b reuse l) _ (sym (w .says)) in
+        let z = q ∙ ap (λ (a : Staged). over (stagedNumbers a) staged) c in
+        rw (stage-is, staged-mask-is) (record { why = rw (r); spare = w .spare; list = w .list; staged = rw (r) z })
+
+-- ---- publish
+
+module _ (b : List ℕ) (reuse : Bool) (staged : List ℕ) (l : Lent) (said : List ℕ) where
+  abbrev publishHasRoom : Bool
+  publishHasRoom = leb stagedRoom (length staged) && leb 2 (length said)
+
+  abbrev Publish : Refusal → List ℕ → List ℕ → List ℕ → Type 0
+  Publish r kept' image' said' = PublishDone (publishEntry b reuse staged l said) r l kept' image' said said'
+
+  pub publish-short : publishHasRoom ≡ false → Publish (refuse 5) (l .kept) (l .image) said
+  unfolding publishEntry
+  publish-short t = rw (t) (record { why = refl; kept = refl; image = refl; said = refl })
+
+  module _ (t : publishHasRoom ≡ true) {given : StageAnswer} (g : given ≡ stagedFrom staged) where
+    -- with room for both records, the answer is the reader's
+    publish-is : publishEntry b reuse staged l said ≡ publishSays b reuse given l
+    unfolding publishEntry
+    publish-is = rw (t, g)
+
+    pub publish-refused : {why : Refusal} {n : Refusal} {kept' image' : List ℕ} → Publishing b reuse given (publish-answer.Refused why) l kept' image' → n ≡ why → Publish n kept' image' said
+    publish-refused w d =
+        let e = bind-fail (publishSays b reuse given l) _ (sym (w .says)) in
+        rw (publish-is) (record { why = rw (e) d; kept = w .kept; image = w .image; said = rw (e) })
+
+    pub publish-done : {end words : ℕ} {n : Refusal} {kept' image' said' : List ℕ} → Publishing b reuse given (publish-answer.Published end words) l kept' image'
+        → (n ≡ refuse 0) × (said' ≡ over (end ∷ words ∷ []) said) → Publish n kept' image' said'
+    publish-done w (z, q) =
+        let (m, r, c) = bind-counts (publishSays b reuse given l) _ (sym (w .says)) in
+        let s = q ∙ ap (λ (v : PublishTold). over (toldNumbers v) said) c in
+        rw (publish-is) (record { why = rw (r) z; kept = w .kept; image = w .image; said = rw (r) s })
 
 -- ---- prepare a mask
 

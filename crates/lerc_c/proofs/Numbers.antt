@@ -33,8 +33,10 @@ use Rattle.lerc_image.specs.Walk.{wayWalked, bodyWalked, walkSays}
 use Rattle.lerc_image.specs.Fill.{fillSays}
 use Rattle.lerc.specs.Meaning.{missingWordAt, rawBody, blockBody, bodyFrom, sweptBody, constantBody, bodySays, meaningFrom}
 use Rattle.lerc.specs.Read.{Lent, room, masked, readSays}
-use Rattle.lerc_c.specs.Records.{numberOf, headerRoom, fieldsFit, headerFrom, rangesRoom, rangesFrom}
-use Rattle.lerc_c.specs.Entries.{headerEntry, prepareEntry, rangesEntry, walkEntry, fillEntry, readRoom, readEntry, storedEntry}
+use Rattle.lerc.specs.declared.StageAnswer.{StageAnswer}
+use Rattle.lerc.specs.Stage.{wasStaged, publishSays}
+use Rattle.lerc_c.specs.Records.{numberOf, headerRoom, fieldsFit, headerFrom, rangesRoom, rangesFrom, stagedRoom, stagedFrom}
+use Rattle.lerc_c.specs.Entries.{headerEntry, prepareEntry, rangesEntry, walkEntry, fillEntry, readRoom, readEntry, stageEntry, publishEntry, storedEntry}
 
 -- ---- answers whose refusals are numbered, and how they are put together
 
@@ -296,6 +298,10 @@ read-n b reuse l =
     andThen (masked b reuse l) (masked-n b reuse l) (λ k.
     andThen (bodySays (take (k .header .size) b) (k .header) (bytesOf (k .mask))) (body-n (take (k .header .size) b) (k .header) (bytesOf (k .mask))) (λ y. accepted _))
 
+publish-n : (b : List ℕ) (reuse : Bool) (a : StageAnswer) (l : Lent) → Numbered (publishSays b reuse a l)
+unfolding publishSays
+publish-n b reuse a l = andThen (readSays b reuse l) (read-n b reuse l) (λ m. check (wasStaged m a l) 3 refl (λ _. accepted m))
+
 -- ---- the entries
 
 headerFrom-n : (l : List ℕ) → Numbered (headerFrom l)
@@ -338,6 +344,14 @@ fill-numbered b header ranges m list n image said =
 pub read-numbered : (b : List ℕ) (reuse : Bool) (l : Lent) (said : List ℕ) → Numbered (readEntry b reuse l said)
 unfolding readEntry
 read-numbered b reuse l said = check (leb readRoom (length said)) 5 refl (λ _. read-n b reuse l)
+
+pub stage-numbered : (b : List ℕ) (reuse : Bool) (l : Lent) (staged : List ℕ) → Numbered (stageEntry b reuse l staged)
+unfolding stageEntry
+stage-numbered b reuse l staged = check (leb stagedRoom (length staged)) 5 refl (λ _. read-n b reuse l)
+
+pub publish-numbered : (b : List ℕ) (reuse : Bool) (staged : List ℕ) (l : Lent) (said : List ℕ) → Numbered (publishEntry b reuse staged l said)
+unfolding publishEntry
+publish-numbered b reuse staged l said = check (leb stagedRoom (length staged) && leb 2 (length said)) 5 refl (λ _. publish-n b reuse (stagedFrom staged) l)
 
 pub stored-numbered : (kind v : ℕ) (said : List ℕ) → Numbered (storedEntry kind v said)
 unfolding storedEntry

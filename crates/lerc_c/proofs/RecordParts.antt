@@ -11,13 +11,20 @@ use Rattle.lerc_words.specs.Lists.{over}
 use lib.Dec.{leb, eqb}
 use native.Mathlib.Nat.{zero-add}
 use borrow.Author.Tests.{leb-true, ltb-true, lt-ltb, le-ltb}
+use Rattle.lerc_words.specs.declared.Refusal.{Refusal}
 use Rattle.lerc_words.specs.Res.{ok, fail, refuse}
 use Rattle.lerc_words.proofs.Binding.{and-is}
+use Rattle.lerc_header.specs.declared.Header.{Header}
 use Rattle.lerc_header.specs.Limits.{depthLimit}
+use Rattle.lerc_validity.specs.declared.MaskAnswer.{MaskAnswer}
 use Rattle.lerc_ranges.specs.declared.Ranges.{Ranges}
 use Rattle.lerc_ranges.specs.declared.RangesAnswer.the-variants as ranges
 use Rattle.lerc_ranges.specs.Ranges.{rangesSaid, noRanges}
-use Rattle.lerc_c.specs.Records.{headerRoom, fieldsFit, headerAt, headerFrom, maximaPlace, rangesRoom, rangesNumbers, rangesFrom}
+use Rattle.lerc.specs.declared.BodyKind.{BodyKind}
+use Rattle.lerc.specs.declared.Staged.{Staged}
+use Rattle.lerc.specs.declared.StageAnswer.the-variants as stage-answer
+use Rattle.lerc.specs.Stage.{kindNumber}
+use Rattle.lerc_c.specs.Records.{headerRoom, headerNumbers, fieldsFit, headerAt, headerFrom, maximaPlace, rangesRoom, rangesNumbers, rangesFrom, maskNumber, maskLength, stagedNumbers, kindFrom, maskFrom, namesRight, stagedIn, stagedFrom}
 
 -- ---- a header's record
 
@@ -122,3 +129,25 @@ ranges-put r s {mark} {x} {y} {z} h m e d f =
     let n : length (front ++ r .min) ≡ maximaPlace = rw (h) in
     let g : z ≡ over (front ++ r .min ++ r .max) s = f ∙ rw (k) (over-behind (front ++ r .min) (r .max) s maximaPlace n) in
     rw (m) at g
+
+-- ---- the record of an answer of staging
+
+-- the header, and behind it five numbers
+pub staged-put : (a : Staged) (s : List ℕ) {kind mask long : ℕ} {front out : List ℕ} → kind ≡ kindNumber (a .body) → mask ≡ maskNumber (a .mask) → long ≡ maskLength (a .mask)
+    → front ≡ over (headerNumbers (a .header)) s → out ≡ paste front headerRoom (a .blocks ∷ a .end ∷ kind ∷ mask ∷ long ∷ []) 5 → out ≡ over (stagedNumbers a) s
+staged-put a s k m n p q =
+    rw (q, p, k, m, n) (over-behind (headerNumbers (a .header)) (a .blocks ∷ a .end ∷ kindNumber (a .body) ∷ maskNumber (a .mask) ∷ maskLength (a .mask) ∷ []) s headerRoom refl)
+
+module _ (l : List ℕ) where
+  pub answer-wide : {why : Refusal} → headerFrom l ≡ fail why → stage-answer.Refused (refuse 0) ≡ stagedFrom l
+  unfolding stagedIn
+  answer-wide e = rw (e)
+
+  pub answer-unnamed : {h : Header} → headerFrom l ≡ ok h → namesRight l ≡ false → stage-answer.Refused (refuse 0) ≡ stagedFrom l
+  unfolding stagedIn
+  answer-unnamed e t = rw (e, t)
+
+  pub answer-named : {h : Header} {body : BodyKind} {mask : MaskAnswer} → headerFrom l ≡ ok h → namesRight l ≡ true → body ≡ kindFrom (getD l 13 0) → mask ≡ maskFrom (getD l 14 0) (getD l 15 0)
+      → stage-answer.Staged (record { header = h; body = body; blocks = getD l 11 0; end = getD l 12 0; mask = mask }) ≡ stagedFrom l
+  unfolding stagedIn
+  answer-named e t k m = rw (e, t, k, m)

@@ -24,8 +24,9 @@ use Rattle.lerc_image.specs.Blocks.{Chain}
 use Rattle.lerc_image.specs.Walk.{walkSays}
 use Rattle.lerc_image.specs.Fill.{fillSays}
 use Rattle.lerc.specs.Meaning.{Meaning, endOf, startsOf}
-use Rattle.lerc.specs.Read.{Lent, Masked, masked, readSays, readAfter}
-use Rattle.lerc_c.specs.Records.{whyOf, headerRoom, headerNumbers, headerFrom, rangesRoom, rangesNumbers, rangesFrom}
+use Rattle.lerc.specs.Read.{Lent, Masked, masked, readSays, published, readAfter}
+use Rattle.lerc.specs.Stage.{PublishTold, bodyTold, stagedOf, stagedSpare, stagedList, publishSays}
+use Rattle.lerc_c.specs.Records.{whyOf, headerRoom, headerNumbers, headerFrom, rangesRoom, rangesNumbers, rangesFrom, stagedRoom, stagedNumbers, stagedFrom}
 
 -- ---- the place: every entry that can refuse is lent a last slice for it
 
@@ -161,6 +162,47 @@ pub record ReadDone (m : Res Meaning) (k : Res Masked) (r : Refusal) (old new : 
   pub why : r ≡ whyOf m
   pub lent : new ≡ readAfter m k old
   pub said : said₁ ≡ after m said₀ (λ m. over (readNumbers m) said₀)
+
+-- ---- stage: blob, reuse, the four slices, staged
+
+unfoldable pub stageEntry : List ℕ → Bool → Lent → List ℕ → Res Meaning
+stageEntry b reuse l staged = do
+  _ ← require (leb stagedRoom (length staged)) 5
+  readSays b reuse l
+
+-- as far as the mask, which is what a refusal may leave in the spare
+unfoldable pub stagedMaskEntry : List ℕ → Bool → Lent → List ℕ → Res Masked
+stagedMaskEntry b reuse l staged = do
+  _ ← require (leb stagedRoom (length staged)) 5
+  masked b reuse l
+
+-- m is the whole blob, k as far as the mask
+pub record StageDone (m : Res Meaning) (k : Res Masked) (r : Refusal) (old : Lent) (new-spare new-list staged₀ staged₁ : List ℕ) : Type 0 where
+  pub why : r ≡ whyOf m
+  pub spare : new-spare ≡ stagedSpare k (old .spare)
+  pub list : new-list ≡ stagedList m (old .list)
+  pub staged : staged₁ ≡ after m staged₀ (λ m. over (stagedNumbers (stagedOf m)) staged₀)
+
+-- ---- publish: blob, reuse, staged, the four slices, said
+
+-- the answer given is the one that the record stands for
+unfoldable pub publishEntry : List ℕ → Bool → List ℕ → Lent → List ℕ → Res Meaning
+publishEntry b reuse staged l said = do
+  _ ← require (leb stagedRoom (length staged) && leb 2 (length said)) 5
+  publishSays b reuse (stagedFrom staged) l
+
+-- where the body ends, how many words were written
+abbrev pub toldNumbers : PublishTold → List ℕ
+toldNumbers t = t .end ∷ t .words ∷ []
+
+abbrev pub publishNumbers : Meaning → List ℕ
+publishNumbers m = toldNumbers (bodyTold (m .header) (m .body))
+
+pub record PublishDone (m : Res Meaning) (r : Refusal) (old : Lent) (new-kept new-image said₀ said₁ : List ℕ) : Type 0 where
+  pub why : r ≡ whyOf m
+  pub kept : new-kept ≡ after m (old .kept) (λ m. published m old .kept)
+  pub image : new-image ≡ after m (old .image) (λ m. published m old .image)
+  pub said : said₁ ≡ after m said₀ (λ m. over (publishNumbers m) said₀)
 
 -- ---- a value as a stored word: kind, value, said
 

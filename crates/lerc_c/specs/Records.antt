@@ -1,4 +1,4 @@
--- The records of the C interface: arrays of 64-bit numbers that stand for a header, for ranges or for what an entry says.
+-- The records of the C interface: arrays of 64-bit numbers that stand for a header, for ranges, for an answer of staging or for what an entry says.
 -- Assumes nothing.
 use Prim.Native.Nat.{ℕ, _+_, _^_}
 use mathlib.Core.Bool.{Bool, cond, _&&_}
@@ -10,6 +10,14 @@ use Rattle.lerc_words.specs.Res.{Res, ok, fail, _>>=_, refuse, require}
 use Rattle.lerc_header.specs.declared.Header.{Header}
 use Rattle.lerc_header.specs.Limits.{depthLimit}
 use Rattle.lerc_ranges.specs.declared.Ranges.{Ranges}
+use Rattle.lerc_validity.specs.declared.MaskAnswer.{MaskAnswer}
+use Rattle.lerc_validity.specs.declared.MaskAnswer.the-variants as mask
+use Rattle.lerc.specs.declared.BodyKind.{BodyKind}
+use Rattle.lerc.specs.declared.BodyKind.the-variants as kind
+use Rattle.lerc.specs.declared.Staged.{Staged}
+use Rattle.lerc.specs.declared.StageAnswer.{StageAnswer}
+use Rattle.lerc.specs.declared.StageAnswer.the-variants as stage-answer
+use Rattle.lerc.specs.Stage.{kindNumber}
 
 -- why an entry refuses: number 0, at 0, where it accepts
 abbrev pub whyOf : {A : Type 0} → Res A → Refusal
@@ -82,3 +90,49 @@ unfoldable pub rangesFrom : List ℕ → Res Ranges
 rangesFrom l = do
   _ ← require (ltb (getD l 1 0) 2) 3
   ok (rangesIn l)
+
+-- ---- an answer of staging: the header's numbers, the count of blocks, the end, the kind of body, which mask is in force and how long it is
+
+abbrev pub stagedRoom : ℕ
+stagedRoom = headerRoom + 5
+
+-- 1 for the kept mask, 2 for the spare; staging answers with no other
+abbrev pub maskNumber : MaskAnswer → ℕ
+maskNumber (mask.Kept n) = 1
+maskNumber (mask.Spare n) = 2
+maskNumber (mask.Refused r) = 0
+
+abbrev pub maskLength : MaskAnswer → ℕ
+maskLength (mask.Kept n) = n
+maskLength (mask.Spare n) = n
+maskLength (mask.Refused r) = 0
+
+abbrev pub stagedNumbers : Staged → List ℕ
+stagedNumbers s =
+    headerNumbers (s .header) ++ (s .blocks ∷ s .end ∷ kindNumber (s .body) ∷ maskNumber (s .mask) ∷ maskLength (s .mask) ∷ [])
+
+-- the kind of body that a number below 4 stands for
+unfoldable pub kindFrom : ℕ → BodyKind
+kindFrom n = cond (eqb n 0) kind.Empty (cond (eqb n 1) kind.Constant (cond (eqb n 2) kind.Raw kind.Blocks))
+
+-- the mask that 1 or 2 stands for
+unfoldable pub maskFrom : ℕ → ℕ → MaskAnswer
+maskFrom which n = cond (eqb which 1) (mask.Kept n) (mask.Spare n)
+
+-- a kind of body above 3, or a mask that is neither 1 nor 2, is none
+unfoldable pub namesRight : List ℕ → Bool
+namesRight l = ltb (getD l 13 0) 4 && ltb 0 (getD l 14 0) && ltb (getD l 14 0) 3
+
+unfoldable pub stagedIn : List ℕ → Res Staged
+stagedIn l = do
+  h ← headerFrom l
+  _ ← require (namesRight l) 3
+  ok (record { header = h; body = kindFrom (getD l 13 0); blocks = getD l 11 0; end = getD l 12 0; mask = maskFrom (getD l 14 0) (getD l 15 0) })
+
+-- a record that is no answer stands for a refused one
+abbrev pub answerIn : Res Staged → StageAnswer
+answerIn (ok s) = stage-answer.Staged s
+answerIn (fail r) = stage-answer.Refused (refuse 0)
+
+abbrev pub stagedFrom : List ℕ → StageAnswer
+stagedFrom l = answerIn (stagedIn l)

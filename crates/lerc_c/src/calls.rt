@@ -4,7 +4,10 @@ ghost use mathlib.Core.Path.{_≡_};
 ghost use Rattle.lerc_c.specs.Entries as Entry;
 use super::ranges;
 use super::records;
+use super::staged;
+use lerc::PublishAnswer;
 use lerc::ReadAnswer;
+use lerc::StageAnswer;
 use lerc_header::HeaderAnswer;
 use lerc_image::FillAnswer;
 use lerc_image::WalkAnswer;
@@ -68,6 +71,64 @@ pub(crate) fn read(
     let counts = [blocks as u64, end as u64];
     records::put(&counts, records::HEADER, &mut said[..]);
     Refusal { number: 0, at: 0 }
+}
+
+// All checking of one blob: `staged` is the answer.
+pub(crate) fn stage(
+    blob: &[u8],
+    reuse: bool,
+    kept: &[u8],
+    spare: &mut [u8],
+    list: &mut [usize],
+    image: &[u64],
+    staged: &mut [u64],
+) -> Refusal
+    ensures { λ r. ⌜ Entry.StageDone (Entry.stageEntry (now (blob .entry)) reuse (record { kept = now (kept .entry); spare = now (spare .entry); list = now (list .entry); image = now (image .entry) }) (now (staged .entry))) (Entry.stagedMaskEntry (now (blob .entry)) reuse (record { kept = now (kept .entry); spare = now (spare .entry); list = now (list .entry); image = now (image .entry) }) (now (staged .entry))) r (record { kept = now (kept .entry); spare = now (spare .entry); list = now (list .entry); image = now (image .entry) }) (now (spare .exit)) (now (list .exit)) (now (staged .entry)) (now (staged .exit)) ⌝ }
+{
+    if staged.len() < staged::STAGED {
+        return Refusal { number: 5, at: 0 };
+    }
+    let answer = lerc::stage(blob, reuse, kept, &mut spare[..], &mut list[..], image);
+    let StageAnswer::Staged(found) = answer else {
+        let why = answer.refusal();
+        return why;
+    };
+    staged::put_staged(found, &mut staged[..]);
+    Refusal { number: 0, at: 0 }
+}
+
+// A blob that was staged: `said` is the body's end and the count of words written.
+pub(crate) fn publish(
+    blob: &[u8],
+    reuse: bool,
+    staged: &[u64],
+    kept: &mut [u8],
+    spare: &[u8],
+    list: &[usize],
+    image: &mut [u64],
+    said: &mut [u64],
+) -> Refusal
+    ensures { λ r. ⌜ Entry.PublishDone (Entry.publishEntry (now (blob .entry)) reuse (now (staged .entry)) (record { kept = now (kept .entry); spare = now (spare .entry); list = now (list .entry); image = now (image .entry) }) (now (said .entry))) r (record { kept = now (kept .entry); spare = now (spare .entry); list = now (list .entry); image = now (image .entry) }) (now (kept .exit)) (now (image .exit)) (now (said .entry)) (now (said .exit)) ⌝ }
+{
+    let room = (staged::STAGED <= staged.len()) & (2 <= said.len());
+    if !room {
+        return Refusal { number: 5, at: 0 };
+    }
+    let given = staged::staged_from(staged);
+    let answer = lerc::publish(
+        blob,
+        reuse,
+        given,
+        &mut kept[..],
+        spare,
+        list,
+        &mut image[..],
+    );
+    let PublishAnswer::Published { end, words } = answer else {
+        let why = answer.refusal();
+        return why;
+    };
+    records::say(end, words, &mut said[..])
 }
 
 // The mask of a blob: `said` is 1 where the kept mask is in force and 2 where the spare is, and its length.

@@ -11,6 +11,7 @@ ghost use Rattle.lerc_c.specs.Entries as Entry;
 mod calls;
 mod ranges;
 mod records;
+mod staged;
 
 // The header of a blob.
 #[no_mangle]
@@ -53,6 +54,69 @@ pub extern "C" fn lerc2_read(
     );
     place[0] = read_why.at as u64;
     read_why.number
+}
+
+// All checking of one blob, image and kept mask only looked at: `staged` is the header, the count of blocks and the body's end,
+// its kind (0 empty, 1 constant, 2 raw, 3 blocks), the mask in force (1 the kept one, 2 the spare) and its length.
+#[no_mangle]
+pub extern "C" fn lerc2_stage(
+    blob: &[u8],
+    reuse: bool,
+    kept: &[u8],
+    spare: &mut [u8],
+    list: &mut [usize],
+    image: &[u64],
+    staged: &mut [u64],
+    place: &mut [u64],
+) -> u32
+    ensures { λ r. ⌜ Entry.Returned (λ why. Entry.StageDone (Entry.placing (now (place .entry)) (Entry.stageEntry (now (blob .entry)) reuse (record { kept = now (kept .entry); spare = now (spare .entry); list = now (list .entry); image = now (image .entry) }) (now (staged .entry)))) (Entry.placing (now (place .entry)) (Entry.stagedMaskEntry (now (blob .entry)) reuse (record { kept = now (kept .entry); spare = now (spare .entry); list = now (list .entry); image = now (image .entry) }) (now (staged .entry)))) why (record { kept = now (kept .entry); spare = now (spare .entry); list = now (list .entry); image = now (image .entry) }) (now (spare .exit)) (now (list .exit)) (now (staged .entry)) (now (staged .exit))) r (now (place .entry)) (now (place .exit)) ⌝ }
+{
+    if place.len() < 1 {
+        return 5;
+    }
+    let stage_why = calls::stage(
+        blob,
+        reuse,
+        kept,
+        &mut spare[..],
+        &mut list[..],
+        image,
+        &mut staged[..],
+    );
+    place[0] = stage_why.at as u64;
+    stage_why.number
+}
+
+// A blob that was staged, `staged` being the answer, is written: `said` is the body's end and the count of words written.
+#[no_mangle]
+pub extern "C" fn lerc2_publish(
+    blob: &[u8],
+    reuse: bool,
+    staged: &[u64],
+    kept: &mut [u8],
+    spare: &[u8],
+    list: &[usize],
+    image: &mut [u64],
+    said: &mut [u64],
+    place: &mut [u64],
+) -> u32
+    ensures { λ r. ⌜ Entry.Returned (λ why. Entry.PublishDone (Entry.placing (now (place .entry)) (Entry.publishEntry (now (blob .entry)) reuse (now (staged .entry)) (record { kept = now (kept .entry); spare = now (spare .entry); list = now (list .entry); image = now (image .entry) }) (now (said .entry)))) why (record { kept = now (kept .entry); spare = now (spare .entry); list = now (list .entry); image = now (image .entry) }) (now (kept .exit)) (now (image .exit)) (now (said .entry)) (now (said .exit))) r (now (place .entry)) (now (place .exit)) ⌝ }
+{
+    if place.len() < 1 {
+        return 5;
+    }
+    let publish_why = calls::publish(
+        blob,
+        reuse,
+        staged,
+        &mut kept[..],
+        spare,
+        list,
+        &mut image[..],
+        &mut said[..],
+    );
+    place[0] = publish_why.at as u64;
+    publish_why.number
 }
 
 // The mask of a blob: `said` is 1 where the kept mask is in force and 2 where the spare is, and its length.

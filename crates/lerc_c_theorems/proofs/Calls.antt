@@ -12,10 +12,13 @@ use Rattle.lerc_header.specs.declared.Header.{Header}
 use Rattle.lerc_validity.specs.Validity.{MaskInForce}
 use Rattle.lerc_ranges.specs.declared.Ranges.{Ranges}
 use Rattle.lerc.specs.Meaning.{Meaning}
+use Rattle.lerc.specs.declared.StageAnswer.{StageAnswer}
+use Rattle.lerc.specs.declared.PublishAnswer.{PublishAnswer}
 use Rattle.lerc.specs.Read.{Lent, Masked}
-use Rattle.lerc_c.specs.Entries.{placing, Returned, headerEntry, HeaderDone, prepareEntry, PrepareDone, rangesEntry, RangesDone, Walking, walkEntry, WalkDone, Filling, fillEntry, FillDone, readEntry, maskedEntry, ReadDone, storedEntry, StoredDone}
+use Rattle.lerc.specs.Stage.{StageRead, Publishing}
+use Rattle.lerc_c.specs.Entries.{placing, Returned, headerEntry, HeaderDone, prepareEntry, PrepareDone, rangesEntry, RangesDone, Walking, walkEntry, WalkDone, Filling, fillEntry, FillDone, readEntry, maskedEntry, ReadDone, stageEntry, stagedMaskEntry, StageDone, publishEntry, PublishDone, storedEntry, StoredDone}
 use Rattle.lerc_theorems.proofs.Calls.{promise}
-use Rattle.lerc_c_theorems.specs.Calls.{Told, HeaderInC, PrepareInC, RangesInC, WalkInC, FillInC, ReadInC, StoredInC, StoredCall}
+use Rattle.lerc_c_theorems.specs.Calls.{Told, HeaderInC, PrepareInC, RangesInC, WalkInC, FillInC, ReadInC, StageInC, PublishInC, StageCall, PublishCall, StoredInC, StoredCall}
 
 -- what an entry does, and what is told of it
 abbrev pub Entered : (Refusal → Type 0) → Told → Type 0
@@ -46,6 +49,22 @@ pub read-done : {b : List ℕ} {reuse : Bool} {t : Told} {old new : Lent} {said�
     → Entered (λ why. ReadDone (placing (t .place₀) (readEntry b reuse old said₀)) (placing (t .place₀) (maskedEntry b reuse old said₀)) why old new said₀ said₁) t
 read-done =
     promise (λ g n x. Returned (λ why. ReadDone (placing (g .4) (readEntry (g .0) (g .1) (g .2) (g .3))) (placing (g .4) (maskedEntry (g .0) (g .1) (g .2) (g .3))) why (g .2) (x .0) (g .3) (x .1)) n (g .4) (x .2)) (λ k a r x p. p)
+
+pub stage-done : {b : List ℕ} {reuse : Bool} {t : Told} {old : Lent} {spare₁ list₁ staged₀ staged₁ : List ℕ} → StageInC b reuse t old spare₁ list₁ staged₀ staged₁
+    → Entered (λ why. StageDone (placing (t .place₀) (stageEntry b reuse old staged₀)) (placing (t .place₀) (stagedMaskEntry b reuse old staged₀)) why old spare₁ list₁ staged₀ staged₁) t
+stage-done =
+    promise (λ g n x. Returned (λ why. StageDone (placing (g .4) (stageEntry (g .0) (g .1) (g .2) (g .3))) (placing (g .4) (stagedMaskEntry (g .0) (g .1) (g .2) (g .3))) why (g .2) (x .0) (x .1) (g .3) (x .2)) n (g .4) (x .3)) (λ k a r x p. p)
+
+pub publish-done : {b : List ℕ} {reuse : Bool} {staged : List ℕ} {t : Told} {old : Lent} {kept₁ image₁ said₀ said₁ : List ℕ} → PublishInC b reuse staged t old kept₁ image₁ said₀ said₁
+    → Entered (λ why. PublishDone (placing (t .place₀) (publishEntry b reuse staged old said₀)) why old kept₁ image₁ said₀ said₁) t
+publish-done = promise (λ g n x. Returned (λ why. PublishDone (placing (g .5) (publishEntry (g .0) (g .1) (g .2) (g .3) (g .4))) why (g .3) (x .0) (x .1) (g .4) (x .2)) n (g .5) (x .3)) (λ k a r x p. p)
+
+pub stage-call : {b : List ℕ} {reuse : Bool} {answer : StageAnswer} {old : Lent} {spare list : List ℕ} → StageCall b reuse answer old spare list → StageRead b reuse answer old spare list
+stage-call = promise (λ g r x. StageRead (g .0) (g .1) r (g .2) (x .0) (x .1)) (λ k a r x p. p)
+
+pub publish-call : {b : List ℕ} {reuse : Bool} {given : StageAnswer} {answer : PublishAnswer} {old : Lent} {kept image : List ℕ} → PublishCall b reuse given answer old kept image
+    → Publishing b reuse given answer old kept image
+publish-call = promise (λ g r x. Publishing (g .0) (g .1) (g .2) r (g .3) (x .0) (x .1)) (λ k a r x p. p)
 
 pub stored-done : {v kind : ℕ} {t : Told} {said₀ said₁ : List ℕ} → StoredInC v kind t said₀ said₁ → Entered (λ why. StoredDone (placing (t .place₀) (storedEntry kind v said₀)) why said₀ said₁) t
 stored-done = promise (λ g n x. Returned (λ why. StoredDone (placing (g .3) (storedEntry (g .1) (g .0) (g .2))) why (g .2) (x .0)) n (g .3) (x .1)) (λ k a r x p. p)
@@ -85,6 +104,14 @@ module _ {w v : Refusal} where
   pub read-alike : {m k : Res Meaning} {i j : Res Masked} {old new other : Lent} {said₀ said₁ said₂ : List ℕ} → m ≡ k → i ≡ j → ReadDone m i w old new said₀ said₁ → ReadDone k j v old other said₀ said₂
       → (w ≡ v) × (new ≡ other) × (said₁ ≡ said₂)
   read-alike e f p q = let p = rw (e, f) at p in (p .why ∙ sym (q .why), p .lent ∙ sym (q .lent), p .said ∙ sym (q .said))
+
+  pub stage-alike : {m k : Res Meaning} {i j : Res Masked} {old : Lent} {spare₁ spare₂ list₁ list₂ staged₀ staged₁ staged₂ : List ℕ} → m ≡ k → i ≡ j → StageDone m i w old spare₁ list₁ staged₀ staged₁
+      → StageDone k j v old spare₂ list₂ staged₀ staged₂ → (w ≡ v) × (spare₁ ≡ spare₂) × (list₁ ≡ list₂) × (staged₁ ≡ staged₂)
+  stage-alike e f p q = let p = rw (e, f) at p in (p .why ∙ sym (q .why), p .spare ∙ sym (q .spare), p .list ∙ sym (q .list), p .staged ∙ sym (q .staged))
+
+  pub publish-alike : {m k : Res Meaning} {old : Lent} {kept₁ kept₂ image₁ image₂ said₀ said₁ said₂ : List ℕ} → m ≡ k → PublishDone m w old kept₁ image₁ said₀ said₁ → PublishDone k v old kept₂ image₂ said₀ said₂
+      → (w ≡ v) × (kept₁ ≡ kept₂) × (image₁ ≡ image₂) × (said₁ ≡ said₂)
+  publish-alike e p q = let p = rw (e) at p in (p .why ∙ sym (q .why), p .kept ∙ sym (q .kept), p .image ∙ sym (q .image), p .said ∙ sym (q .said))
 
   pub stored-alike : {m k : Res ℕ} {said₀ said₁ said₂ : List ℕ} → m ≡ k → StoredDone m w said₀ said₁ → StoredDone k v said₀ said₂ → (w ≡ v) × (said₁ ≡ said₂)
   stored-alike e p q = let p = rw (e) at p in (p .why ∙ sym (q .why), p .said ∙ sym (q .said))

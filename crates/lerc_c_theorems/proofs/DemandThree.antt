@@ -106,7 +106,7 @@ read-long {b} {reuse} {t} {old} {new} {said₀} c z =
 
 -- ---- a record holds what it was written from
 
-over-long : (front old : List ℕ) → length front ≤ length (over front old)
+pub over-long : (front old : List ℕ) → length front ≤ length (over front old)
 over-long front old = rw (length-append) (omega arith)
 
 header-in-hand : (b header₀ header₁ : List ℕ) → Bytes b → Accepted (λ t. HeaderInC b t header₀ header₁) → (h : Header) × (headerSays b ≡ ok h) × HoldsHeader header₁ h
@@ -167,7 +167,7 @@ read-in-hand {b} {reuse} {old} {new} {said₀} bytes (_, _, c) =
     (w, d, subst (λ (l : List ℕ). Said l w) (sym (t .written w e)) (said-is b w said₀ bytes (whole-read d .says)))
 
 -- what a record holds is what its numbers are
-at-header : {l : List ℕ} {h : Header} → HoldsHeader l h → h ≡ headerAt l
+pub at-header : {l : List ℕ} {h : Header} → HoldsHeader l h → h ≡ headerAt l
 unfolding headerFrom
 at-header {l} p = let (_, _, e) = bind-is (require (fieldsFit l) 3) _ (p .is) in sym (ok-is e)
 
@@ -178,13 +178,13 @@ at-ranges {l} p = let (_, _, e) = bind-is (require (ltb (getD l 1 0) 2) 3) _ (p 
 -- ---- calls of the reader behind those of C
 
 -- the header and the ranges that are in hand
-record Held (x : InHandInC) : Type 0 where
-  says : headerSays (x .blob) ≡ ok (headerAt (x .header))
-  header : HoldsHeader (x .header) (headerAt (x .header))
-  ranges : HoldsRanges (x .ranges) (rangesIn (x .ranges))
-  read : ReadRanges (x .blob) (headerAt (x .header)) (rangesIn (x .ranges))
+pub record Held (x : InHandInC) : Type 0 where
+  pub says : headerSays (x .blob) ≡ ok (headerAt (x .header))
+  pub header : HoldsHeader (x .header) (headerAt (x .header))
+  pub ranges : HoldsRanges (x .ranges) (rangesIn (x .ranges))
+  pub read : ReadRanges (x .blob) (headerAt (x .header)) (rangesIn (x .ranges))
 
-held-by : (x : InHandInC) (h : Header) → headerSays (x .blob) ≡ ok h → HoldsHeader (x .header) h → {ranges₀ : List ℕ} → Accepted (λ t. RangesInC (x .blob) (x .header) t ranges₀ (x .ranges)) → Held x
+pub held-by : (x : InHandInC) (h : Header) → headerSays (x .blob) ≡ ok h → HoldsHeader (x .header) h → {ranges₀ : List ℕ} → Accepted (λ t. RangesInC (x .blob) (x .header) t ranges₀ (x .ranges)) → Held x
 held-by x h e p {ranges₀} c = go h (at-header p) e p
   where
     go : (h : Header) → h ≡ headerAt (x .header) → headerSays (x .blob) ≡ ok h → HoldsHeader (x .header) h → Held x
@@ -394,10 +394,9 @@ alike x e left a =
     let z : v .header ≡ headerAt (x .header) = ok-is (sym (y .says) ∙ e) in
     record { answer = r; lent = a .lent; read = d; room = subst (λ (h : Header). room h (a .lent) ≡ true) z (y .room); same-mask = a .same-mask; same-start = a .same-start }
 
-in-any-order : (x : InHandInC) → SurveyedInC x → (ns : List ℕ) (said : List Outcome) (new : List ℕ) → FillsInC (x .blob) (x .header) (x .ranges) (x .mask) (x .list) ns said (x .image) new
+pub in-any-order : (x : InHandInC) → Held x → Surveyed (inHand x) → (ns : List ℕ) (said : List Outcome) (new : List ℕ) → FillsInC (x .blob) (x .header) (x .ranges) (x .mask) (x .list) ns said (x .image) new
     → AnyOrderInC x ns said new
-in-any-order x s ns said new f =
-    let (h, y) = surveyed x s in
+in-any-order x h y ns said new f =
     let (answers, calls, tells) = filled (h .header) (h .ranges) ns said (x .image) new f in
     let a = demand-three .any-order (inHand x) y ns answers new calls in
     record {
@@ -417,5 +416,5 @@ demand-three-in-c = record {
   steps-accepted = steps;
   opened-by-walk-in-c = λ x w. demand-three .opened-by-walk (inHand x) (walked x w);
   opened-by-read-in-c = λ x w. demand-three .opened-by-read (inHand x) (read-whole x w);
-  any-order-in-c = in-any-order;
+  any-order-in-c = λ x s. let (h, y) = surveyed x s in in-any-order x h y;
 }

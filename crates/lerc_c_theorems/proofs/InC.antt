@@ -8,6 +8,7 @@ use Rattle.lerc_c_theorems.proofs.Numbers.{numbers-exactly-in-c, places
 use Rattle.lerc_c_theorems.proofs.DemandTwo.{demand-two-in-c}
 use Rattle.lerc_c_theorems.proofs.DemandThree.{demand-three-in-c}
 use Rattle.lerc_c_theorems.proofs.Unread.{unread-in-c}
+use Rattle.lerc_c_theorems.proofs.Staged.{staged-in-c}
 
 pub demands-in-c : DemandsInC
 demands-in-c = record {
@@ -20,4 +21,5 @@ demands-in-c = record {
   two-in-c = demand-two-in-c;
   three-in-c = demand-three-in-c;
   unread-in-c = unread-in-c;
+  staged-in-c = staged-in-c;
 }

@@ -7,4 +7,5 @@ pub mod Made
 pub mod DemandTwo
 pub mod DemandThree
 pub mod Unread
+pub mod Staged
 pub mod InC

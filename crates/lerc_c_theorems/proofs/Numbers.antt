@@ -4,7 +4,7 @@ use mathlib.Core.Path.{_≡_, _∙_, sym, ap, refl, subst}
 use mathlib.Core.Logic.{_↔_, _≢_, _⊎_, inl, inr}
 use mathlib.Core.Bool.{Bool, true, false, _&&_}
 use mathlib.Core.List.{List, [], _∷_}
-use Prim.Native.Nat.{ℕ, zero, suc}
+use Prim.Native.Nat.{ℕ, zero, suc, _<_}
 use native.Mathlib.Omega.{arith}
 use lib.ListN.{length, getD, set}
 use lib.Dec.{leb, ltb}
@@ -21,11 +21,19 @@ use Rattle.lerc_ranges.specs.Ranges.{readRangesSays}
 use Rattle.lerc_image.specs.Paint.{among}
 use Rattle.lerc_image.specs.Walk.{walkSays}
 use Rattle.lerc_image.specs.Fill.{fillSays}
+use Rattle.lerc_slices.specs.Slices.{beginsWith}
+use Rattle.lerc_validity.specs.Validity.{holdsMask}
+use Rattle.lerc.specs.declared.StageAnswer.{StageAnswer}
+use Rattle.lerc.specs.declared.Staged.{Staged}
+use Rattle.lerc.specs.declared.StageAnswer.the-variants as stage-answer
+use Rattle.lerc.specs.Meaning.{Meaning, startsOf}
 use Rattle.lerc.specs.Read.{Lent, readSays}
-use Rattle.lerc_c.specs.Records.{whyOf, headerRoom, fieldsFit, headerAt, headerFrom, rangesRoom, rangesIn, rangesFrom}
-use Rattle.lerc_c.specs.Entries.{placing, Returned, headerEntry, prepareEntry, rangesEntry, walkEntry, fillEntry, readRoom, readEntry, storedEntry}
+use Rattle.lerc.specs.Stage.{stagedOf, isAnswer, wasStaged, publishSays}
+use Rattle.lerc.proofs.Answers.{answer-self, answer-is}
+use Rattle.lerc_c.specs.Records.{whyOf, headerRoom, fieldsFit, headerAt, headerFrom, rangesRoom, rangesIn, rangesFrom, stagedRoom, kindFrom, maskFrom, namesRight, answerIn, stagedIn, stagedFrom}
+use Rattle.lerc_c.specs.Entries.{placing, Returned, headerEntry, prepareEntry, rangesEntry, walkEntry, fillEntry, readRoom, readEntry, stageEntry, publishEntry, storedEntry}
 use Rattle.lerc_c.proofs.RecordParts.{Fit, fit}
-use Rattle.lerc_c.proofs.Numbers.{Numbered, header-numbered, prepare-numbered, ranges-numbered, walk-numbered, fill-numbered, read-numbered, stored-numbered, zero-accepts}
+use Rattle.lerc_c.proofs.Numbers.{Numbered, header-numbered, prepare-numbered, ranges-numbered, walk-numbered, fill-numbered, read-numbered, stage-numbered, publish-numbered, stored-numbered, zero-accepts}
 use Rattle.lerc_theorems.specs.Numbers.{Exactly, ExactlyNumbered}
 use Rattle.lerc_theorems.specs.BlockTable.{StoredRefused}
 use Rattle.lerc_theorems.specs.Table.{HeaderRefused, PrepareRefused, ReadRangesRefused, WalkRefused, FillRefused, WholeRefused}
@@ -35,9 +43,9 @@ use Rattle.lerc_theorems.proofs.Given.{header-in, prepare-in, read-ranges-in, w
 use Rattle.lerc_theorems.proofs.Headers.{header-exactly, prepare-exactly, read-ranges-exactly}
 use Rattle.lerc_theorems.proofs.Entries.{walk-exactly, fill-exactly, whole-exactly}
 use Rattle.lerc_theorems.proofs.Blocks.{stored-exactly}
-use Rattle.lerc_c_theorems.specs.Promises.{c-lent}
+use Rattle.lerc_c_theorems.specs.Promises.{c-lent, c-given}
 use Rattle.lerc_c_theorems.proofs.SameReader.{placing-numbered}
-use Rattle.lerc_c_theorems.specs.Numbers.{ToldInC, PromisedInC, EntryRefused, slice-short, number-wide, reader-refuses, NothingWide, Shorter, HeaderWide, rows-wide, columns-wide, depth-wide, valid-wide, side-wide, size-wide, kind-wide, mask-wide, MarkWide, NumbersExactlyInC, PlacesExactlyInC, OnlyInC, NumbersOnlyInC}
+use Rattle.lerc_c_theorems.specs.Numbers.{ToldInC, PromisedInC, EntryRefused, slice-short, number-wide, reader-refuses, NothingWide, Shorter, HeaderWide, rows-wide, columns-wide, depth-wide, valid-wide, side-wide, size-wide, kind-wide, mask-wide, MarkWide, NameWide, body-wide, mask-none, mask-many, NoAnswer, AsStaged, PublishRefused, publish-read, publish-given, StageNumbers, PublishNumbers, StageOnly, PublishOnly, NumbersExactlyInC, PlacesExactlyInC, OnlyInC, NumbersOnlyInC}
 
 -- ---- tests, and what fails where one fails
 
@@ -84,6 +92,40 @@ fields l = record {
 
 mark : (l : List ℕ) → Decides (ltb (getD l 1 0) 2) (MarkWide l)
 mark l = record { bad = ltb-false (getD l 1 0) 2; good = λ e w. let h = ltb-true (getD l 1 0) 2 e in omega (arith, h, w) }
+
+none : (n : ℕ) → ltb 0 n ≡ false → n ≡ 0
+none n e = omega (arith, ltb-false 0 n e)
+
+names : (l : List ℕ) → Decides (namesRight l) (NameWide l)
+unfolding namesRight
+names l = record {
+  bad = fails _ _ (fails _ _ (λ e. body-wide (ltb-false _ _ e)) (λ e. mask-none (none (getD l 14 0) e))) (λ e. mask-many (ltb-false _ _ e));
+  good = λ e. let (e, few) = and-is _ _ e in let (body, some) = and-is _ _ e in λ w. go (ltb-true _ _ body) (ltb-true _ _ some) (ltb-true _ _ few) w;
+}
+  where
+    go : getD l 13 0 < 4 → 0 < getD l 14 0 → getD l 14 0 < 3 → NameWide l → ⊥
+    go body some few (body-wide w) = omega (arith, body, w)
+    go body some few (mask-none w) = omega (arith, some, w)
+    go body some few (mask-many w) = omega (arith, few, w)
+
+neither : {P Q : Type 0} → Decides true P → Decides true Q → P ⊎ Q → ⊥
+neither f n (inl w) = f .good refl w
+neither f n (inr w) = n .good refl w
+
+-- a record of which a number is too wide, or names nothing, stands for no answer
+module _ (staged : List ℕ) where
+  abbrev named : Bool → Header → Res Staged
+  named u h = require u 3 >>= λ _. ok (record { header = h; body = kindFrom (getD staged 13 0); blocks = getD staged 11 0; end = getD staged 12 0; mask = maskFrom (getD staged 14 0) (getD staged 15 0) })
+
+  answer-none : (t u : Bool) → Decides t (HeaderWide staged) → Decides u (NameWide staged)
+      → (answerIn ((require t 3 >>= λ _. ok (headerAt staged)) >>= named u) ≡ stage-answer.Refused (refuse 0)) ↔ (HeaderWide staged ⊎ NameWide staged)
+  answer-none true true f n = (λ e. absurd (let z : _≡_ {A = ℕ} 0 1 = cc in omega arith), λ w. absurd (neither f n w))
+  answer-none true false f n = (λ _. inr (n .bad refl), λ _. refl)
+  answer-none false u f n = (λ _. inl (f .bad refl), λ _. refl)
+
+pub no-answer : NoAnswer
+unfolding stagedIn headerFrom
+no-answer staged = answer-none staged (fieldsFit staged) (namesRight staged) (fields staged) (names staged)
 
 -- ---- an entry: room for its records, numbers that their fields hold, then the reader
 
@@ -171,6 +213,15 @@ stored-form : (kind v : ℕ) (said : List ℕ) → storedEntry kind v said ≡ E
 unfolding storedEntry
 stored-form kind v said = refl
 
+stage-form : (b : List ℕ) (reuse : Bool) (l : Lent) (staged : List ℕ) → stageEntry b reuse l staged ≡ Entry (leb stagedRoom (length staged)) true (readSays b reuse l)
+unfolding stageEntry
+stage-form b reuse l staged = refl
+
+publish-form : (b : List ℕ) (reuse : Bool) (staged : List ℕ) (l : Lent) (said : List ℕ)
+    → publishEntry b reuse staged l said ≡ Entry (leb stagedRoom (length staged) && leb 2 (length said)) true (publishSays b reuse (stagedFrom staged) l)
+unfolding publishEntry
+publish-form b reuse staged l said = refl
+
 -- room for the place comes before all of it
 placed-form : {A : Type 0} (p t u : Bool) (m : Res A) → (require p 5 >>= λ _. Entry t u m) ≡ Entry (p && t) u m
 placed-form true t u m = refl
@@ -256,10 +307,61 @@ module _ (place b header : List ℕ) where
 read-table : (place b : List ℕ) (reuse : Bool) (l : Lent) (said : List ℕ) → TableOf (placing place (readEntry b reuse l said)) (EntryRefused (Shorter place 1 ⊎ Shorter said readRoom) NothingWide (WholeRefused b reuse l))
 read-table place b reuse l said = placed-table place (whole-exactly b reuse l) (long readRoom said) no-test (read-form b reuse l said)
 
+stage-table : (place b : List ℕ) (reuse : Bool) (l : Lent) (staged : List ℕ) → TableOf (placing place (stageEntry b reuse l staged)) (EntryRefused (Shorter place 1 ⊎ Shorter staged stagedRoom) NothingWide (WholeRefused b reuse l))
+stage-table place b reuse l staged = placed-table place (whole-exactly b reuse l) (long stagedRoom staged) no-test (stage-form b reuse l staged)
+
+-- staging gave it, test by test
+module _ (m : Meaning) (given : StageAnswer) (l : Lent) where
+  as-staged : wasStaged m given l ≡ true → AsStaged m given l
+  as-staged e =
+      let (e, list) = and-is (holdsMask (m .mask) (l .spare) && isAnswer given (stagedOf m)) (beginsWith (startsOf (m .body)) (l .list)) e in
+      let (spare, answer) = and-is (holdsMask (m .mask) (l .spare)) (isAnswer given (stagedOf m)) e in
+      record { answer = answer-is given (stagedOf m) answer; spare = spare; list = list }
+
+  was-staged : AsStaged m given l → wasStaged m given l ≡ true
+  was-staged p = rw (p .spare, p .answer, answer-self m, p .list)
+
+module _ (b : List ℕ) (reuse : Bool) (given : StageAnswer) (l : Lent) where
+  publish-refused : (x : Res Meaning) → readSays b reuse l ≡ x → {why : Refusal} → (x >>= λ m. require (wasStaged m given l) 3 >>= λ _. ok m) ≡ fail why → PublishRefused b reuse given l why
+  publish-refused (fail r) e {why} d = publish-read (whole-exactly b reuse l why .0 (e ∙ d))
+  publish-refused (ok m) e {why} d = go (wasStaged m given l) refl d
+    where
+      go : (t : Bool) → wasStaged m given l ≡ t → (require t 3 >>= λ _. ok m) ≡ fail why → PublishRefused b reuse given l why
+      go true c d = not-refused d
+      go false c d = subst (PublishRefused b reuse given l) (fail-is d) (publish-given m e (λ p. absurd (let y = sym c ∙ was-staged m given l p in let z : _≡_ {A = ℕ} 0 1 = cc in omega arith)))
+
+  refused-publish : {why : Refusal} → PublishRefused b reuse given l why → publishSays b reuse given l ≡ fail why
+  unfolding publishSays
+  refused-publish {why} (publish-read r) = rw (whole-exactly b reuse l why .1 r)
+  refused-publish (publish-given m e other) = rw (e) (go (wasStaged m given l) refl)
+    where
+      go : (t : Bool) → wasStaged m given l ≡ t → (require t 3 >>= λ _. ok m) ≡ fail (refuse 3)
+      go true c = absurd (other (as-staged m given l c))
+      go false c = refl
+
+  publish-exactly : TableOf (publishSays b reuse given l) (PublishRefused b reuse given l)
+  unfolding publishSays
+  publish-exactly why = (publish-refused (readSays b reuse l) refl, refused-publish)
+
+publish-table : (place b : List ℕ) (reuse : Bool) (staged : List ℕ) (l : Lent) (said : List ℕ) → TableOf (placing place (publishEntry b reuse staged l said))
+    (EntryRefused (Shorter place 1 ⊎ (Shorter staged stagedRoom ⊎ Shorter said 2)) NothingWide (PublishRefused b reuse (stagedFrom staged) l))
+publish-table place b reuse staged l said =
+    placed-table place (publish-exactly b reuse (stagedFrom staged) l) (both (long stagedRoom staged) (long 2 said)) no-test (publish-form b reuse staged l said)
+
 stored-table : (place : List ℕ) (kind v : ℕ) (said : List ℕ) → TableOf (placing place (storedEntry kind v said)) (EntryRefused (Shorter place 1 ⊎ Shorter said 1) NothingWide (StoredRefused kind v))
 stored-table place kind v said = placed-table place (stored-exactly kind v) (long 1 said) no-test (stored-form kind v said)
 
 -- ---- each number of each entry, and its place
+
+stage-places : StageNumbers Exactly
+stage-places =
+    by-table (λ a. stageEntry (a .0 .now) (a .1 .0) (c-lent a .0) (c-lent a .1)) (λ a. stage-numbered (a .0 .now) (a .1 .0) (c-lent a .0) (c-lent a .1))
+    (λ a. stage-table (c-lent a .2) (a .0 .now) (a .1 .0) (c-lent a .0) (c-lent a .1)) (λ k a n x p. (p, p .done .why))
+
+publish-places : PublishNumbers Exactly
+publish-places =
+    by-table (λ a. publishEntry (a .0 .now) (a .1 .0) (c-given a .0) (c-given a .1) (c-given a .2)) (λ a. publish-numbered (a .0 .now) (a .1 .0) (c-given a .0) (c-given a .1) (c-given a .2))
+    (λ a. publish-table (c-given a .3) (a .0 .now) (a .1 .0) (c-given a .0) (c-given a .1) (c-given a .2)) (λ k a n x p. (p, p .done .why))
 
 pub places-exactly-in-c : PlacesExactlyInC
 places-exactly-in-c = record {
@@ -269,6 +371,8 @@ places-exactly-in-c = record {
   walk = by-table (λ a. walkEntry (a .0 .now) (a .1 .0 .now) (a .1 .1 .0 .now) (a .1 .1 .1 .0 .now) (a .1 .1 .1 .1 .0 .now) (a .1 .1 .1 .1 .1 .0 .now)) (λ a. walk-numbered (a .0 .now) (a .1 .0 .now) (a .1 .1 .0 .now) (a .1 .1 .1 .0 .now) (a .1 .1 .1 .1 .0 .now) (a .1 .1 .1 .1 .1 .0 .now)) (λ a. walk-table (a .1 .1 .1 .1 .1 .1 .0 .now) (a .0 .now) (a .1 .0 .now) (a .1 .1 .0 .now) (a .1 .1 .1 .0 .now) (a .1 .1 .1 .1 .0 .now) (a .1 .1 .1 .1 .1 .0 .now)) (λ k a n x p. (p, p .done .why));
   fill = by-table (λ a. fillEntry (a .0 .now) (a .1 .0 .now) (a .1 .1 .0 .now) (a .1 .1 .1 .0 .now) (a .1 .1 .1 .1 .0 .now) (a .1 .1 .1 .1 .1 .0) (a .1 .1 .1 .1 .1 .1 .0 .now) (a .1 .1 .1 .1 .1 .1 .1 .0 .now)) (λ a. fill-numbered (a .0 .now) (a .1 .0 .now) (a .1 .1 .0 .now) (a .1 .1 .1 .0 .now) (a .1 .1 .1 .1 .0 .now) (a .1 .1 .1 .1 .1 .0) (a .1 .1 .1 .1 .1 .1 .0 .now) (a .1 .1 .1 .1 .1 .1 .1 .0 .now)) (λ a. fill-table (a .1 .1 .1 .1 .1 .1 .1 .1 .0 .now) (a .0 .now) (a .1 .0 .now) (a .1 .1 .0 .now) (a .1 .1 .1 .0 .now) (a .1 .1 .1 .1 .0 .now) (a .1 .1 .1 .1 .1 .0) (a .1 .1 .1 .1 .1 .1 .0 .now) (a .1 .1 .1 .1 .1 .1 .1 .0 .now)) (λ k a n x p. (p, p .done .why));
   read = by-table (λ a. readEntry (a .0 .now) (a .1 .0) (c-lent a .0) (c-lent a .1)) (λ a. read-numbered (a .0 .now) (a .1 .0) (c-lent a .0) (c-lent a .1)) (λ a. read-table (c-lent a .2) (a .0 .now) (a .1 .0) (c-lent a .0) (c-lent a .1)) (λ k a n x p. (p, p .done .why));
+  stage = stage-places;
+  publish = publish-places;
   stored = by-table (λ a. storedEntry (a .1 .0) (a .0) (a .1 .1 .0 .now)) (λ a. stored-numbered (a .1 .0) (a .0) (a .1 .1 .0 .now)) (λ a. stored-table (a .1 .1 .1 .0 .now) (a .1 .0) (a .0) (a .1 .1 .0 .now)) (λ k a n x p. (p, p .done .why));
 }
 
@@ -284,6 +388,8 @@ numbers-exactly-in-c = record {
   walk = numbers-of (places-exactly-in-c .walk);
   fill = numbers-of (places-exactly-in-c .fill);
   read = numbers-of (places-exactly-in-c .read);
+  stage = numbers-of (places-exactly-in-c .stage);
+  publish = numbers-of (places-exactly-in-c .publish);
   stored = numbers-of (places-exactly-in-c .stored);
 }
 
@@ -308,6 +414,22 @@ only {left = left} l p none five three rest k a (suc n) x q =
     let w : Refusal = record { number = suc n; at = getD (left x) 0 0 } in
     entry-in l five (three a) (rest a) w (p .other k a (suc n) x q w .0 (λ e. omega (arith, e), refl))
 
+stage-only : StageOnly
+stage-only =
+    let l : List ℕ = 0 ∷ 1 ∷ 2 ∷ 3 ∷ 4 ∷ 5 ∷ 6 ∷ 7 ∷ 8 ∷ 9 ∷ 10 ∷ 13 ∷ [] in
+    only l stage-places refl refl (λ a w. refl) (λ a why. whole-in (In l) refl refl refl refl refl refl refl refl refl refl refl)
+
+-- 3 is also of what staging did not give
+publish-in : {b : List ℕ} {reuse : Bool} {given : StageAnswer} {l : Lent} (P : ℕ → Type 0) → P 3 → ((why : Refusal) → WholeRefused b reuse l why → P (why .number)) → (why : Refusal)
+    → PublishRefused b reuse given l why → P (why .number)
+publish-in P three whole why (publish-read r) = whole why r
+publish-in P three whole why (publish-given m e other) = three
+
+publish-only : PublishOnly
+publish-only =
+    let l : List ℕ = 0 ∷ 1 ∷ 2 ∷ 3 ∷ 4 ∷ 5 ∷ 6 ∷ 7 ∷ 8 ∷ 9 ∷ 10 ∷ 13 ∷ [] in
+    only l publish-places refl refl (λ a w. refl) (λ a. publish-in (In l) refl (λ why. whole-in (In l) refl refl refl refl refl refl refl refl refl refl refl))
+
 pub numbers-only-in-c : NumbersOnlyInC
 numbers-only-in-c = record {
   read-header = let l : List ℕ = 0 ∷ 1 ∷ 2 ∷ 3 ∷ 4 ∷ 5 ∷ 13 ∷ [] in only l (places-exactly-in-c .read-header) refl refl (λ a w. refl) (λ a why. header-in (In l) refl refl refl refl refl);
@@ -316,5 +438,7 @@ numbers-only-in-c = record {
   walk = let l : List ℕ = 0 ∷ 1 ∷ 3 ∷ 4 ∷ 5 ∷ 7 ∷ 8 ∷ 9 ∷ 10 ∷ [] in only l (places-exactly-in-c .walk) refl refl (λ a w. refl) (λ a why. walk-in (In l) refl refl refl refl refl refl refl refl);
   fill = let l : List ℕ = 0 ∷ 1 ∷ 3 ∷ 4 ∷ 5 ∷ 7 ∷ 8 ∷ 9 ∷ 11 ∷ [] in only l (places-exactly-in-c .fill) refl refl (λ a w. refl) (λ a why. fill-in (In l) refl refl refl refl refl refl refl refl);
   read = let l : List ℕ = 0 ∷ 1 ∷ 2 ∷ 3 ∷ 4 ∷ 5 ∷ 6 ∷ 7 ∷ 8 ∷ 9 ∷ 10 ∷ 13 ∷ [] in only l (places-exactly-in-c .read) refl refl (λ a w. refl) (λ a why. whole-in (In l) refl refl refl refl refl refl refl refl refl refl refl);
+  stage = stage-only;
+  publish = publish-only;
   stored = let l : List ℕ = 0 ∷ 5 ∷ 9 ∷ [] in only l (places-exactly-in-c .stored) refl refl (λ a w. absurd w) (λ a why. stored-in (In l) refl);
 }

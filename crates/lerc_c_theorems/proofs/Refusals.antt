@@ -9,18 +9,21 @@ use native.Mathlib.Omega.{arith}
 use lib.ListN.{length}
 use lib.Dec.{leb}
 use Rattle.lerc_words.specs.declared.Refusal.{Refusal}
-use Rattle.lerc_words.specs.Res.{Res, ok, fail, _>>=_, require}
+use Rattle.lerc_words.specs.Res.{Res, ok, fail, _>>=_, require, after}
 use Rattle.lerc_words.proofs.Binding.{and-is}
 use Rattle.lerc_header.specs.declared.Header.{Header}
 use Rattle.lerc_ranges.specs.declared.Ranges.{Ranges}
-use Rattle.lerc_validity.specs.Validity.{MaskInForce}
+use Rattle.lerc_validity.specs.Validity.{MaskInForce, spareWith}
 use Rattle.lerc.specs.Meaning.{Meaning}
 use Rattle.lerc.specs.Read.{Lent, readSays, Masked, masked, refusedAfter, readAfter}
-use Rattle.lerc_c.specs.Records.{whyOf}
-use Rattle.lerc_c.specs.Entries.{placing, Returned, HeaderDone, RangesDone, StoredDone, PrepareDone, Walking, WalkDone, Filling, FillDone, readRoom, readEntry, maskedEntry, ReadDone}
+use Rattle.lerc.specs.declared.StageAnswer.the-variants as stage-answer
+use Rattle.lerc.specs.Stage.{StageRead}
+use Rattle.lerc.proofs.Both.{read-refused}
+use Rattle.lerc_c.specs.Records.{whyOf, stagedRoom}
+use Rattle.lerc_c.specs.Entries.{placing, Returned, HeaderDone, RangesDone, StoredDone, PrepareDone, Walking, WalkDone, Filling, FillDone, readRoom, readEntry, maskedEntry, ReadDone, stageEntry, stagedMaskEntry, StageDone, PublishDone}
 use Rattle.lerc_theorems.specs.Refusals.{WholeKeeps}
 use Rattle.lerc_c_theorems.specs.Promises.{c-lent}
-use Rattle.lerc_c_theorems.specs.Refusals.{RefusalsKeepInC}
+use Rattle.lerc_c_theorems.specs.Refusals.{StageKeeps, PublishKeeps, RefusalsKeepInC}
 use Rattle.lerc_theorems.proofs.Refusals.{whole-keeps}
 
 -- a number other than 0 is a refusal's, and a refusal leaves what was there
@@ -82,6 +85,62 @@ module _ (b : List ℕ) (reuse : Bool) (old : Lent) (said place : List ℕ) wher
       go true false t p = p
       go false v t p = p
 
+-- ---- staging and publishing
+
+module _ (b : List ℕ) (reuse : Bool) (old : Lent) (staged place : List ℕ) where
+  abbrev staging : Res Meaning
+  staging = placing place (stageEntry b reuse old staged)
+
+  abbrev staging-mask : Res Masked
+  staging-mask = placing place (stagedMaskEntry b reuse old staged)
+
+  module _ {w : Refusal} {spare list staged' : List ℕ} (d : StageDone staging staging-mask w old spare list staged staged') where
+    module _ (refused : (q : Refusal) × (staging ≡ fail q)) where
+      stage-list : list ≡ old .list
+      stage-list = let (q, e) = refused in rw (e) at (d .list)
+
+      stage-staged : staged' ≡ staged
+      stage-staged = let (q, e) = refused in rw (e) at (d .staged)
+
+      -- with room the spare is as the reader leaves it
+      stage-room : (leb 1 (length place) && leb stagedRoom (length staged)) ≡ true
+          → WholeKeeps b reuse old (record { kept = old .kept; spare = spare; list = old .list; image = old .image })
+      unfolding stageEntry stagedMaskEntry
+      stage-room t =
+          let (q, e) = refused in
+          let (u, v) = and-is (leb 1 (length place)) (leb stagedRoom (length staged)) t in
+          let i = rw (u, v) at e in
+          let s = rw (u, v) at (d .spare) in
+          let r : StageRead b reuse (stage-answer.Refused q) old spare (old .list) = record { says = rw (i); spare = s; list = rw (i) } in
+          whole-keeps b reuse old (record { kept = old .kept; spare = spare; list = old .list; image = old .image }) q (read-refused b reuse old r)
+
+    stage-none : (leb 1 (length place) && leb stagedRoom (length staged)) ≡ false → spare ≡ old .spare
+    unfolding stagedMaskEntry
+    stage-none t = go (leb 1 (length place)) (leb stagedRoom (length staged)) t (d .spare)
+      where
+        go : (u v : Bool) → (u && v) ≡ false → spare ≡ after (require u 5 >>= λ _. require v 5 >>= λ _. masked b reuse old) (old .spare) (λ m. spareWith (m .mask) (old .spare)) → spare ≡ old .spare
+        go true true t p = absurd (let z : _≡_ {A = ℕ} 0 1 = cc in omega arith)
+        go true false t p = p
+        go false v t p = p
+
+stage-keeps : StageKeeps
+stage-keeps k a x n p z =
+    let l = c-lent a in
+    let r = refusal p z (staging (a .0 .now) (a .1 .0) (l .0) (l .1) (l .2)) (p .done .why) in
+    record {
+      list = stage-list (a .0 .now) (a .1 .0) (l .0) (l .1) (l .2) (p .done) r;
+      staged = stage-staged (a .0 .now) (a .1 .0) (l .0) (l .1) (l .2) (p .done) r;
+      room = stage-room (a .0 .now) (a .1 .0) (l .0) (l .1) (l .2) (p .done) r;
+      short = stage-none (a .0 .now) (a .1 .0) (l .0) (l .1) (l .2) (p .done);
+    }
+
+publish-left : (m : Res Meaning) (old : Lent) {w : Refusal} {kept image said said' : List ℕ} → (q : Refusal) × (m ≡ fail q) → PublishDone m w old kept image said said'
+    → _≡_ {A = List ℕ × List ℕ × List ℕ} (kept, image, said') (old .kept, old .image, said)
+publish-left m old (q, e) d = let a = rw (e) at (d .kept) in let b = rw (e) at (d .image) in let c = rw (e) at (d .said) in rw (a, b, c)
+
+publish-keeps : PublishKeeps
+publish-keeps k a n x p z = publish-left _ _ (refusal p z _ (p .done .why)) (p .done)
+
 pub refusals-keep-in-c : RefusalsKeepInC
 refusals-keep-in-c = record {
   read-header = λ k a n x p z. header-left _ (refusal p z _ (p .done .why)) (p .done);
@@ -97,5 +156,7 @@ refusals-keep-in-c = record {
         room = read-left (a .0 .now) (a .1 .0) (l .0) (l .1) (l .2) r (p .done);
         short = read-short (a .0 .now) (a .1 .0) (l .0) (l .1) (l .2) (p .done);
       };
+  stage = stage-keeps;
+  publish = publish-keeps;
   stored = λ k a n x p z. stored-left _ (refusal p z _ (p .done .why)) (p .done);
 }

@@ -34,16 +34,18 @@ use Rattle.lerc_image.specs.Walk.{Walk, walkSays, walkSaid, walkCount, walkList
 use Rattle.lerc_image.specs.Fill.{fillSays, fillSaid, fillCount, fillImage}
 use Rattle.lerc.specs.declared.ReadAnswer.{ReadAnswer}
 use Rattle.lerc.specs.Meaning.{Meaning, startsOf, endOf}
-use Rattle.lerc.specs.Read.{Lent, readSays, Masked, masked, readAfter, readCount, readSaid}
-use Rattle.lerc_c.specs.Records.{whyOf, headerRoom, headerNumbers, rangesRoom, rangesNumbers}
-use Rattle.lerc_c.specs.Entries.{placing, headerEntry, prepareEntry, maskNumbers, rangesEntry, Walking, walkNumbers, walkEntry, Filling, fillNumbers, fillPaints, fillEntry, readRoom, readNumbers, readEntry, maskedEntry, storedEntry}
-use Rattle.lerc_c.proofs.Numbers.{Numbered, header-numbered, prepare-numbered, ranges-numbered, walk-numbered, fill-numbered, read-numbered, stored-numbered, zero-accepts}
+use Rattle.lerc.specs.declared.StageAnswer.{StageAnswer}
+use Rattle.lerc.specs.Read.{Lent, readSays, Masked, masked, published, readAfter, readCount, readSaid}
+use Rattle.lerc.specs.Stage.{stagedOf, stagedSpare, stagedList, bodyTold, publishSays}
+use Rattle.lerc_c.specs.Records.{whyOf, headerRoom, headerNumbers, rangesRoom, rangesNumbers, stagedRoom, stagedNumbers}
+use Rattle.lerc_c.specs.Entries.{placing, headerEntry, prepareEntry, maskNumbers, rangesEntry, Walking, walkNumbers, walkEntry, Filling, fillNumbers, fillPaints, fillEntry, readRoom, readNumbers, readEntry, maskedEntry, stageEntry, stagedMaskEntry, publishEntry, toldNumbers, publishNumbers, storedEntry}
+use Rattle.lerc_c.proofs.Numbers.{Numbered, header-numbered, prepare-numbered, ranges-numbered, walk-numbered, fill-numbered, read-numbered, stage-numbered, publish-numbered, stored-numbered, zero-accepts}
 use Rattle.lerc_theorems.specs.Calls.{HeaderCall, PrepareCall, RangesCall, WalkCall, FillCall, ReadCall}
 use Rattle.lerc_theorems.proofs.Calls.{header-call, prepare-call, ranges-call, walk-call, fill-call, read-call}
 use Rattle.lerc_theorems.proofs.Demands.{fail-is, not-refused}
-use Rattle.lerc_c_theorems.specs.Calls.{HoldsHeader, HoldsRanges, Told, HasPlace, HeaderInC, PrepareInC, RangesInC, WalkInC, FillInC, ReadInC, StoredInC, StoredCall}
-use Rattle.lerc_c_theorems.specs.SameReader.{Tells, partNumbers, rangesTold, walkedNumbers, wholeNumbers, alone, SameReader}
-use Rattle.lerc_c_theorems.proofs.Calls.{Entered, header-done, prepare-done, ranges-done, walk-done, fill-done, read-done, stored-done, stored-call}
+use Rattle.lerc_c_theorems.specs.Calls.{HoldsHeader, HoldsRanges, HoldsStaged, Told, HasPlace, HeaderInC, PrepareInC, RangesInC, WalkInC, FillInC, ReadInC, StoredInC, StoredCall}
+use Rattle.lerc_c_theorems.specs.SameReader.{Tells, partNumbers, rangesTold, walkedNumbers, wholeNumbers, alone, SameStage, SamePublish, SameReader}
+use Rattle.lerc_c_theorems.proofs.Calls.{Entered, header-done, prepare-done, ranges-done, walk-done, fill-done, read-done, stage-done, publish-done, stage-call, publish-call, stored-done, stored-call}
 
 -- ---- an entry, and the answer that it numbers-tell
 
@@ -124,13 +126,27 @@ unfolding storedEntry
 stored-reads kind v said l = rw (le-leb 1 (length said) l)
 
 module _ (b : List ℕ) (reuse : Bool) (l : Lent) (said : List ℕ) (long : readRoom ≤ length said) where
-  read-reads : readEntry b reuse l said ≡ readSays b reuse l
+  pub read-reads : readEntry b reuse l said ≡ readSays b reuse l
   unfolding readEntry
   read-reads = rw (le-leb readRoom (length said) long)
 
-  masked-reads : maskedEntry b reuse l said ≡ masked b reuse l
+  pub masked-reads : maskedEntry b reuse l said ≡ masked b reuse l
   unfolding maskedEntry
   masked-reads = rw (le-leb readRoom (length said) long)
+
+module _ (b : List ℕ) (reuse : Bool) (l : Lent) (staged : List ℕ) (long : stagedRoom ≤ length staged) where
+  pub stage-reads : stageEntry b reuse l staged ≡ readSays b reuse l
+  unfolding stageEntry
+  stage-reads = rw (le-leb stagedRoom (length staged) long)
+
+  staged-mask-reads : stagedMaskEntry b reuse l staged ≡ masked b reuse l
+  unfolding stagedMaskEntry
+  staged-mask-reads = rw (le-leb stagedRoom (length staged) long)
+
+pub publish-reads : (b : List ℕ) (reuse : Bool) {staged : List ℕ} {given : StageAnswer} (l : Lent) (said : List ℕ) → HoldsStaged staged given → 2 ≤ length said
+    → publishEntry b reuse staged l said ≡ publishSays b reuse given l
+unfolding publishEntry
+publish-reads b reuse l said p n = rw (le-leb _ _ (p .long), le-leb 2 (length said) n, p .is)
 
 -- ---- the reader's answers, as the entries tell them
 
@@ -242,6 +258,31 @@ read-same b reuse t old new said₀ said₁ c i l answer left d =
       p .done .lent ∙ ap (λ (y : Res Meaning). readAfter y (placing (t .place₀) (maskedEntry b reuse old said₀)) old) e ∙ ap (λ (y : Res Masked). readAfter (readSays b reuse old) y old) k ∙ sym (read-call d .lent),
     )
 
+stage-same : SameStage
+stage-same b reuse t old spare₁ list₁ staged₀ staged₁ c i l answer spare list d =
+    let p = stage-done c in
+    let m = stageEntry b reuse old staged₀ in
+    let e = placed-entry (t .place₀) m i ∙ stage-reads b reuse old staged₀ l in
+    let k = placed-entry (t .place₀) (stagedMaskEntry b reuse old staged₀) i ∙ staged-mask-reads b reuse old staged₀ l in (
+      numbers-tell (λ m. stagedNumbers (stagedOf m)) (λ m. ok (stagedOf m)) stagedNumbers (λ m. record { answer = stagedOf m; is = refl; same = refl })
+          (placing (t .place₀) m) (placing-numbered (t .place₀) (stage-numbered b reuse old staged₀))
+          (stage-call d .says ∙ ap (λ (y : Res Meaning). y >>= λ m. ok (stagedOf m)) (sym e)) p (p .done .why) (p .done .staged),
+      p .done .spare ∙ ap (λ (y : Res Masked). stagedSpare y (old .spare)) k ∙ sym (stage-call d .spare),
+      p .done .list ∙ ap (λ (y : Res Meaning). stagedList y (old .list)) e ∙ sym (stage-call d .list),
+    )
+
+publish-same : SamePublish
+publish-same b reuse staged t old kept₁ image₁ said₀ said₁ c given g i l answer kept image d =
+    let p = publish-done c in
+    let m = publishEntry b reuse staged old said₀ in
+    let e = placed-entry (t .place₀) m i ∙ publish-reads b reuse old said₀ g l in (
+      numbers-tell publishNumbers (λ m. ok (bodyTold (m .header) (m .body))) toldNumbers (λ m. record { answer = bodyTold (m .header) (m .body); is = refl; same = refl })
+          (placing (t .place₀) m) (placing-numbered (t .place₀) (publish-numbered b reuse staged old said₀))
+          (publish-call d .says ∙ ap (λ (y : Res Meaning). y >>= λ m. ok (bodyTold (m .header) (m .body))) (sym e)) p (p .done .why) (p .done .said),
+      p .done .kept ∙ ap (λ (y : Res Meaning). after y (old .kept) (λ m. published m old .kept)) e ∙ sym (publish-call d .kept),
+      p .done .image ∙ ap (λ (y : Res Meaning). after y (old .image) (λ m. published m old .image)) e ∙ sym (publish-call d .image),
+    )
+
 stored-same : (v kind : ℕ) (t : Told) (said₀ said₁ : List ℕ) → StoredInC v kind t said₀ said₁ → HasPlace t → 1 ≤ length said₀
     → (answer : StoredAnswer) → StoredCall v kind answer → Tells (storedSaid answer) alone t said₀ said₁
 stored-same v kind t said₀ said₁ c i l answer d =
@@ -258,6 +299,8 @@ same-reader = record {
   walk = walk-same;
   fill = fill-same;
   read = read-same;
+  stage = stage-same;
+  publish = publish-same;
   stored = stored-same;
   float-ready = λ k j a r q x y p s. p ∙ sym s;
   sum = λ k j a r q x y p s. p ∙ sym s;

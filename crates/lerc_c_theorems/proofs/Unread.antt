@@ -13,12 +13,13 @@ use Rattle.lerc_ranges.specs.Ranges.{readRangesSays}
 use Rattle.lerc_image.specs.Walk.{walkSays}
 use Rattle.lerc_image.specs.Fill.{fillSays}
 use Rattle.lerc.specs.Read.{Lent}
+use Rattle.lerc.specs.Stage.{publishSays}
 use Rattle.lerc_c.specs.Records.{headerAt, fieldsFit, headerFrom, rangesFrom}
-use Rattle.lerc_c.specs.Entries.{placing, headerEntry, prepareEntry, rangesEntry, Walking, walkEntry, Filling, fillEntry, readEntry, maskedEntry}
+use Rattle.lerc_c.specs.Entries.{placing, headerEntry, prepareEntry, rangesEntry, Walking, walkEntry, Filling, fillEntry, readEntry, maskedEntry, stageEntry, stagedMaskEntry, publishEntry}
 use Rattle.lerc_theorems.specs.Unread.{SameDeclared, SameBelow}
 use Rattle.lerc_theorems.proofs.Unread.{header-as, masked-as, read-as, prepare-as, ranges-as, walk-as, fill-as}
-use Rattle.lerc_c_theorems.specs.Unread.{UnreadInC}
-use Rattle.lerc_c_theorems.proofs.Calls.{header-done, prepare-done, ranges-done, walk-done, fill-done, read-done, told-same, header-alike, prepare-alike, ranges-alike, walk-alike, fill-alike, read-alike}
+use Rattle.lerc_c_theorems.specs.Unread.{StageUnread, PublishUnread, UnreadInC}
+use Rattle.lerc_c_theorems.proofs.Calls.{header-done, prepare-done, ranges-done, walk-done, fill-done, read-done, stage-done, publish-done, told-same, header-alike, prepare-alike, ranges-alike, walk-alike, fill-alike, read-alike, stage-alike, publish-alike}
 
 -- ---- behind the size that the blob declares
 
@@ -34,6 +35,18 @@ module _ (b c : List ℕ) (same : SameDeclared b c) where
   masked-entry : (reuse : Bool) (l : Lent) (said : List ℕ) → maskedEntry b reuse l said ≡ maskedEntry c reuse l said
   unfolding maskedEntry
   masked-entry reuse l said = rw (masked-as b c same reuse l)
+
+  stage-entry : (reuse : Bool) (l : Lent) (staged : List ℕ) → stageEntry b reuse l staged ≡ stageEntry c reuse l staged
+  unfolding stageEntry
+  stage-entry reuse l staged = rw (read-as b c same reuse l)
+
+  staged-mask-entry : (reuse : Bool) (l : Lent) (staged : List ℕ) → stagedMaskEntry b reuse l staged ≡ stagedMaskEntry c reuse l staged
+  unfolding stagedMaskEntry
+  staged-mask-entry reuse l staged = rw (masked-as b c same reuse l)
+
+  publish-entry : (reuse : Bool) (staged : List ℕ) (l : Lent) (said : List ℕ) → publishEntry b reuse staged l said ≡ publishEntry c reuse staged l said
+  unfolding publishEntry publishSays
+  publish-entry reuse staged l said = rw (read-as b c same reuse l)
 
 -- ---- behind the size that the header's record holds
 
@@ -81,6 +94,20 @@ module _ (b c header : List ℕ) where
 placed-same : {A : Type 0} {m k : Res A} {place other : List ℕ} → place ≡ other → m ≡ k → placing place m ≡ placing other k
 placed-same i e = rw (i, e)
 
+stage-unread : StageUnread
+stage-unread b c reuse t u lent₀ spare₁ spare₂ list₁ list₂ staged₀ staged₁ staged₂ i s p q =
+    let d = stage-done p in
+    let e = stage-done q in
+    let (w, v, y, z) = stage-alike (placed-same i (stage-entry b c s reuse lent₀ staged₀)) (placed-same i (staged-mask-entry b c s reuse lent₀ staged₀)) (d .done) (e .done) in
+    (told-same i d e w, v, y, z)
+
+publish-unread : PublishUnread
+publish-unread b c reuse staged t u lent₀ said₀ said₁ said₂ kept₁ kept₂ image₁ image₂ i s p q =
+    let d = publish-done p in
+    let e = publish-done q in
+    let (w, v, y, z) = publish-alike (placed-same i (publish-entry b c s reuse staged lent₀ said₀)) (d .done) (e .done) in
+    (told-same i d e w, v, y, z)
+
 pub unread-in-c : UnreadInC
 unread-in-c = record {
   read-header = λ b c t u header₀ header₁ header₂ i s p q.
@@ -93,6 +120,8 @@ unread-in-c = record {
       let e = read-done q in
       let (w, v, y) = read-alike (placed-same i (read-entry b c s reuse lent₀ said₀)) (placed-same i (masked-entry b c s reuse lent₀ said₀)) (d .done) (e .done) in
       (told-same i d e w, v, y);
+  stage = stage-unread;
+  publish = publish-unread;
   prepare-mask = λ b c header reuse kept t u spare₀ spare₁ spare₂ said₀ said₁ said₂ i s p q.
       let d = prepare-done p in
       let e = prepare-done q in

@@ -12,17 +12,23 @@ use Rattle.lerc_samples.specs.declared.StoredAnswer.{StoredAnswer}
 use Rattle.lerc_samples.proofs.stored.Reads as stored-value
 use Rattle.lerc_header.specs.declared.Header.{Header}
 use Rattle.lerc_ranges.specs.declared.Ranges.{Ranges}
+use Rattle.lerc.specs.declared.StageAnswer.{StageAnswer}
+use Rattle.lerc.specs.declared.PublishAnswer.{PublishAnswer}
 use Rattle.lerc.specs.Read.{Lent}
-use Rattle.lerc_c.specs.Records.{headerRoom, headerFrom, rangesRoom, rangesFrom}
+use Rattle.lerc.proofs.stage.Reads as staging
+use Rattle.lerc.proofs.publish.Reads as publishing
+use Rattle.lerc_c.specs.Records.{headerRoom, headerFrom, rangesRoom, rangesFrom, stagedRoom, stagedFrom}
 use Rattle.lerc_c.proofs.lerc2_read_header.Reads as read-header
 use Rattle.lerc_c.proofs.lerc2_prepare_mask.Reads as prepare-mask
 use Rattle.lerc_c.proofs.lerc2_read_ranges.Reads as read-ranges
 use Rattle.lerc_c.proofs.lerc2_walk.Reads as walk
 use Rattle.lerc_c.proofs.lerc2_fill.Reads as fill
 use Rattle.lerc_c.proofs.lerc2_read.Reads as read
+use Rattle.lerc_c.proofs.lerc2_stage.Reads as stage
+use Rattle.lerc_c.proofs.lerc2_publish.Reads as publish
 use Rattle.lerc_c.proofs.lerc2_stored.Reads as stored
 use Rattle.lerc_theorems.specs.Calls.{Call}
-use Rattle.lerc_c_theorems.specs.Promises.{c-lent}
+use Rattle.lerc_c_theorems.specs.Promises.{c-lent, c-staged, c-given, c-published}
 
 -- ---- records that are lent
 
@@ -35,6 +41,11 @@ pub record HoldsHeader (header : List ℕ) (h : Header) : Type 0 where
 pub record HoldsRanges (ranges : List ℕ) (r : Ranges) : Type 0 where
   pub long : rangesRoom ≤ length ranges
   pub is : rangesFrom ranges ≡ ok r
+
+-- long enough for an answer of staging: it stands for the answer a
+pub record HoldsStaged (staged : List ℕ) (a : StageAnswer) : Type 0 where
+  pub long : stagedRoom ≤ length staged
+  pub is : stagedFrom staged ≡ a
 
 -- ---- calls
 
@@ -90,6 +101,33 @@ abbrev pub ReadInC : List ℕ → Bool → Told → Lent → Lent → List ℕ �
 ReadInC b reuse t old new said₀ said₁ =
     Call {S = List ℕ × Bool × Lent × List ℕ × List ℕ} {T = Lent × List ℕ × List ℕ} read.Post (λ a. (a .0 .now, a .1 .0, c-lent a .0, c-lent a .1, c-lent a .2)) (λ r. r) c-lent
     (b, reuse, old, said₀, t .place₀) (t .number) (new, said₁, t .place₁)
+
+-- blob, reuse; what is told; what is lent; spare and list afterwards, and the record of the answer
+abbrev pub StageInC : List ℕ → Bool → Told → Lent → List ℕ → List ℕ → List ℕ → List ℕ → Type 0
+StageInC b reuse t old spare₁ list₁ staged₀ staged₁ =
+    Call {S = List ℕ × Bool × Lent × List ℕ × List ℕ} {T = List ℕ × List ℕ × List ℕ × List ℕ} stage.Post (λ a. (a .0 .now, a .1 .0, c-lent a .0, c-lent a .1, c-lent a .2)) (λ r. r) c-staged
+    (b, reuse, old, staged₀, t .place₀) (t .number) (spare₁, list₁, staged₁, t .place₁)
+
+-- blob, reuse, the record of an answer; what is told; what is lent; kept mask and image afterwards, and what is said
+abbrev pub PublishInC : List ℕ → Bool → List ℕ → Told → Lent → List ℕ → List ℕ → List ℕ → List ℕ → Type 0
+PublishInC b reuse staged t old kept₁ image₁ said₀ said₁ =
+    Call {S = List ℕ × Bool × List ℕ × Lent × List ℕ × List ℕ} {T = List ℕ × List ℕ × List ℕ × List ℕ} publish.Post
+    (λ a. (a .0 .now, a .1 .0, c-given a .0, c-given a .1, c-given a .2, c-given a .3)) (λ r. r) c-published
+    (b, reuse, staged, old, said₀, t .place₀) (t .number) (kept₁, image₁, said₁, t .place₁)
+
+-- the reader's own: blob, reuse; the answer; what is lent; spare and list afterwards
+abbrev pub StageCall : List ℕ → Bool → StageAnswer → Lent → List ℕ → List ℕ → Type 0
+StageCall b reuse said old spare list =
+    Call {S = List ℕ × Bool × Lent} {T = List ℕ × List ℕ} staging.Post
+    (λ a. (a .0 .now, a .1 .0, record { kept = a .1 .1 .0 .now; spare = a .1 .1 .1 .0 .now; list = a .1 .1 .1 .1 .0 .now; image = a .1 .1 .1 .1 .1 .0 .now })) (λ r. r)
+    (λ o. (o .1 .1 .1 .0 .now, o .1 .1 .1 .1 .0 .now)) (b, reuse, old) said (spare, list)
+
+-- blob, reuse, the answer given; the answer; what is lent; kept mask and image afterwards
+abbrev pub PublishCall : List ℕ → Bool → StageAnswer → PublishAnswer → Lent → List ℕ → List ℕ → Type 0
+PublishCall b reuse given said old kept image =
+    Call {S = List ℕ × Bool × StageAnswer × Lent} {T = List ℕ × List ℕ} publishing.Post
+    (λ a. (a .0 .now, a .1 .0, a .1 .1 .0, record { kept = a .1 .1 .1 .0 .now; spare = a .1 .1 .1 .1 .0 .now; list = a .1 .1 .1 .1 .1 .0 .now; image = a .1 .1 .1 .1 .1 .1 .0 .now })) (λ r. r)
+    (λ o. (o .1 .1 .1 .0 .now, o .1 .1 .1 .1 .1 .1 .0 .now)) (b, reuse, given, old) said (kept, image)
 
 -- value, kind; what is told; what is said
 abbrev pub StoredInC : ℕ → ℕ → Told → List ℕ → List ℕ → Type 0

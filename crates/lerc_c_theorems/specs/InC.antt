@@ -7,6 +7,7 @@ use Rattle.lerc_c_theorems.specs.Numbers.{NumbersExactlyInC, PlacesExact
 use Rattle.lerc_c_theorems.specs.DemandTwo.{DemandTwoInC}
 use Rattle.lerc_c_theorems.specs.DemandThree.{DemandThreeInC}
 use Rattle.lerc_c_theorems.specs.Unread.{UnreadInC}
+use Rattle.lerc_c_theorems.specs.Staged.{StagedInC}
 
 pub record DemandsInC : Type 0 where
   -- "For every input a public function's promise leaves no room": number, and every lent byte, the records and the place included
@@ -27,3 +28,5 @@ pub record DemandsInC : Type 0 where
   pub three-in-c : DemandThreeInC
   -- "Bytes after size .. are never looked at"
   pub unread-in-c : UnreadInC
+  -- staging, then publishing, is a whole read
+  pub staged-in-c : StagedInC

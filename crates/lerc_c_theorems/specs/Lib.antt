@@ -6,4 +6,5 @@ pub mod Numbers
 pub mod DemandTwo
 pub mod DemandThree
 pub mod Unread
+pub mod Staged
 pub mod InC

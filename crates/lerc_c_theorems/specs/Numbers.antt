@@ -3,14 +3,21 @@
 -- Assumes nothing.
 use mathlib.Core.Path.{_≡_}
 use mathlib.Core.Logic.{_↔_, _≢_, _⊎_}
-use mathlib.Core.Bool.{true}
+use mathlib.Core.Bool.{Bool, true}
 use mathlib.Core.List.{List, [], _∷_}
 use Prim.Native.Nat.{ℕ, _^_, _≤_, _<_}
 use lib.ListN.{length, getD, set}
 use Rattle.lerc_words.specs.declared.Refusal.{Refusal}
-use Rattle.lerc_words.specs.Res.{refuse}
+use Rattle.lerc_words.specs.Res.{ok, refuse}
+use Rattle.lerc_slices.specs.Slices.{beginsWith}
+use Rattle.lerc_validity.specs.Validity.{holdsMask}
 use Rattle.lerc_image.specs.Paint.{among}
-use Rattle.lerc_c.specs.Records.{headerRoom, headerAt, rangesRoom, rangesIn}
+use Rattle.lerc.specs.declared.StageAnswer.{StageAnswer}
+use Rattle.lerc.specs.declared.StageAnswer.the-variants as stage-answer
+use Rattle.lerc.specs.Meaning.{Meaning, startsOf}
+use Rattle.lerc.specs.Read.{Lent, readSays}
+use Rattle.lerc.specs.Stage.{stagedOf}
+use Rattle.lerc_c.specs.Records.{headerRoom, headerAt, rangesRoom, rangesIn, stagedRoom, stagedFrom}
 use Rattle.lerc_c.specs.Entries.{readRoom}
 use Rattle.lerc_c.proofs.lerc2_read_header.Reads as read-header
 use Rattle.lerc_c.proofs.lerc2_prepare_mask.Reads as prepare-mask
@@ -18,11 +25,13 @@ use Rattle.lerc_c.proofs.lerc2_read_ranges.Reads as read-ranges
 use Rattle.lerc_c.proofs.lerc2_walk.Reads as walk
 use Rattle.lerc_c.proofs.lerc2_fill.Reads as fill
 use Rattle.lerc_c.proofs.lerc2_read.Reads as read
+use Rattle.lerc_c.proofs.lerc2_stage.Reads as stage
+use Rattle.lerc_c.proofs.lerc2_publish.Reads as publish
 use Rattle.lerc_c.proofs.lerc2_stored.Reads as stored
 use Rattle.lerc_theorems.specs.Numbers.{Exactly, ExactlyNumbered}
 use Rattle.lerc_theorems.specs.BlockTable.{StoredRefused}
 use Rattle.lerc_theorems.specs.Table.{HeaderRefused, PrepareRefused, ReadRangesRefused, WalkRefused, FillRefused, WholeRefused}
-use Rattle.lerc_c_theorems.specs.Promises.{c-lent}
+use Rattle.lerc_c_theorems.specs.Promises.{c-lent, c-staged, c-given, c-published}
 
 -- ---- the table
 
@@ -54,6 +63,27 @@ pub data HeaderWide (header : List ℕ) : Type 0 where
 abbrev pub MarkWide : List ℕ → Type 0
 MarkWide ranges = 2 ≤ getD ranges 1 0
 
+-- a kind of body above 3, or a mask that is neither 1 nor 2
+pub data NameWide (staged : List ℕ) : Type 0 where
+  body-wide : 4 ≤ getD staged 13 0 → NameWide staged
+  mask-none : getD staged 14 0 ≡ 0 → NameWide staged
+  mask-many : 3 ≤ getD staged 14 0 → NameWide staged
+
+-- a record stands for a refused answer exactly where a number is too wide for its field or names nothing
+abbrev pub NoAnswer : Type 0
+NoAnswer = (staged : List ℕ) → (stagedFrom staged ≡ stage-answer.Refused (refuse 0)) ↔ (HeaderWide staged ⊎ NameWide staged)
+
+-- staging gave this answer for this meaning, and left this spare and this list
+pub record AsStaged (m : Meaning) (given : StageAnswer) (l : Lent) : Type 0 where
+  pub answer : given ≡ stage-answer.Staged (stagedOf m)
+  pub spare : holdsMask (m .mask) (l .spare) ≡ true
+  pub list : beginsWith (startsOf (m .body)) (l .list) ≡ true
+
+-- what a whole read refuses, then an answer, a spare or a list that staging did not give (3)
+pub data PublishRefused (b : List ℕ) (reuse : Bool) (given : StageAnswer) (l : Lent) : Refusal → Type 0 where
+  publish-read : {why : Refusal} → WholeRefused b reuse l why → PublishRefused b reuse given l why
+  publish-given : (m : Meaning) → readSays b reuse l ≡ ok m → (AsStaged m given l → ⊥) → PublishRefused b reuse given l (refuse 3)
+
 -- ---- each number and each place of each entry, exactly
 
 -- what a call told is this refusal: its number is returned, and its place is the first number of the slice
@@ -68,6 +98,19 @@ pub record PromisedInC {K A O : Type 0} (Agree : (Refusal → Type 0) → (Refus
   pub other : (k : K) (a : A) (n : ℕ) (x : O) → Post k a n x → Agree (ToldInC n (left x)) (When a)
   -- the place is written in every outcome, 0 with 0, and nothing behind it
   pub written : (k : K) (a : A) (n : ℕ) (x : O) → Post k a n x → (left x ≡ set (place a) 0 (getD (left x) 0 0)) × (n ≡ 0 → getD (left x) 0 0 ≡ 0)
+
+abbrev pub StageNumbers : ((Refusal → Type 0) → (Refusal → Type 0) → Type 0) → Type 0
+StageNumbers Agree = PromisedInC Agree stage.Post (λ a. c-lent a .2) (λ o. c-staged o .3) (λ a. EntryRefused
+    (Shorter (c-lent a .2) 1 ⊎ Shorter (c-lent a .1) stagedRoom)
+    NothingWide
+    (WholeRefused (a .0 .now) (a .1 .0) (c-lent a .0)))
+
+-- numbers that its record's fields cannot hold make it no answer, which is 3 after all that the blob itself earns
+abbrev pub PublishNumbers : ((Refusal → Type 0) → (Refusal → Type 0) → Type 0) → Type 0
+PublishNumbers Agree = PromisedInC Agree publish.Post (λ a. c-given a .3) (λ o. c-published o .3) (λ a. EntryRefused
+    (Shorter (c-given a .3) 1 ⊎ (Shorter (c-given a .0) stagedRoom ⊎ Shorter (c-given a .2) 2))
+    NothingWide
+    (PublishRefused (a .0 .now) (a .1 .0) (stagedFrom (c-given a .0)) (c-given a .1)))
 
 -- each entry that refuses: its promise, the slice of its place, and its lines of the table
 pub record EachEntry (Agree : (Refusal → Type 0) → (Refusal → Type 0) → Type 0) : Type 0 where
@@ -95,6 +138,8 @@ pub record EachEntry (Agree : (Refusal → Type 0) → (Refusal → Type 0) → 
       (Shorter (c-lent a .2) 1 ⊎ Shorter (c-lent a .1) readRoom)
       NothingWide
       (WholeRefused (a .0 .now) (a .1 .0) (c-lent a .0)))
+  pub stage : StageNumbers Agree
+  pub publish : PublishNumbers Agree
   pub stored : PromisedInC Agree stored.Post (λ a. a .1 .1 .1 .0 .now) (λ o. o .1 .1 .1 .0 .now) (λ a. EntryRefused
       (Shorter (a .1 .1 .1 .0 .now) 1 ⊎ Shorter (a .1 .1 .0 .now) 1)
       NothingWide
@@ -113,6 +158,12 @@ PlacesExactlyInC = EachEntry Exactly
 abbrev pub OnlyInC : {K A O : Type 0} → (K → A → ℕ → O → Type 0) → List ℕ → Type 0
 OnlyInC {K} {A} {O} Post numbers = (k : K) (a : A) (n : ℕ) (x : O) → Post k a n x → among numbers n ≡ true
 
+abbrev pub StageOnly : Type 0
+StageOnly = OnlyInC stage.Post (0 ∷ 1 ∷ 2 ∷ 3 ∷ 4 ∷ 5 ∷ 6 ∷ 7 ∷ 8 ∷ 9 ∷ 10 ∷ 13 ∷ [])
+
+abbrev pub PublishOnly : Type 0
+PublishOnly = OnlyInC publish.Post (0 ∷ 1 ∷ 2 ∷ 3 ∷ 4 ∷ 5 ∷ 6 ∷ 7 ∷ 8 ∷ 9 ∷ 10 ∷ 13 ∷ [])
+
 pub record NumbersOnlyInC : Type 0 where
   pub read-header : OnlyInC read-header.Post (0 ∷ 1 ∷ 2 ∷ 3 ∷ 4 ∷ 5 ∷ 13 ∷ [])
   pub prepare-mask : OnlyInC prepare-mask.Post (0 ∷ 1 ∷ 3 ∷ 4 ∷ 5 ∷ 6 ∷ [])
@@ -120,4 +171,6 @@ pub record NumbersOnlyInC : Type 0 where
   pub walk : OnlyInC walk.Post (0 ∷ 1 ∷ 3 ∷ 4 ∷ 5 ∷ 7 ∷ 8 ∷ 9 ∷ 10 ∷ [])
   pub fill : OnlyInC fill.Post (0 ∷ 1 ∷ 3 ∷ 4 ∷ 5 ∷ 7 ∷ 8 ∷ 9 ∷ 11 ∷ [])
   pub read : OnlyInC read.Post (0 ∷ 1 ∷ 2 ∷ 3 ∷ 4 ∷ 5 ∷ 6 ∷ 7 ∷ 8 ∷ 9 ∷ 10 ∷ 13 ∷ [])
+  pub stage : StageOnly
+  pub publish : PublishOnly
   pub stored : OnlyInC stored.Post (0 ∷ 5 ∷ 9 ∷ [])

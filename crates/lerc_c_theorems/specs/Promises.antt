@@ -12,6 +12,8 @@ use Rattle.lerc_c.proofs.lerc2_read_ranges.Reads as c-read-ranges
 use Rattle.lerc_c.proofs.lerc2_walk.Reads as c-walk
 use Rattle.lerc_c.proofs.lerc2_fill.Reads as c-fill
 use Rattle.lerc_c.proofs.lerc2_read.Reads as c-read
+use Rattle.lerc_c.proofs.lerc2_stage.Reads as c-stage
+use Rattle.lerc_c.proofs.lerc2_publish.Reads as c-publish
 use Rattle.lerc_c.proofs.lerc2_float_ready.Reads as c-ready
 use Rattle.lerc_c.proofs.lerc2_sum.Reads as c-sum
 use Rattle.lerc_c.proofs.lerc2_scaled.Reads as c-scaled
@@ -21,12 +23,33 @@ use Rattle.lerc_c.proofs.lerc2_checksum.Reads as c-checksum
 use Rattle.lerc_c.proofs.lerc2_stored.Reads as c-stored
 use Rattle.lerc_theorems.specs.Promises.{Answers, Writes}
 
--- the slices that the C interface's whole read is lent, those of what it says and of the place among them
+-- the slices that the C interface's whole read is lent, those of what it says and of the place among them; staging is lent the same
 abbrev pub CRead : Type 0
 CRead = RefT (List ℕ) × (Bool × (RefT (List ℕ) × (RefT (List ℕ) × (RefT (List ℕ) × (RefT (List ℕ) × (RefT (List ℕ) × (RefT (List ℕ) × Unit {0})))))))
 
 abbrev pub c-lent : CRead → Lent × List ℕ × List ℕ
 c-lent a = (record { kept = a .1 .1 .0 .now; spare = a .1 .1 .1 .0 .now; list = a .1 .1 .1 .1 .0 .now; image = a .1 .1 .1 .1 .1 .0 .now }, a .1 .1 .1 .1 .1 .1 .0 .now, a .1 .1 .1 .1 .1 .1 .1 .0 .now)
+
+-- what staging writes: spare, list, the record of its answer, the place
+abbrev pub c-staged : CRead → List ℕ × List ℕ × List ℕ × List ℕ
+c-staged o = (o .1 .1 .1 .0 .now, o .1 .1 .1 .1 .0 .now, o .1 .1 .1 .1 .1 .1 .0 .now, o .1 .1 .1 .1 .1 .1 .1 .0 .now)
+
+-- the slices that publishing is lent: the record of an answer before the four, then what it says and the place
+abbrev pub CPublish : Type 0
+CPublish = RefT (List ℕ) × (Bool × (RefT (List ℕ) × (RefT (List ℕ) × (RefT (List ℕ) × (RefT (List ℕ) × (RefT (List ℕ) × (RefT (List ℕ) × (RefT (List ℕ) × Unit {0}))))))))
+
+abbrev pub c-given : CPublish → List ℕ × Lent × List ℕ × List ℕ
+c-given a = (a .1 .1 .0 .now, record { kept = a .1 .1 .1 .0 .now; spare = a .1 .1 .1 .1 .0 .now; list = a .1 .1 .1 .1 .1 .0 .now; image = a .1 .1 .1 .1 .1 .1 .0 .now }, a .1 .1 .1 .1 .1 .1 .1 .0 .now, a .1 .1 .1 .1 .1 .1 .1 .1 .0 .now)
+
+-- what it writes: kept mask, image, what it says, the place
+abbrev pub c-published : CPublish → List ℕ × List ℕ × List ℕ × List ℕ
+c-published o = (c-given o .1 .kept, c-given o .1 .image, c-given o .2, c-given o .3)
+
+abbrev pub StageFixed : Type 0
+StageFixed = Writes c-stage.Pre c-stage.Post c-staged
+
+abbrev pub PublishFixed : Type 0
+PublishFixed = Writes c-publish.Pre c-publish.Post c-published
 
 -- the entries of the C interface; the last slice of each that can refuse is that of the place
 pub record NoRoomInC : Type 0 where
@@ -36,6 +59,8 @@ pub record NoRoomInC : Type 0 where
   pub walk : Writes {S = List ℕ × List ℕ × List ℕ} c-walk.Pre c-walk.Post (λ o. (o .1 .1 .1 .1 .0 .now, o .1 .1 .1 .1 .1 .0 .now, o .1 .1 .1 .1 .1 .1 .0 .now))
   pub fill : Writes {S = List ℕ × List ℕ × List ℕ} c-fill.Pre c-fill.Post (λ o. (o .1 .1 .1 .1 .1 .1 .0 .now, o .1 .1 .1 .1 .1 .1 .1 .0 .now, o .1 .1 .1 .1 .1 .1 .1 .1 .0 .now))
   pub read : Writes c-read.Pre c-read.Post c-lent
+  pub stage : StageFixed
+  pub publish : PublishFixed
   pub float-ready : Answers c-ready.Pre c-ready.Post
   pub sum : Answers c-sum.Pre c-sum.Post
   pub scaled : Answers c-scaled.Pre c-scaled.Post

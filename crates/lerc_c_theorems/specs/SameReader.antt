@@ -32,9 +32,12 @@ use Rattle.lerc_image.specs.declared.FillAnswer.{FillAnswer}
 use Rattle.lerc_image.specs.Walk.{Walk, walkSaid}
 use Rattle.lerc_image.specs.Fill.{fillSaid}
 use Rattle.lerc.specs.declared.ReadAnswer.{ReadAnswer}
+use Rattle.lerc.specs.declared.StageAnswer.{StageAnswer}
+use Rattle.lerc.specs.declared.PublishAnswer.{PublishAnswer}
 use Rattle.lerc.specs.Read.{Lent, ReadTold, readSaid}
-use Rattle.lerc_c.specs.Records.{whyOf, headerRoom, headerNumbers, rangesRoom, rangesNumbers}
-use Rattle.lerc_c.specs.Entries.{readRoom}
+use Rattle.lerc.specs.Stage.{stageSaid, publishSaid}
+use Rattle.lerc_c.specs.Records.{whyOf, headerRoom, headerNumbers, rangesRoom, rangesNumbers, stagedRoom, stagedNumbers}
+use Rattle.lerc_c.specs.Entries.{readRoom, toldNumbers}
 use Rattle.lerc_c.proofs.lerc2_checksum.Reads as c-checksum
 use Rattle.lerc_c.proofs.lerc2_float_ready.Reads as c-ready
 use Rattle.lerc_c.proofs.lerc2_sum.Reads as c-sum
@@ -42,7 +45,7 @@ use Rattle.lerc_c.proofs.lerc2_scaled.Reads as c-scaled
 use Rattle.lerc_c.proofs.lerc2_narrow.Reads as c-narrow
 use Rattle.lerc_c.proofs.lerc2_number.Reads as c-number
 use Rattle.lerc_theorems.specs.Calls.{HeaderCall, PrepareCall, RangesCall, WalkCall, FillCall, ReadCall}
-use Rattle.lerc_c_theorems.specs.Calls.{HoldsHeader, HoldsRanges, Told, HasPlace, HeaderInC, PrepareInC, RangesInC, WalkInC, FillInC, ReadInC, StoredInC, StoredCall}
+use Rattle.lerc_c_theorems.specs.Calls.{HoldsHeader, HoldsRanges, HoldsStaged, Told, HasPlace, HeaderInC, PrepareInC, RangesInC, WalkInC, FillInC, ReadInC, StageInC, PublishInC, StageCall, PublishCall, StoredInC, StoredCall}
 
 -- What is told, and the record in which an entry says what was answered: `old` before, `new` afterwards. `numbers` are those of an accepted answer.
 pub record Tells {A : Type 0} (answer : Res A) (numbers : A → List ℕ) (t : Told) (old new : List ℕ) : Type 0 where
@@ -87,6 +90,19 @@ alone w = w ∷ []
 abbrev pub SameAnswer : {K J A R O P : Type 0} → (K → A → R → O → Type 0) → (J → A → R → P → Type 0) → Type 0
 SameAnswer {K} {J} {A} {R} {O} {P} Post Other = (k : K) (j : J) (a : A) (r q : R) (x : O) (y : P) → Post k a r x → Other j a q y → r ≡ q
 
+-- ---- staging and publishing
+
+-- with room for its record, staging is `lerc::stage`
+abbrev pub SameStage : Type 0
+SameStage = (b : List ℕ) (reuse : Bool) (t : Told) (old : Lent) (spare₁ list₁ staged₀ staged₁ : List ℕ) → StageInC b reuse t old spare₁ list₁ staged₀ staged₁ → HasPlace t → stagedRoom ≤ length staged₀
+    → (answer : StageAnswer) (spare list : List ℕ) → StageCall b reuse answer old spare list → Tells (stageSaid answer) stagedNumbers t staged₀ staged₁ × (spare₁ ≡ spare) × (list₁ ≡ list)
+
+-- publishing is `lerc::publish` with the answer that the record stands for
+abbrev pub SamePublish : Type 0
+SamePublish = (b : List ℕ) (reuse : Bool) (staged : List ℕ) (t : Told) (old : Lent) (kept₁ image₁ said₀ said₁ : List ℕ) → PublishInC b reuse staged t old kept₁ image₁ said₀ said₁
+    → (given : StageAnswer) → HoldsStaged staged given → HasPlace t → 2 ≤ length said₀
+    → (answer : PublishAnswer) (kept image : List ℕ) → PublishCall b reuse given answer old kept image → Tells (publishSaid answer) toldNumbers t said₀ said₁ × (kept₁ ≡ kept) × (image₁ ≡ image)
+
 -- ---- entry by entry
 
 pub record SameReader : Type 0 where
@@ -106,6 +122,8 @@ pub record SameReader : Type 0 where
       → (answer : FillAnswer) (image : List ℕ) → FillCall b h r mask list block answer image₀ image → Tells (fillSaid answer) alone t said₀ said₁ × (image₁ ≡ image)
   pub read : (b : List ℕ) (reuse : Bool) (t : Told) (old new : Lent) (said₀ said₁ : List ℕ) → ReadInC b reuse t old new said₀ said₁ → HasPlace t → readRoom ≤ length said₀
       → (answer : ReadAnswer) (left : Lent) → ReadCall b reuse answer old left → Tells (readSaid answer) wholeNumbers t said₀ said₁ × (new ≡ left)
+  pub stage : SameStage
+  pub publish : SamePublish
   pub stored : (v kind : ℕ) (t : Told) (said₀ said₁ : List ℕ) → StoredInC v kind t said₀ said₁ → HasPlace t → 1 ≤ length said₀
       → (answer : StoredAnswer) → StoredCall v kind answer → Tells (storedSaid answer) alone t said₀ said₁
   -- the arithmetic, and whether a thread's float unit is ready for it

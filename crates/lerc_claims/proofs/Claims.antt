@@ -8,6 +8,7 @@ use Rattle.lerc_c_theorems.proofs.InC.{demands-in-c}
 use Rattle.lerc_overflow.proofs.Changes.{changes}
 use Rattle.lerc_places.proofs.Unplaced.{unplaced}
 use Rattle.lerc_summed.proofs.Summed.{claims as summed}
+use Rattle.lerc_staged.proofs.Staged.{claims as staged}
 use Rattle.lerc_contracts.proofs.Upstream.{upstream}
 use Rattle.lerc_program.proofs.Example.{computed}
 use Rattle.lerc_claims.specs.Claims.{Claims}
@@ -24,6 +25,7 @@ claims = record {
   changes = changes;
   unplaced = unplaced;
   summed = summed;
+  staged = staged;
   upstream = upstream;
   program = program;
   worked = cases;

@@ -10,6 +10,7 @@ use Rattle.lerc_c_theorems.specs.InC.{DemandsInC}
 use Rattle.lerc_overflow.specs.Changes.{Changes}
 use Rattle.lerc_places.specs.Unplaced.{Unplaced}
 use Rattle.lerc_summed.specs.Summed.{Summed}
+use Rattle.lerc_staged.specs.Staged.{StagedClaims}
 use Rattle.lerc_contracts.specs.Upstream.{Upstream}
 use Rattle.lerc_program.proofs.Example.{Computed}
 use Rattle.lerc_claims.specs.Arithmetic.{Arithmetic}
@@ -32,6 +33,8 @@ pub record Claims : Type 0 where
   pub unplaced : Unplaced
   -- "Refusal 13": where it is given, what it finds out, and that nothing else changed
   pub summed : Summed
+  -- "one after the other they equal the old read": stage and publish, what each refuses and leaves, and fills between them
+  pub staged : StagedClaims
   -- upstream's contracts, clause by clause
   pub upstream : Upstream
   -- the program's text

@@ -38,9 +38,13 @@ use Rattle.lerc_image.specs.Tiles.{tilesSays, tilesImage, Tiled}
 use Rattle.lerc_image.proofs.Painting.{length-painted, painted-cell}
 use Rattle.lerc_image.proofs.Upto.{valid-below}
 use Rattle.lerc_image.proofs.Chain.{chain-none, chain-parts}
+use Rattle.lerc_validity.specs.declared.MaskAnswer.{MaskAnswer}
 use Rattle.lerc.specs.declared.ReadAnswer.{ReadAnswer}
-use Rattle.lerc.specs.Meaning.{Body, missingWordAt, rawBody, constantBody, endOf, startsOf, cellWord}
-use Rattle.lerc.specs.Read.{Lent, room, masked, readSays, ReadTold, readSaid, WholeRead}
+use Rattle.lerc.specs.declared.Staged.{Staged}
+use Rattle.lerc.specs.declared.StageAnswer.{StageAnswer}
+use Rattle.lerc.specs.Meaning.{Body, missingWordAt, rawBody, constantBody, endOf, cellWord}
+use Rattle.lerc.specs.Read.{Lent, room, masked, readSays, WholeRead}
+use Rattle.lerc.specs.Stage.{stagedBody, stageSaid}
 use Rattle.lerc.specs.Parts.{Ready, bodyImage, BodyRead}
 use Rattle.lerc_numeric.specs.Numeric.{countedSum}
 use Rattle.lerc_overflow.specs.By.{allBlocksBy}
@@ -159,7 +163,7 @@ module _ (b : List ℕ) (h : Header) (mask maxima : List ℕ) (at : ℕ) (r : Wa
 -- ---- `decode_linear`
 
 -- either body
-module _ (m : Res Body) (h : Header) (mask : List ℕ) (a : ReadAnswer) (list listed old new : List ℕ) (promise : BodyRead m h mask a list listed old new) where
+module _ (m : Res Body) (h : Header) (force : MaskAnswer) (mask : List ℕ) (a : StageAnswer) (old new : List ℕ) (promise : BodyRead m h force mask a old new) where
   kept : (x : Res Body) → m ≡ x → (length new ≡ length old) × ((j : ℕ) → h .columns * h .rows * h .depth ≤ j → j < length old → getD new j 0 ≡ getD old j 0)
   kept (fail q) e = let p : new ≡ old = promise .image ∙ rw (e) in rw (p) (refl, λ j _ _. refl)
   kept (ok c) e =
@@ -167,17 +171,17 @@ module _ (m : Res Body) (h : Header) (mask : List ℕ) (a : ReadAnswer) (list li
       rw (p) (length-painted old _ _, λ j l o. past h mask old (cellWord h mask c) j l o)
 
   -- the body that was read
-  read-body : (w : ReadTold) → readSaid a ≡ ok w → (x : Res Body) → m ≡ x → (c : Body) × (m ≡ ok c) × (w .end ≡ endOf c) × (new ≡ bodyImage h mask old c)
+  read-body : (w : Staged) → stageSaid a ≡ ok w → (x : Res Body) → m ≡ x → (c : Body) × (m ≡ ok c) × (w .end ≡ endOf c) × (new ≡ bodyImage h mask old c)
   read-body w e (ok c) d =
-      let z : ok w ≡ ok (record { header = h; blocks = length (startsOf c); end = endOf c }) = sym e ∙ promise .says ∙ rw (d) in
-      (c, d, ap (λ (x : ReadTold). x .end) (ok-is z), promise .image ∙ rw (d))
-  read-body w e (fail q) d = absurd (let z : _≡_ {A = Res ReadTold} (ok w) (fail q) = sym e ∙ promise .says ∙ rw (d) in let o : _≡_ {A = ℕ} 0 1 = cc in omega arith)
+      let z : ok w ≡ ok (stagedBody h force c) = sym e ∙ promise .says ∙ rw (d) in
+      (c, d, ap (λ (x : Staged). x .end) (ok-is z), promise .image ∙ rw (d))
+  read-body w e (fail q) d = absurd (let z : _≡_ {A = Res Staged} (ok w) (fail q) = sym e ∙ promise .says ∙ rw (d) in let o : _≡_ {A = ℕ} 0 1 = cc in omega arith)
 
   module _ (t : Option ResultModel) (same : t ≡ said (bodied h mask old) m) where
-    linear-ok : accepts (readSaid a) ≡ is-some t
-    linear-ok = rw (promise .says, same) (told-some {B = ReadTold} (λ c. record { header = h; blocks = length (startsOf c); end = endOf c }) (bodied h mask old) m)
+    linear-ok : accepts (stageSaid a) ≡ is-some t
+    linear-ok = rw (promise .says, same) (told-some {B = Staged} (λ c. stagedBody h force c) (bodied h mask old) m)
 
-    linear-result : (w : ReadTold) → readSaid a ≡ ok w → t ≡ some (record { at = w .end; image = new })
+    linear-result : (w : Staged) → stageSaid a ≡ ok w → t ≡ some (record { at = w .end; image = new })
     linear-result w e =
         let (c, d, p, q) = read-body w e m refl in
         same ∙ ap (said (bodied h mask old)) d ∙ sym (result-is p q)
@@ -200,8 +204,8 @@ raw-inside s h at c e =
     (omega arith, omega arith)
 
 -- a raw body: upstream's `raw` is true, and its constants are not looked at
-module _ (s : List ℕ) (h : Header) (at : ℕ) (mask constants : List ℕ) (a : ReadAnswer) (list listed old new : List ℕ) (ready : Ready s h mask) (image : cells (shapeOf h) ≤ length old)
-    (promise : BodyRead (rawBody s h at) h mask a list listed old new) (inside : at ≤ length s) where
+module _ (s : List ℕ) (h : Header) (at : ℕ) (force : MaskAnswer) (mask constants : List ℕ) (a : StageAnswer) (old new : List ℕ) (ready : Ready s h mask) (image : cells (shapeOf h) ≤ length old)
+    (promise : BodyRead (rawBody s h at) h force mask a old new) (inside : at ≤ length s) where
   abbrev their-raw : Option ResultModel
   their-raw = theirRaw s h mask constants at old
 
@@ -210,15 +214,15 @@ module _ (s : List ℕ) (h : Header) (at : ℕ) (mask constants : List ℕ) (a :
 
   pub raw-body-clauses : RawBodyClauses s h at mask constants a old new
   raw-body-clauses = record {
-    raw-ok = linear-ok (rawBody s h at) h mask a list listed old new promise their-raw same-raw;
-    raw-result = λ w e. linear-result (rawBody s h at) h mask a list listed old new promise their-raw same-raw w e;
-    raw-end = λ w e. let (c, d, p, q) = read-body (rawBody s h at) h mask a list listed old new promise w e (rawBody s h at) refl in
+    raw-ok = linear-ok (rawBody s h at) h force mask a old new promise their-raw same-raw;
+    raw-result = λ w e. linear-result (rawBody s h at) h force mask a old new promise their-raw same-raw w e;
+    raw-end = λ w e. let (c, d, p, q) = read-body (rawBody s h at) h force mask a old new promise w e (rawBody s h at) refl in
         rw (p) (raw-inside s h at c d);
   }
 
 -- a constant body: upstream has its words from `convert` (3.34, 3.35), and always accepts
-module _ (s : List ℕ) (h : Header) (ranges : Ranges) (mask words : List ℕ) (a : ReadAnswer) (list listed old new : List ℕ) (ready : Ready s h mask) (image : cells (shapeOf h) ≤ length old)
-    (long : length (ranges .min) ≡ depthLimit) (promise : BodyRead (constantBody h ranges) h mask a list listed old new) (converted : constantWords (h .depth) (h .kind) (ranges .min) ≡ ok words) where
+module _ (s : List ℕ) (h : Header) (ranges : Ranges) (force : MaskAnswer) (mask words : List ℕ) (a : StageAnswer) (old new : List ℕ) (ready : Ready s h mask) (image : cells (shapeOf h) ≤ length old)
+    (long : length (ranges .min) ≡ depthLimit) (promise : BodyRead (constantBody h ranges) h force mask a old new) (converted : constantWords (h .depth) (h .kind) (ranges .min) ≡ ok words) where
   abbrev their-constant : Option ResultModel
   their-constant = theirConstant s h mask (over words (replicate depthLimit 0)) (ranges .at) old
 
@@ -232,10 +236,10 @@ module _ (s : List ℕ) (h : Header) (ranges : Ranges) (mask words : List ℕ) (
   pub constant-body-clauses : ConstantBodyClauses s h ranges mask words a old new
   unfolding constantBody
   constant-body-clauses = record {
-    constant-ok = linear-ok (constantBody h ranges) h mask a list listed old new promise their-constant same-constant;
-    constant-result = linear-result (constantBody h ranges) h mask a list listed old new promise their-constant same-constant;
+    constant-ok = linear-ok (constantBody h ranges) h force mask a old new promise their-constant same-constant;
+    constant-result = linear-result (constantBody h ranges) h force mask a old new promise their-constant same-constant;
     constant-end = λ w e.
-        let (c, d, p, q) = read-body (constantBody h ranges) h mask a list listed old new promise w e (constantBody h ranges) refl in
+        let (c, d, p, q) = read-body (constantBody h ranges) h force mask a old new promise w e (constantBody h ranges) refl in
         let (_, _, d) = bind-is (constantWords (h .depth) (h .kind) (ranges .min)) _ d in
         p ∙ sym (ap endOf (ok-is d));
   }

@@ -35,8 +35,12 @@ use Rattle.lerc_ranges.specs.declared.Ranges.{Ranges}
 use Rattle.lerc_ranges.specs.Ranges.{constantWords}
 use Rattle.lerc_image.specs.declared.WalkAnswer.{WalkAnswer}
 use Rattle.lerc_image.specs.Walk.{Walk, walkSaid}
+use Rattle.lerc_validity.specs.declared.MaskAnswer.{MaskAnswer}
 use Rattle.lerc.specs.declared.ReadAnswer.{ReadAnswer}
-use Rattle.lerc.specs.Read.{Lent, room, ReadTold, readSaid, WholeRead}
+use Rattle.lerc.specs.declared.Staged.{Staged}
+use Rattle.lerc.specs.declared.StageAnswer.{StageAnswer}
+use Rattle.lerc.specs.Read.{Lent, room, readSaid, WholeRead}
+use Rattle.lerc.specs.Stage.{stageSaid}
 use Rattle.lerc.specs.Parts.{Ready, BodyRead}
 
 -- `tiles`: a block, then the next position
@@ -145,22 +149,22 @@ pub record DecodeLinearClauses (h : Header) (old new : List ℕ) : Type 0 where
   pub linear-rest : (j : ℕ) → h .columns * h .rows * h .depth ≤ j → j < length old → getD new j 0 ≡ getD old j 0
 
 -- `decode_linear`, where `raw` is true; its constants are not looked at
-pub record RawBodyClauses (s : List ℕ) (h : Header) (at : ℕ) (mask constants : List ℕ) (a : ReadAnswer) (old new : List ℕ) : Type 0 where
+pub record RawBodyClauses (s : List ℕ) (h : Header) (at : ℕ) (mask constants : List ℕ) (a : StageAnswer) (old new : List ℕ) : Type 0 where
   -- 5.46
-  pub raw-ok : accepts (readSaid a) ≡ is-some (theirRaw s h mask constants at old)
+  pub raw-ok : accepts (stageSaid a) ≡ is-some (theirRaw s h mask constants at old)
   -- 5.47, 5.48
-  pub raw-result : (w : ReadTold) → readSaid a ≡ ok w → theirRaw s h mask constants at old ≡ some (record { at = w .end; image = new })
+  pub raw-result : (w : Staged) → stageSaid a ≡ ok w → theirRaw s h mask constants at old ≡ some (record { at = w .end; image = new })
   -- 5.49
-  pub raw-end : (w : ReadTold) → readSaid a ≡ ok w → (at ≤ w .end) × (w .end ≤ length s)
+  pub raw-end : (w : Staged) → stageSaid a ≡ ok w → (at ≤ w .end) × (w .end ≤ length s)
 
 -- `decode_linear`, where `raw` is false: its words are those of `convert`, and it always accepts
-pub record ConstantBodyClauses (s : List ℕ) (h : Header) (ranges : Ranges) (mask words : List ℕ) (a : ReadAnswer) (old new : List ℕ) : Type 0 where
+pub record ConstantBodyClauses (s : List ℕ) (h : Header) (ranges : Ranges) (mask words : List ℕ) (a : StageAnswer) (old new : List ℕ) : Type 0 where
   -- 5.46
-  pub constant-ok : accepts (readSaid a) ≡ is-some (theirConstant s h mask (over words (replicate depthLimit 0)) (ranges .at) old)
+  pub constant-ok : accepts (stageSaid a) ≡ is-some (theirConstant s h mask (over words (replicate depthLimit 0)) (ranges .at) old)
   -- 5.47, 5.48
-  pub constant-result : (w : ReadTold) → readSaid a ≡ ok w → theirConstant s h mask (over words (replicate depthLimit 0)) (ranges .at) old ≡ some (record { at = w .end; image = new })
+  pub constant-result : (w : Staged) → stageSaid a ≡ ok w → theirConstant s h mask (over words (replicate depthLimit 0)) (ranges .at) old ≡ some (record { at = w .end; image = new })
   -- 5.49
-  pub constant-end : (w : ReadTold) → readSaid a ≡ ok w → w .end ≡ ranges .at
+  pub constant-end : (w : Staged) → stageSaid a ≡ ok w → w .end ≡ ranges .at
 
 pub record ImageClauses : Type 0 where
   -- 5.6
@@ -181,6 +185,6 @@ pub record ImageClauses : Type 0 where
   -- 5.42
   pub raw-start : (s : List ℕ) (h : Header) (at : ℕ) → length s < at → rawBody s h at ≡ fail (placed at (refuse 1))
   pub whole-read-clauses : (b : List ℕ) (reuse : Bool) (r : ReadAnswer) (old new : Lent) → WholeRead b reuse r old new → WholeReadClauses b r old
-  pub decode-linear-clauses : (m : Res Body) (h : Header) (mask : List ℕ) (a : ReadAnswer) (list listed old new : List ℕ) → BodyRead m h mask a list listed old new → DecodeLinearClauses h old new
-  pub raw-body-clauses : (s : List ℕ) (h : Header) (at : ℕ) (mask constants : List ℕ) (a : ReadAnswer) (list listed old new : List ℕ) → Ready s h mask → cells (shapeOf h) ≤ length old → BodyRead (rawBody s h at) h mask a list listed old new → at ≤ length s → RawBodyClauses s h at mask constants a old new
-  pub constant-body-clauses : (s : List ℕ) (h : Header) (ranges : Ranges) (mask words : List ℕ) (a : ReadAnswer) (list listed old new : List ℕ) → Ready s h mask → cells (shapeOf h) ≤ length old → length (ranges .min) ≡ depthLimit → BodyRead (constantBody h ranges) h mask a list listed old new → constantWords (h .depth) (h .kind) (ranges .min) ≡ ok words → ConstantBodyClauses s h ranges mask words a old new
+  pub decode-linear-clauses : (m : Res Body) (h : Header) (force : MaskAnswer) (mask : List ℕ) (a : StageAnswer) (old new : List ℕ) → BodyRead m h force mask a old new → DecodeLinearClauses h old new
+  pub raw-body-clauses : (s : List ℕ) (h : Header) (at : ℕ) (force : MaskAnswer) (mask constants : List ℕ) (a : StageAnswer) (old new : List ℕ) → Ready s h mask → cells (shapeOf h) ≤ length old → BodyRead (rawBody s h at) h force mask a old new → at ≤ length s → RawBodyClauses s h at mask constants a old new
+  pub constant-body-clauses : (s : List ℕ) (h : Header) (ranges : Ranges) (force : MaskAnswer) (mask words : List ℕ) (a : StageAnswer) (old new : List ℕ) → Ready s h mask → cells (shapeOf h) ≤ length old → length (ranges .min) ≡ depthLimit → BodyRead (constantBody h ranges) h force mask a old new → constantWords (h .depth) (h .kind) (ranges .min) ≡ ok words → ConstantBodyClauses s h ranges mask words a old new

@@ -4,7 +4,7 @@ use mathlib.Core.Path.{_≡_, _∙_, sym, ap, refl}
 use mathlib.Core.List.{List, [], _∷_}
 use Prim.Native.Nat.{ℕ, zero, suc}
 use Rattle.lerc_words.specs.declared.Refusal.{Refusal}
-use Rattle.lerc_words.specs.Res.{ok, fail}
+use Rattle.lerc_words.specs.Res.{ok, fail, after}
 use Rattle.lerc_words.proofs.Binding.{ok-is}
 use Rattle.lerc_words.proofs.Marking.{marked-is}
 use Rattle.lerc_header.specs.declared.Header.{Header}
@@ -18,6 +18,10 @@ module _ (s : List ℕ) (h : Header) (m : List ℕ) where
   pub heads-none : (n at : ℕ) → headStarts s h m zero n at ≡ []
   unfolding headStarts
   heads-none n at = refl
+
+  pub heads-first : (f n at : ℕ) → headStarts s h m (suc f) n at ≡ at ∷ after (blockEnd s h m n at) [] (λ to. headStarts s h m f (suc n) to)
+  unfolding headStarts
+  heads-first f n at = refl
 
   pub heads-more : (f n at : ℕ) {to : ℕ} → blockEnd s h m n at ≡ ok to → headStarts s h m (suc f) n at ≡ at ∷ headStarts s h m f (suc n) to
   unfolding headStarts

@@ -13,10 +13,13 @@ pub mod Front
 pub mod Reading
 pub mod Chain
 pub mod Heads
+pub mod Beginning
 pub mod Written
 pub mod Listing
 pub mod Held
 pub mod Standing
+pub mod Walking
+pub mod RunRows
 pub mod Scattering
 pub mod Laying
 pub mod RowTurns

@@ -13,6 +13,8 @@ use Rattle.lerc_words.specs.declared.Refusal.{Refusal}
 use Rattle.lerc_words.specs.Res.{Res, ok, fail, _>>=_, require, accepts}
 use Rattle.lerc_words.specs.Lists.{over}
 use Rattle.lerc_words.proofs.Binding.{bind-is, bind-fail, require-is}
+use Rattle.lerc_slices.specs.Slices.{beginsWith}
+use Rattle.lerc_slices.proofs.Begins.{begins-is}
 use Rattle.lerc_header.specs.declared.Extent.{Extent}
 use Rattle.lerc_header.specs.declared.Header.{Header}
 use Rattle.lerc_header.specs.Header.{shapeOf, held}
@@ -22,7 +24,7 @@ use Rattle.lerc_image.specs.declared.WalkAnswer.the-variants as answer
 use Rattle.lerc_image.specs.Geometry.{blockOf, isValidCell}
 use Rattle.lerc_image.specs.Blocks.{Chain, chain, allBlocks}
 use Rattle.lerc_image.specs.Walk.{walkSaid, walkOf}
-use Rattle.lerc_image.specs.Tiles.{checkedTiles, headStarts, roomToList, listedTiles, listedBlock, listedImage, roomToFill, filledTiles, startsFrom, imageFrom, writtenList, writtenImage, tilesSays, tilesImage, Tiled}
+use Rattle.lerc_image.specs.Tiles.{checkedTiles, headStarts, roomToList, listedTiles, tilesListed, listedBlock, listedImage, roomToFill, filledTiles, startsFrom, imageFrom, writtenList, writtenImage, tilesSays, tilesImage, Tiled}
 use Rattle.lerc_image.specs.Parts.{BodyAsked, BodyListed}
 use Rattle.lerc_image.proofs.Partition.{block-lt}
 use Rattle.lerc_image.proofs.Painting.{painted-same, painted-words}
@@ -49,10 +51,19 @@ module _ (s : List ℕ) (h : Header) (maxima m : List ℕ) (at : ℕ) {c : Chain
   pub starts-are : headStarts s h m (blockCount (shapeOf h)) 0 at ≡ c .starts
   starts-are = heads-are s h m maxima (blockCount (shapeOf h)) 0 at c q
 
+  inside : (i : ℕ) → i < blockCount (shapeOf h) → i < length (c .starts)
+  inside i l = omega (arith, chain-lengths s h maxima m (blockCount (shapeOf h)) 0 at c q .0)
+
   pub starts-over : (old : List ℕ) → Starts (over (c .starts) old) c (blockCount (shapeOf h))
   starts-over old i l =
-      let j : i < length (c .starts) = omega (arith, chain-lengths s h maxima m (blockCount (shapeOf h)) 0 at c q .0) in
+      let j = inside i l in
       List·getD-append (c .starts) (drop (length (c .starts)) old) 0 i j ∙ getD-any (c .starts) i 0 (c .end) j
+
+  -- a list that begins with them
+  pub starts-begin : (list : List ℕ) → beginsWith (c .starts) list ≡ true → Starts list c (blockCount (shapeOf h))
+  starts-begin list e i l =
+      let j = inside i l in
+      begins-is (c .starts) list e .at i j ∙ getD-any (c .starts) i 0 (c .end) j
 
   -- the image
   module _ (list : List ℕ) (t : Starts list c (blockCount (shapeOf h))) where
@@ -102,13 +113,23 @@ module _ (b : List ℕ) (h : Header) (m maxima : List ℕ) (at : ℕ) where
         let (t, r, q) = bind-is (require (leb (e .mask) (length m)) 5) _ q in
         record { extent = e; kept = p; mask = require-is (leb (e .mask) (length m)) 5 r; chained = q }
 
-    pub checked-listed : (list : List ℕ) → blockCount (shapeOf h) ≤ length list → listedTiles b h m at list ≡ over (c .starts) list
-    unfolding listedTiles roomToList
-    checked-listed list l =
-        let f = found in
-        let is = held-is h (length b) (f .kept) in
-        let u : f .extent .blocks ≤ length list = rw (is) l in
-        rw (f .kept, f .mask, le-leb _ _ u, starts-are (take (h .size) b) h maxima m at (f .chained))
+    module _ (list : List ℕ) (l : blockCount (shapeOf h) ≤ length list) where
+      list-room : roomToList b h m (length list) ≡ ok true
+      unfolding roomToList
+      list-room =
+          let f = found in
+          let is = held-is h (length b) (f .kept) in
+          let u : f .extent .blocks ≤ length list = rw (is) l in
+          rw (f .kept, f .mask, le-leb _ _ u)
+
+      pub checked-listed : listedTiles b h m at list ≡ over (c .starts) list
+      unfolding listedTiles
+      checked-listed = rw (list-room, starts-are (take (h .size) b) h maxima m at (found .chained))
+
+      -- compared with a list
+      pub checked-begins : tilesListed b h m at list ≡ beginsWith (c .starts) list
+      unfolding tilesListed
+      checked-begins = rw (list-room, starts-are (take (h .size) b) h maxima m at (found .chained))
 
     pub checked-starts : (old : List ℕ) → Starts (over (c .starts) old) c (blockCount (shapeOf h))
     checked-starts = starts-over (take (h .size) b) h maxima m at (found .chained)
@@ -138,6 +159,19 @@ module _ (b : List ℕ) (h : Header) (m maxima : List ℕ) (at : ℕ) where
             rw (written-starts (take (h .size) b) h maxima m at (f .chained)),
             written-words (take (h .size) b) h maxima m at (f .chained) (held-shaped h (length b) (f .kept)) image,
           )
+
+-- a list that begins with the starts is filled to the image of the chain
+module _ (b : List ℕ) (h : Header) (m maxima : List ℕ) (at : ℕ) {c : Chain} (q : allBlocks (take (h .size) b) h maxima m at ≡ ok c)
+    (list image : List ℕ) (r : roomToFill b h m (length list) (length image) ≡ ok true) where
+  kept-shaped : Shaped (shapeOf h)
+  unfolding roomToFill
+  kept-shaped = let (e, p, _) = bind-is (held h (length b)) _ r in held-shaped h (length b) p
+
+  pub begun-filled : beginsWith (c .starts) list ≡ true → filledTiles b h m maxima list image ≡ tilesImage h m image c
+  unfolding filledTiles
+  begun-filled e =
+      let s = take (h .size) b in
+      rw (r) (image-is s h maxima m at q list (starts-begin s h maxima m at q list e) kept-shaped image)
 
 -- ---- what the stages together leave
 

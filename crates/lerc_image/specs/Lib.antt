@@ -5,3 +5,4 @@ pub mod Fill
 pub mod Walk
 pub mod Tiles
 pub mod Parts
+pub mod Own

@@ -1,4 +1,4 @@
--- All blocks of a body: checked, their starts listed, their words put into the image; each by itself, both writes in one pass, and all at once.
+-- All blocks of a body: checked, their starts listed or compared with a list, their words put into the image; each by itself, both writes in one pass, and all at once.
 -- Assumes nothing.
 use Prim.Native.Nat.{ℕ, zero, suc}
 use mathlib.Core.Path.{_≡_}
@@ -8,6 +8,7 @@ use lib.ListN.{length, getD, take}
 use lib.Dec.{leb}
 use Rattle.lerc_words.specs.Res.{Res, _>>=_, require, after, accepts}
 use Rattle.lerc_words.specs.Lists.{over}
+use Rattle.lerc_slices.specs.Slices.{beginsWith}
 use Rattle.lerc_header.specs.declared.Header.{Header}
 use Rattle.lerc_header.specs.Header.{shapeOf, held}
 use Rattle.lerc_header.specs.Shape.{blockCount}
@@ -51,6 +52,11 @@ roomToList b h m entries = do
 unfoldable pub listedTiles : List ℕ → Header → List ℕ → ℕ → List ℕ → List ℕ
 listedTiles b h m at list =
     after (roomToList b h m (length list)) list (λ _. over (headStarts (take (h .size) b) h m (blockCount (shapeOf h)) 0 at) list)
+
+-- there is room, and the list begins with these starts
+unfoldable pub tilesListed : List ℕ → Header → List ℕ → ℕ → List ℕ → Bool
+tilesListed b h m at list =
+    accepts (roomToList b h m (length list)) && beginsWith (headStarts (take (h .size) b) h m (blockCount (shapeOf h)) 0 at) list
 
 -- ---- fill: each block at its listed start
 

@@ -1,16 +1,18 @@
-// All blocks of a body: checked, listed and filled, each by itself, and all at once.
+// All blocks of a body: checked, listed, compared with a list and filled, each by itself, and all at once.
 ghost use mathlib.Core.Path.{_≡_};
 ghost use Prim.Native.Nat.{ℕ, _≤_};
 ghost use lib.ListN.{length};
 ghost use Rattle.lerc_words.specs.Lists.{over};
+ghost use Rattle.lerc_slices.specs.Slices.{beginsWith};
 ghost use Rattle.lerc_image.specs.Blocks.{allBlocks};
 ghost use Rattle.lerc_image.specs.Walk.{walkSaid, walkOf};
-ghost use Rattle.lerc_image.specs.Tiles.{checkedTiles, listedTiles, listedImage, filledTiles, startsFrom, imageFrom, writtenList, writtenImage, Tiled, tilesSays};
+ghost use Rattle.lerc_image.specs.Tiles.{checkedTiles, headStarts, listedTiles, tilesListed, listedImage, filledTiles, startsFrom, imageFrom, writtenList, writtenImage, Tiled, tilesSays};
 ghost use Rattle.lerc_image.specs.Parts.{BodyAsked};
 use super::Position;
 use super::WalkAnswer;
 use super::all_valid;
 use super::check_blocks;
+use super::end_at;
 use super::has_room;
 use super::list_starts;
 use super::put_at;
@@ -113,6 +115,31 @@ fn decode_blocks(
     checked
 }
 
+// Whether the list begins with the start of each block, as the heads give them; none behind a head that cannot be read.
+fn starts_listed(s: &[u8], at: usize, h: Header, e: Extent, mask: &[u8], list: &[usize]) -> bool
+    requires { ⌜ (BodyAsked h e) × (e .blocks ≤ length (now list)) ⌝ }
+    ensures { λ r. ⌜ r ≡ beginsWith (headStarts (now (s .entry)) h (now (mask .entry)) (e .blocks) 0 at) (now (list .entry)) ⌝ }
+{
+    let shape = e.shape;
+    let mut p = Position::start();
+    let mut k: usize = 0;
+    let mut start = at;
+    while k < e.blocks {
+        if list[k] != start {
+            return false;
+        }
+        let t = p.current(shape);
+        let got = end_at(s, start, h.kind, shape, t, mask);
+        let BlockAnswer::Block(end) = got else {
+            return true;
+        };
+        start = end;
+        p = p.advance(shape);
+        k += 1;
+    }
+    true
+}
+
 // Every block from `at` on, judged with its values: 3, 4, 1, 5, then block by block 1, 8, 9. Nothing is written.
 pub fn check_tiles(
     blob: &[u8],
@@ -148,6 +175,22 @@ pub fn list_tiles(blob: &[u8], h: Header, mask: &[u8], at: usize, list: &mut [us
     }
     let size = e.size;
     list_starts(&blob[..size], at, h, e, mask, &mut list[..]);
+}
+
+// Whether the list begins with the start of each block from `at` on, as the heads give them. Nothing is written; without room it does not.
+pub fn are_listed(blob: &[u8], h: Header, mask: &[u8], at: usize, list: &[usize]) -> bool
+    ensures { λ r. ⌜ r ≡ tilesListed (now (blob .entry)) h (now (mask .entry)) at (now (list .entry)) ⌝ }
+{
+    let held = h.held(blob.len());
+    let HeldAnswer::Held(e) = held else {
+        return false;
+    };
+    let fits = (e.mask <= mask.len()) & (e.blocks <= list.len());
+    if !fits {
+        return false;
+    }
+    let size = e.size;
+    starts_listed(&blob[..size], at, h, e, mask, list)
 }
 
 // Each block at its listed start to the image; one that is refused leaves it. Nothing is refused: without room nothing is written.

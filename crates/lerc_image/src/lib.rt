@@ -27,13 +27,16 @@ use lerc_sweep::WayAnswer;
 use lerc_words::Refusal;
 
 mod decode;
+mod own;
 mod put;
 
+pub use decode::are_listed;
 pub use decode::check_tiles;
 pub use decode::decode_tiles;
 pub use decode::fill_tiles;
 pub use decode::list_tiles;
 pub use decode::write_tiles;
+pub use own::check_own_tiles;
 
 pub struct Tile {
     pub x: usize,

@@ -29,7 +29,7 @@ use Rattle.lerc_mask.proofs.Steps.{bytes-append}
 use Rattle.lerc_mask.proofs.Runs.{RunsGive, Means, step-means}
 
 -- one turn takes one of the steps that are left
-fewer : (f l at next : ℕ) → l ≤ at + suc f → at < next → l ≤ next + f
+pub fewer : (f l at next : ℕ) → l ≤ at + suc f → at < next → l ≤ next + f
 fewer f l at next h k = omega arith
 
 -- ---- the first pass
@@ -209,7 +209,7 @@ unrolled bytes n e l d = rw (e, d) (record { says = rw (l); left = refl })
 
 -- ---- the promise leaves no room
 
-said-same : (a b : RunsAnswer) → runsSaid a ≡ runsSaid b → a ≡ b
+pub said-same : (a b : RunsAnswer) → runsSaid a ≡ runsSaid b → a ≡ b
 said-same (answer.Mask n) (answer.Mask m) e = let z : n ≡ m = cc in rw (z)
 said-same (answer.Mask n) (answer.Refused r) e = absurd (let z : _≡_ {A = ℕ} 0 1 = cc in omega arith)
 said-same (answer.Refused r) (answer.Mask m) e = absurd (let z : _≡_ {A = ℕ} 0 1 = cc in omega arith)

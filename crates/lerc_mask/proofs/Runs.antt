@@ -1,6 +1,6 @@
 -- The runs of a section: what one gives, and what all of them give.
 -- Assumes nothing.
-use mathlib.Core.Path.{_≡_, refl, sym, _∙_}
+use mathlib.Core.Path.{_≡_, refl, sym, ap, _∙_}
 use mathlib.Core.Bool.{Bool, true, false}
 use mathlib.Core.List.{List, [], _++_}
 use Prim.Native.Nat.{ℕ, zero, suc, _+_, _-_, _≤_, _<_}
@@ -9,9 +9,9 @@ use borrow.Author.Tests.{le-leb, lt-leb, eqb-true}
 use lib.Dec.{eqb}
 use lib.ListN.{length, getD, take, drop, replicate, length-append, length-replicate}
 use Rattle.lerc_words.specs.declared.Refusal.{Refusal}
-use Rattle.lerc_words.specs.Res.{Res, ok, fail, _>>=_, marked, require, refuse}
-use Rattle.lerc_words.proofs.Binding.{bind-is, require-is}
-use Rattle.lerc_words.proofs.Marking.{Bare}
+use Rattle.lerc_words.specs.Res.{Res, ok, fail, _>>=_, placed, marked, require, refuse, accepts}
+use Rattle.lerc_words.proofs.Binding.{bind-is, require-is, accepts-is, accepts-not}
+use Rattle.lerc_words.proofs.Marking.{Bare, marked-ok, marked-no}
 use Rattle.lerc_words.proofs.Little.{Bytes}
 use Rattle.lerc_mask.specs.declared.Step.{Step}
 use Rattle.lerc_mask.specs.declared.Step.the-variants.{Copy, Repeat, End, Wrong}
@@ -153,3 +153,26 @@ decoded-room s pixels valid room h = rw (lt-leb (maskBytes pixels) room h)
 pub decoded-coded : (s : List ℕ) (pixels valid room : ℕ) → maskBytes pixels ≤ room → decoded s pixels valid room ≡ marked maskField (coded s pixels valid)
 unfolding decoded
 decoded-coded s pixels valid room h = rw (le-leb (maskBytes pixels) room h)
+
+-- with room, what the first pass answers
+pub record RunsDecoded (s : List ℕ) (pixels valid room : ℕ) : Type 0 where
+  pub mask : List ℕ
+  pub is : decoded s pixels valid room ≡ ok mask
+  pub runs : maskRuns (maskBytes pixels) s ≡ ok mask
+  pub size : length mask ≡ maskBytes pixels
+
+module _ (s : List ℕ) (pixels valid room : ℕ) (h : maskBytes pixels ≤ room) where
+  pub decoded-is : accepts (coded s pixels valid) ≡ true → RunsDecoded s pixels valid room
+  decoded-is t =
+      let (m, e) = accepts-is (coded s pixels valid) t in
+      record {
+        mask = m;
+        is = decoded-coded s pixels valid room h ∙ marked-ok maskField e;
+        runs = coded-is s pixels valid m e .runs;
+        size = coded-length s pixels valid m e;
+      }
+
+  pub decoded-six : accepts (coded s pixels valid) ≡ false → decoded s pixels valid room ≡ fail (placed maskField (refuse 6))
+  decoded-six t =
+      let (r, e) = accepts-not (coded s pixels valid) t in
+      decoded-coded s pixels valid room h ∙ marked-no maskField (e ∙ ap fail (coded-six s pixels valid r e))

@@ -9,10 +9,12 @@ use lib.Dec.{leb, ltb, eqb}
 use Rattle.lerc_words.specs.declared.Refusal.{Refusal}
 use Rattle.lerc_words.specs.Res.{Res, ok, fail, _>>=_, refuse, marked, require, little, after}
 use Rattle.lerc_words.specs.Lists.{count, over}
+use Rattle.lerc_slices.specs.Slices.{beginsWith, acceptsWith}
 use Rattle.lerc_mask.specs.declared.Step.{Step}
 use Rattle.lerc_mask.specs.declared.Step.the-variants.{Copy, Repeat, End, Wrong}
 use Rattle.lerc_mask.specs.declared.RunsAnswer.{RunsAnswer}
 use Rattle.lerc_mask.specs.declared.RunsAnswer.the-variants as answer
+use Rattle.lerc_mask.specs.declared.compared.RunsFound.{RunsFound}
 
 -- ---- pixels
 
@@ -107,3 +109,8 @@ refusalOfRuns (answer.Refused r) = r
 pub record RunsUnrolled (m : Res (List ℕ)) (r : RunsAnswer) (old new : List ℕ) : Type 0 where
   pub says : runsSaid r ≡ (m >>= λ bytes. ok (length bytes))
   pub left : new ≡ after m old (λ bytes. over bytes old)
+
+-- the same answer, and whether a slice begins with the mask; after a refusal it does not
+pub record RunsCompared (m : Res (List ℕ)) (r : RunsFound) (held : List ℕ) : Type 0 where
+  pub says : runsSaid (r .answer) ≡ (m >>= λ bytes. ok (length bytes))
+  pub same : r .same ≡ acceptsWith m (λ bytes. beginsWith bytes held)

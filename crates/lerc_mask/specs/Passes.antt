@@ -4,10 +4,12 @@
 use Prim.{Unit}
 use Prim.Native.Nat.{ℕ, _+_, _-_, _*_, _/_, _%_, _^_, _≤_, _<_}
 use mathlib.Core.Path.{_≡_}
+use mathlib.Core.Bool.{true, false, cond}
 use mathlib.Core.List.{List, [], _∷_}
-use lib.ListN.{length, getD, take}
+use lib.ListN.{length, getD, take, drop}
 use lib.Count.{ones}
 use lib.Seq.{paste}
+use Rattle.lerc_slices.specs.Slices.{beginsWith}
 use Rattle.lerc_mask.specs.declared.Step.{Step}
 use Rattle.lerc_mask.specs.declared.Step.the-variants.{Copy, Repeat, End, Wrong}
 use Rattle.lerc_mask.specs.declared.Walk.{Walk}
@@ -15,6 +17,8 @@ use Rattle.lerc_mask.specs.declared.Went.{Went}
 use Rattle.lerc_mask.specs.declared.Went.the-variants as went
 use Rattle.lerc_mask.specs.declared.Put.{Put}
 use Rattle.lerc_mask.specs.declared.Put.the-variants as put
+use Rattle.lerc_mask.specs.declared.compared.Met.{Met}
+use Rattle.lerc_mask.specs.declared.compared.Met.the-variants as met
 use Rattle.lerc_mask.specs.Mask.{stepAt, onStep}
 
 -- n bits of a byte as a number, those behind its first `skip`
@@ -55,3 +59,9 @@ putOn s at made left = onStep s at (stepAt s at left) put.Done put.Done (λ next
 
 unfoldable pub putOut : List ℕ → ℕ → ℕ → ℕ → List ℕ → List ℕ
 putOut s at made left old = onStep s at (stepAt s at left) old old (λ next out. paste old made out (length out))
+
+-- the same pass where the bytes are compared with those that are held: one run that differs decides
+unfoldable pub meetOn : List ℕ → ℕ → ℕ → ℕ → List ℕ → Met
+meetOn s at made left held =
+    onStep s at (stepAt s at left) (met.Done true) (met.Done false)
+    (λ next out. cond (beginsWith out (drop made held)) (met.On next (made + length out)) (met.Done false))

@@ -5,7 +5,10 @@
 // "planted" have expectations that are wrong, and their lines must say so.
 ghost use Prim.Native.Nat.{_≤_, _<_};
 ghost use lib.ListN.{length};
+use lerc::PublishAnswer;
 use lerc::ReadAnswer;
+use lerc::StageAnswer;
+use lerc_words::Refusal;
 use lerc_words::bytes;
 use lerc_words::peek;
 use libc::STDOUT_FILENO;
@@ -362,6 +365,54 @@ fn prepare(c: Case, expect: &[u8], kept: &mut [u8]) {
     mark(&mut kept[..], expect, c.before);
 }
 
+// What was staged, published, with both answers as one. First comes an answer that staging did not give, which must be 3.
+fn finish(
+    blob: &[u8],
+    reuse: bool,
+    given: StageAnswer,
+    kept: &mut [u8],
+    spare: &[u8],
+    list: &[usize],
+    image: &mut [u64],
+) -> ReadAnswer {
+    let StageAnswer::Staged(found) = given else {
+        return ReadAnswer::Refused(given.refusal());
+    };
+    let none = StageAnswer::Refused(Refusal { number: 0, at: 0 });
+    let forged = lerc::publish(
+        blob,
+        reuse,
+        none,
+        &mut kept[..],
+        spare,
+        list,
+        &mut image[..],
+    );
+    let why = forged.refusal();
+    let is_refused = (why.number == 3) & (why.at == 0);
+    if !is_refused {
+        return ReadAnswer::Refused(why);
+    }
+    let done = lerc::publish(
+        blob,
+        reuse,
+        given,
+        &mut kept[..],
+        spare,
+        list,
+        &mut image[..],
+    );
+    let PublishAnswer::Published { end, words: _words } = done else {
+        return ReadAnswer::Refused(done.refusal());
+    };
+    let header = found.header;
+    ReadAnswer::Whole {
+        header,
+        blocks: found.blocks,
+        end,
+    }
+}
+
 fn read_lent(
     c: Case,
     blob: &[u8],
@@ -373,12 +424,21 @@ fn read_lent(
 ) -> usize {
     prepare(c, expect, &mut kept[..]);
     let reuse = c.reuses();
-    let answer = lerc::read(
+    let given = lerc::stage(
         blob,
         reuse,
-        &mut kept[..],
+        &kept[..],
         &mut spare[..],
         &mut list[..],
+        &image[..],
+    );
+    let answer = finish(
+        blob,
+        reuse,
+        given,
+        &mut kept[..],
+        &spare[..],
+        &list[..],
         &mut image[..],
     );
     judge(

@@ -9,8 +9,9 @@ use Rattle.lerc_bits.proofs.Returns.{plan-same, decoded-same}
 use Rattle.lerc_text.proofs.Putting.{put-same}
 use Rattle.lerc_header.specs.declared.Header.{Header}
 use Rattle.lerc_mask.proofs.Passes.{unrolled-same}
+use Rattle.lerc_mask.proofs.Meeting.{compared-same as runs-compared-same}
 use Rattle.lerc_ranges.specs.declared.Ranges.{Ranges}
-use Rattle.lerc_validity.proofs.Prepared.{prepared-same}
+use Rattle.lerc_validity.proofs.Prepared.{prepared-same, compared-same}
 use Rattle.lerc_block.proofs.Returns.{said-same as block-same, read-same as block-read-same}
 use Rattle.lerc_image.specs.declared.WalkAnswer.{WalkAnswer}
 use Rattle.lerc_image.specs.declared.FillAnswer.{FillAnswer}
@@ -18,12 +19,18 @@ use Rattle.lerc_image.specs.Blocks.{Chain}
 use Rattle.lerc_image.specs.Walk.{BlocksWalked}
 use Rattle.lerc_image.specs.Fill.{Filled}
 use Rattle.lerc_image.specs.Tiles.{Tiled}
+use Rattle.lerc.specs.declared.StageAnswer.{StageAnswer}
+use Rattle.lerc.specs.declared.PublishAnswer.{PublishAnswer}
 use Rattle.lerc.specs.declared.ReadAnswer.{ReadAnswer}
 use Rattle.lerc.specs.Read.{Lent, WholeRead}
+use Rattle.lerc.specs.Stage.{StageRead, Publishing}
 use Rattle.lerc_theorems.specs.Promises.{Answers, NoRoom}
-use Rattle.lerc_theorems.proofs.SameAnswers.{block-plan-same, word-same, integer-same, offset-same, sample-same, stored-same, header-same, open-same, held-same, pairs-same, way-same, walk-same, fill-same, read-same, counts-same}
+use Rattle.lerc_theorems.proofs.SameAnswers.{block-plan-same, word-same, integer-same, offset-same, sample-same, stored-same, header-same, open-same, held-same, pairs-same, way-same, walk-same, fill-same, stage-same, publish-same, read-same, counts-same}
 
 -- ---- promises of an answer and of lent slices
+
+pair-same : {A B : Type 0} {a b : A} {x y : B} → a ≡ b → x ≡ y → _≡_ {A = A × B} (a, x) (b, y)
+pair-same p q = rw (p, q)
 
 walked-same : {b : List ℕ} {h : Header} {g : Ranges} {m : List ℕ} {r q : WalkAnswer} {old x y : List ℕ} → BlocksWalked b h g m r old x → BlocksWalked b h g m q old y → (r ≡ q) × (x ≡ y)
 walked-same {r = r} {q = q} s t = (walk-same r q (s .says ∙ sym (t .says)), s .list ∙ sym (t .list))
@@ -32,10 +39,13 @@ filled-same : {b : List ℕ} {h : Header} {g : Ranges} {m list : List ℕ} {n : 
 filled-same {r = r} {q = q} s t = (fill-same r q (s .says ∙ sym (t .says)), s .image ∙ sym (t .image))
 
 tiled-same : {c : Res Chain} {h : Header} {m : List ℕ} {r q : WalkAnswer} {list l k image x y : List ℕ} → Tiled c h m r list l image x → Tiled c h m q list k image y → (r ≡ q) × (_≡_ {A = List ℕ × List ℕ} (l, x) (k, y))
-tiled-same {r = r} {q = q} s t = (walk-same r q (s .says ∙ sym (t .says)), pair (s .list ∙ sym (t .list)) (s .image ∙ sym (t .image)))
-  where
-    pair : {a b c d : List ℕ} → a ≡ b → c ≡ d → _≡_ {A = List ℕ × List ℕ} (a, c) (b, d)
-    pair e f = rw (e, f)
+tiled-same {r = r} {q = q} s t = (walk-same r q (s .says ∙ sym (t .says)), pair-same (s .list ∙ sym (t .list)) (s .image ∙ sym (t .image)))
+
+pub staged-same : {b : List ℕ} {reuse : Bool} {r q : StageAnswer} {old : Lent} {x y l k : List ℕ} → StageRead b reuse r old x l → StageRead b reuse q old y k → (r ≡ q) × (_≡_ {A = List ℕ × List ℕ} (x, l) (y, k))
+staged-same {r = r} {q = q} s t = (stage-same r q (s .says ∙ sym (t .says)), pair-same (s .spare ∙ sym (t .spare)) (s .list ∙ sym (t .list)))
+
+pub published-same : {b : List ℕ} {reuse : Bool} {a : StageAnswer} {r q : PublishAnswer} {old : Lent} {x y m k : List ℕ} → Publishing b reuse a r old m x → Publishing b reuse a q old k y → (r ≡ q) × (_≡_ {A = List ℕ × List ℕ} (m, x) (k, y))
+published-same {r = r} {q = q} s t = (publish-same r q (s .says ∙ sym (t .says)), pair-same (s .kept ∙ sym (t .kept)) (s .image ∙ sym (t .image)))
 
 whole-same : {b : List ℕ} {reuse : Bool} {r q : ReadAnswer} {old x y : Lent} → WholeRead b reuse r old x → WholeRead b reuse q old y → (r ≡ q) × (x ≡ y)
 whole-same {r = r} {q = q} s t = (read-same r q (s .says ∙ sym (t .says)), s .lent ∙ sym (t .lent))
@@ -51,9 +61,6 @@ module _ {K A R O : Type 0} {Pre : K → A → Type 0} {Post : K → A → R →
   told : {B : Type 0} {said : R → B} → ((r q : R) → said r ≡ said q → r ≡ q) → (f : K → A → B) → ((k : K) (a : A) (r : R) (x : O) → Post k a r x → said r ≡ f k a) → Answers Pre Post
   told inj f h = record { asks-nothing = asks; same = λ k a r q x y p s. (inj r q (h k a r x p ∙ sym (h k a q y s)), refl) }
 
-pair-same : {A B : Type 0} {a b : A} {x y : B} → a ≡ b → x ≡ y → _≡_ {A = A × B} (a, x) (b, y)
-pair-same p q = rw (p, q)
-
 pub no-room : NoRoom
 no-room = record {
   refusal-at = given (λ k a. tt) _ (λ k a r x p. p);
@@ -66,6 +73,8 @@ no-room = record {
   copy-words = record { asks-nothing = λ k a. tt; same = λ k a r q x y p s. (refl, p ∙ sym s) };
   fill-bytes = record { asks-nothing = λ k a. tt; same = λ k a r q x y p s. (refl, p ∙ sym s) };
   fill-words = record { asks-nothing = λ k a. tt; same = λ k a r q x y p s. (refl, p ∙ sym s) };
+  begins-with = given (λ k a. tt) _ (λ k a r x p. p);
+  all-bytes = given (λ k a. tt) _ (λ k a r x p. p);
   integer-refusal = given (λ k a. tt) _ (λ k a r x p. p);
   plus = given (λ k a. tt) _ (λ k a r x p. p);
   scale = given (λ k a. tt) _ (λ k a r x p. p);
@@ -110,12 +119,15 @@ no-room = record {
   count-from = given (λ k a. tt) _ (λ k a r x p. p);
   ones-word = given (λ k a. tt) _ (λ k a r x p. p);
   decode-mask = record { asks-nothing = λ k a. tt; same = λ k a r q x y p s. unrolled-same p s };
+  compare-runs = record { asks-nothing = λ k a. tt; same = λ k a r q x y p s. (runs-compared-same p s, refl) };
+  byte-from = given (λ k a. tt) _ (λ k a r x p. p);
   mask-refusal = given (λ k a. tt) _ (λ k a r x p. p);
   ranges-refusal = given (λ k a. tt) _ (λ k a r x p. p);
   pairs-refusal = given (λ k a. tt) _ (λ k a r x p. p);
   constants-refusal = given (λ k a. tt) _ (λ k a r x p. p);
   prepare-mask = record { asks-nothing = λ k a. tt; same = λ k a r q x y p s. prepared-same p s };
   find-mask = record { asks-nothing = λ k a. tt; same = λ k a r q x y p s. prepared-same p s };
+  compare-mask = record { asks-nothing = λ k a. tt; same = λ k a r q x y p s. (compared-same p s, refl) };
   mask-in-force = record { asks-nothing = λ k a. tt; same = λ k a r q x y p s. (pair-same (p .0 ∙ sym (s .0)) (p .1 ∙ sym (s .1)), refl) };
   pairs = told (λ k a. tt) pairs-same _ (λ k a r x p. p);
   ranges-in = given (λ k a. tt) _ (λ k a r x p. p);
@@ -135,7 +147,9 @@ no-room = record {
   walk = record { asks-nothing = λ k a. tt; same = λ k a r q x y p s. walked-same p s };
   fill = record { asks-nothing = λ k a. tt; same = λ k a r q x y p s. filled-same p s };
   check-tiles = told (λ k a. tt) walk-same _ (λ k a r x p. p);
+  check-own-tiles = told (λ k a. tt) walk-same _ (λ k a r x p. p);
   list-tiles = record { asks-nothing = λ k a. tt; same = λ k a r q x y p s. (refl, p ∙ sym s) };
+  are-listed = given (λ k a. tt) _ (λ k a r x p. p);
   fill-tiles = record { asks-nothing = λ k a. tt; same = λ k a r q x y p s. (refl, p ∙ sym s) };
   write-tiles = record { asks-nothing = λ k a. tt; same = λ k a r q x y p s. (refl, rw (p .0, p .1, s .0, s .1)) };
   decode-tiles = record { asks-nothing = λ k a. tt; same = λ k a r q x y p s. tiled-same p s };
@@ -144,6 +158,10 @@ no-room = record {
   put-refusal = record { asks-nothing = λ k a. tt; same = λ k a r q x y p s. put-same p s };
   put-shape = record { asks-nothing = λ k a. tt; same = λ k a r q x y p s. put-same p s };
   put-cells = record { asks-nothing = λ k a. tt; same = λ k a r q x y p s. put-same p s };
+  stage-refusal = given (λ k a. tt) _ (λ k a r x p. p);
+  publish-refusal = given (λ k a. tt) _ (λ k a r x p. p);
   read-refusal = given (λ k a. tt) _ (λ k a r x p. p);
+  stage = record { asks-nothing = λ k a. tt; same = λ k a r q x y p s. staged-same p s };
+  publish = record { asks-nothing = λ k a. tt; same = λ k a r q x y p s. published-same p s };
   read = record { asks-nothing = λ k a. tt; same = λ k a r q x y p s. whole-same p s };
 }

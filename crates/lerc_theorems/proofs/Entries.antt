@@ -32,9 +32,12 @@ use Rattle.lerc_image.specs.Blocks.{Chain, blockAt, chain, allBlocks}
 use Rattle.lerc_image.specs.Walk.{wayWalked, bodyWalked, walkSays}
 use Rattle.lerc_image.specs.Fill.{fillSays}
 use Rattle.lerc_image.specs.Tiles.{checkedTiles, tilesSays}
+use Rattle.lerc_image.specs.Own.{ownMask, ownTiles}
 use Rattle.lerc.specs.Meaning.{missingWordAt, rawBody, blockBody, bodyFrom, sweptBody, constantBody, bodySays, meaningFrom}
 use Rattle.lerc.specs.Read.{Lent, room, Masked, masked, readSays}
-use Rattle.lerc_theorems.specs.Table.{ModeRefused, mode-cut, mode-wrong, mode-coded, SweepRefused, sweep-cut, sweep-wrong, mode-refused, BlockAtRefused, ChainRefused, block-refused, WalkBodyRefused, walk-sweep, walk-raw, walk-blocks, WalkRoom, WalkRefused, walk-held, walk-room, walk-pairs, walk-other, walk-body, FillRoom, NoFillRoom, FillRefused, fill-held, fill-number, fill-room, fill-pairs, fill-block, CheckRefused, check-held, check-room, check-blocks, TilesRefused, tiles-held, tiles-room, tiles-blocks, BodyRefused, body-ranges, body-constant, body-sweep, body-raw, body-blocks, WholeRefused, whole-header, whole-room, whole-mask, whole-body}
+use Rattle.lerc.specs.declared.StageAnswer.{StageAnswer}
+use Rattle.lerc.specs.Stage.{wasStaged, publishSays}
+use Rattle.lerc_theorems.specs.Table.{ModeRefused, mode-cut, mode-wrong, mode-coded, SweepRefused, sweep-cut, sweep-wrong, mode-refused, BlockAtRefused, ChainRefused, block-refused, WalkBodyRefused, walk-sweep, walk-raw, walk-blocks, WalkRoom, WalkRefused, walk-held, walk-room, walk-pairs, walk-other, walk-body, FillRoom, NoFillRoom, FillRefused, fill-held, fill-number, fill-room, fill-pairs, fill-block, CheckRefused, check-held, check-room, check-blocks, OwnRefused, own-held, own-blocks, TilesRefused, tiles-held, tiles-room, tiles-blocks, BodyRefused, body-ranges, body-constant, body-sweep, body-raw, body-blocks, WholeRefused, whole-header, whole-room, whole-mask, whole-body, PublishRefused, publish-blob, publish-given}
 use Rattle.lerc_theorems.proofs.Wrong.{pairs-not, not-pairs}
 use Rattle.lerc_theorems.proofs.Wrong as wrong
 use Rattle.lerc_theorems.proofs.Demands.{fail-is, demand, reading, reading-at, reading-one, choosing, not-refused, marked-exactly, and-not, and-first, and-second}
@@ -258,6 +261,21 @@ module _ (b : List ℕ) (h : Header) (m maxima : List ℕ) (at : ℕ) where
   pub check-exactly : (j : Refusal) → (checkedTiles b h m maxima at ≡ fail j) ↔ CheckRefused b h m maxima at j
   check-exactly j = (check-refused, refused-check)
 
+module _ (b : List ℕ) (h : Header) (maxima : List ℕ) (at : ℕ) where
+  own-refused : {j : Refusal} → ownTiles b h maxima at ≡ fail j → OwnRefused b h maxima at j
+  unfolding ownTiles
+  own-refused {j} e =
+      holding h (length b) (OwnRefused b h maxima at) _ e (λ d. own-held d)
+      (λ g e. own-blocks g (chain-exactly (take (h .size) b) h maxima (ownMask (take (h .size) b) h) (blockCount (shapeOf h)) 0 at j .0 e))
+
+  refused-own : {j : Refusal} → OwnRefused b h maxima at j → ownTiles b h maxima at ≡ fail j
+  unfolding ownTiles
+  refused-own {j} (own-held d) = rw (held-exactly h (length b) j .1 d)
+  refused-own {j} (own-blocks g c) = rw (right-held h (length b) g) (chain-exactly (take (h .size) b) h maxima (ownMask (take (h .size) b) h) (blockCount (shapeOf h)) 0 at j .1 c)
+
+  pub own-exactly : (j : Refusal) → (ownTiles b h maxima at ≡ fail j) ↔ OwnRefused b h maxima at j
+  own-exactly j = (own-refused, refused-own)
+
 module _ (b : List ℕ) (h : Header) (m maxima : List ℕ) (at entries words : ℕ) where
   tiles-refused : {j : Refusal} → tilesSays b h m maxima at entries words ≡ fail j → TilesRefused b h m maxima at entries words j
   unfolding tilesSays
@@ -370,3 +388,20 @@ module _ (b : List ℕ) (reuse : Bool) (l : Lent) where
 
   pub whole-exactly : (n : Refusal) → (readSays b reuse l ≡ fail n) ↔ WholeRefused b reuse l n
   whole-exactly n = (whole-refused, refused-whole)
+
+  -- publishing
+  module _ (given : StageAnswer) where
+    publish-refused : {n : Refusal} → publishSays b reuse given l ≡ fail n → PublishRefused b reuse given l n
+    unfolding publishSays
+    publish-refused {n} e =
+        let P = PublishRefused b reuse given l in
+        reading P (readSays b reuse l) _ e (λ d. publish-blob (whole-exactly n .0 d)) (λ m d e.
+        demand P (wasStaged m given l) 3 _ e (λ t. publish-given m d t) (λ t e. not-refused e))
+
+    refused-publish : {n : Refusal} → PublishRefused b reuse given l n → publishSays b reuse given l ≡ fail n
+    unfolding publishSays
+    refused-publish {n} (publish-blob w) = rw (whole-exactly n .1 w)
+    refused-publish (publish-given m d t) = rw (d, t)
+
+    pub publish-exactly : (n : Refusal) → (publishSays b reuse given l ≡ fail n) ↔ PublishRefused b reuse given l n
+    publish-exactly n = (publish-refused, refused-publish)

@@ -7,9 +7,10 @@ use Rattle.lerc_words.specs.declared.Refusal.{Refusal}
 use Rattle.lerc_bits.specs.declared.Plan.{Plan}
 use Rattle.lerc_header.specs.declared.Header.{Header}
 use Rattle.lerc_ranges.specs.declared.Ranges.{Ranges}
+use Rattle.lerc.specs.declared.StageAnswer.{StageAnswer}
 use Rattle.lerc.specs.Read.{Lent}
 use Rattle.lerc_theorems.specs.BlockTable.{At, at-place, WordRefused, word-wide, word-cut, SampleRefused, sample-cut, StoredRefused, not-finite, out-of-range, IntegerRefused, no-integer, not-stored, KindRefused, no-kind, ConstantsRefused, not-constant, TabledRefused, no-bits, entries-cut, entries-few, table-cut, PackedRefused, plain-cut, not-tabled, PlanRefused, counts-cut, width-wrong, count-cut, count-large, packed-refused, CountsRefused, not-planned, index-large, LevelsRefused, level-refused, counts-refused, miscounted-block, value-refused, OffsetRefused, kind-refused, offset-cut, offset-not-finite, levels-refused, BlockRefused, flag-cut, check-wrong, raw-cut, offset-refused, ReadBlockRefused, tile-large, not-read, PlannedRefused, plan-loose, planned-index, OffsetPlanRefused, plan-kind, plan-offset-cut, plan-not-finite, plan-counts, BlockPlanRefused, plan-tile-large, plan-flag-cut, plan-check-wrong, plan-raw-cut, plan-offset}
-use Rattle.lerc_theorems.specs.Table.{HeldRefused, field-wrong, ceiling-passed, blob-cut, HeaderRefused, header-cut, key-wrong, not-held, checksum-wrong, RunsRefused, runs-room, runs-breach, FindRefused, find-room, section-cut, find-wrong, PrepareRefused, mask-held, mask-room, mask-wrong, RangesRefused, ranges-cut, minimum-wrong, maximum-wrong, RangesInRefused, depths-many, ranges-not-in, ReadRangesRefused, ranges-held, ranges-wrong, PairsRefused, pair-wrong, ModeRefused, mode-cut, mode-wrong, mode-coded, SweepRefused, sweep-cut, sweep-wrong, mode-refused, ChainRefused, block-refused, WalkBodyRefused, walk-sweep, walk-raw, walk-blocks, WalkRefused, walk-held, walk-room, walk-pairs, walk-other, walk-body, FillRefused, fill-held, fill-number, fill-room, fill-pairs, fill-block, CheckRefused, check-held, check-room, check-blocks, TilesRefused, tiles-held, tiles-room, tiles-blocks, BodyRefused, body-ranges, body-constant, body-sweep, body-raw, body-blocks, WholeRefused, whole-header, whole-room, whole-mask, whole-body}
+use Rattle.lerc_theorems.specs.Table.{HeldRefused, field-wrong, ceiling-passed, blob-cut, HeaderRefused, header-cut, key-wrong, not-held, checksum-wrong, RunsRefused, runs-room, runs-breach, FindRefused, find-room, section-cut, find-wrong, PrepareRefused, mask-held, mask-room, mask-wrong, RangesRefused, ranges-cut, minimum-wrong, maximum-wrong, RangesInRefused, depths-many, ranges-not-in, ReadRangesRefused, ranges-held, ranges-wrong, PairsRefused, pair-wrong, ModeRefused, mode-cut, mode-wrong, mode-coded, SweepRefused, sweep-cut, sweep-wrong, mode-refused, ChainRefused, block-refused, WalkBodyRefused, walk-sweep, walk-raw, walk-blocks, WalkRefused, walk-held, walk-room, walk-pairs, walk-other, walk-body, FillRefused, fill-held, fill-number, fill-room, fill-pairs, fill-block, CheckRefused, check-held, check-room, check-blocks, OwnRefused, own-held, own-blocks, TilesRefused, tiles-held, tiles-room, tiles-blocks, BodyRefused, body-ranges, body-constant, body-sweep, body-raw, body-blocks, WholeRefused, whole-header, whole-room, whole-mask, whole-body, PublishRefused, publish-blob, publish-given}
 
 module _ (P : ℕ → Type 0) where
   -- wherever it is told
@@ -175,6 +176,10 @@ module _ (P : ℕ → Type 0) where
   check-in one three four five eight nine (check-room g u) = five
   check-in one three four five eight nine (check-blocks g k c) = chain-in one eight nine c
 
+  pub own-in : {why : Refusal} {b : List ℕ} {h : Header} {maxima : List ℕ} {at : ℕ} → P 1 → P 3 → P 4 → P 8 → P 9 → OwnRefused b h maxima at why → P (why .number)
+  own-in one three four eight nine (own-held r) = held-in one three four r
+  own-in one three four eight nine (own-blocks g c) = chain-in one eight nine c
+
   pub tiles-in : {why : Refusal} {b : List ℕ} {h : Header} {m maxima : List ℕ} {at entries words : ℕ} → P 1 → P 3 → P 4 → P 5 → P 8 → P 9 → TilesRefused b h m maxima at entries words why → P (why .number)
   tiles-in one three four five eight nine (tiles-held r) = held-in one three four r
   tiles-in one three four five eight nine (tiles-room g u) = five
@@ -192,3 +197,8 @@ module _ (P : ℕ → Type 0) where
   whole-in one two three four five six seven eight nine ten thirteen (whole-room h d t) = five
   whole-in one two three four five six seven eight nine ten thirteen (whole-mask h d t w) = six
   whole-in one two three four five six seven eight nine ten thirteen (whole-body k d r) = body-in one seven eight nine ten r
+
+  pub publish-in : {why : Refusal} {b : List ℕ} {reuse : Bool} {given : StageAnswer} {l : Lent} → P 1 → P 2 → P 3 → P 4 → P 5 → P 6 → P 7 → P 8 → P 9 → P 10 → P 13
+      → PublishRefused b reuse given l why → P (why .number)
+  publish-in one two three four five six seven eight nine ten thirteen (publish-blob w) = whole-in one two three four five six seven eight nine ten thirteen w
+  publish-in one two three four five six seven eight nine ten thirteen (publish-given m d t) = three

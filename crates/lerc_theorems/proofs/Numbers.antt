@@ -28,14 +28,14 @@ use Rattle.lerc_block.proofs.Returns.{said-same as block-same}
 use Rattle.lerc_image.specs.Paint.{among}
 use Rattle.lerc_theorems.specs.Table.{HeaderRefused, RunsRefused, runs-room, runs-breach, PairsRefused, pair-wrong}
 use Rattle.lerc_theorems.specs.Numbers.{Exactly, ExactlyNumbered, PlacesExactly, NumbersExactly, NumbersOnly}
-use Rattle.lerc_theorems.proofs.SameAnswers.{block-plan-same, word-same, integer-same, offset-same, sample-same, stored-same, counts-same, header-same, open-same, held-same, runs-same, mask-same, pairs-same, way-same, walk-same, fill-same, read-same}
-use Rattle.lerc_theorems.proofs.Given.{at-in, word-in, integer-in, kind-in, sample-in, stored-in, plan-in, counts-in, held-in, header-in, runs-in, prepare-in, find-in, pairs-in, ranges-in-in, read-ranges-in, constants-in, planned-in, block-plan-in, read-block-in, sweep-in, walk-in, fill-in, check-in, tiles-in, whole-in}
+use Rattle.lerc_theorems.proofs.SameAnswers.{block-plan-same, word-same, integer-same, offset-same, sample-same, stored-same, counts-same, header-same, open-same, held-same, runs-same, mask-same, pairs-same, way-same, walk-same, fill-same, stage-same, publish-same, read-same}
+use Rattle.lerc_theorems.proofs.Given.{at-in, word-in, integer-in, kind-in, sample-in, stored-in, plan-in, counts-in, held-in, header-in, runs-in, prepare-in, find-in, pairs-in, ranges-in-in, read-ranges-in, constants-in, planned-in, block-plan-in, read-block-in, sweep-in, walk-in, fill-in, check-in, own-in, tiles-in, whole-in, publish-in}
 use Rattle.lerc_theorems.proofs.Masks.{coded-wrong, wrong-coded}
 use Rattle.lerc_theorems.proofs.Wrong.{pairs-not, not-pairs}
 use Rattle.lerc_theorems.proofs.Demands.{demand, not-refused, marked-exactly}
 use Rattle.lerc_theorems.proofs.Headers.{held-exactly, header-exactly, prepare-exactly, find-exactly, ranges-in-exactly, read-ranges-exactly}
 use Rattle.lerc_theorems.proofs.Blocks.{word-exactly, sample-exactly, integer-exactly, stored-exactly, kind-exactly, constants-exactly, plan-exactly, counts-exactly, read-block-exactly, planned-exactly, block-plan-exactly}
-use Rattle.lerc_theorems.proofs.Entries.{sweep-exactly, walk-exactly, fill-exactly, check-exactly, tiles-exactly, whole-exactly}
+use Rattle.lerc_theorems.proofs.Entries.{sweep-exactly, walk-exactly, fill-exactly, check-exactly, own-exactly, tiles-exactly, whole-exactly, publish-exactly}
 
 -- ---- from a promise to its definition
 
@@ -121,6 +121,8 @@ places-exactly = record {
   decode-mask = λ k a r x p n. by-way (told runs-same refl (p .says)) (by-way (behind _ _ n) (runs-refused _ _ _ _, refused-runs _ _ _ _));
   prepare-mask = λ k a r x p n. by-way (told mask-same refl (p .says)) (by-way (behind-which _ n) (prepare-exactly _ _ _ _ _ n));
   find-mask = λ k a r x p n. by-way (told mask-same refl (p .says)) (by-way (behind-which _ n) (find-exactly _ _ _ _ _ n));
+  compare-runs = λ k a r x p n. by-way (told runs-same refl (p .says)) (by-way (behind _ _ n) (runs-refused _ _ _ _, refused-runs _ _ _ _));
+  compare-mask = λ k a r x p n. by-way (told mask-same refl (p .says)) (by-way (behind-which _ n) (find-exactly _ _ _ _ _ n));
   pairs = λ k a r x p n. by-way (told pairs-same refl p) (pairs-exactly _ _ n);
   ranges-in = λ k a r x p n. by-way (ranges-told _ r p n) (ranges-in-exactly _ _ n);
   read-ranges = λ k a r x p n. by-way (ranges-told _ r p n) (read-ranges-exactly _ _ n);
@@ -133,7 +135,10 @@ places-exactly = record {
   walk = λ k a r x p n. by-way (told walk-same refl (p .says)) (by-way (behind _ _ n) (walk-exactly _ _ _ _ _ n));
   fill = λ k a r x p n. by-way (told fill-same refl (p .says)) (by-way (behind _ _ n) (fill-exactly _ _ _ _ _ _ _ n));
   check-tiles = λ k a r x p n. by-way (told walk-same refl p) (by-way (behind _ _ n) (check-exactly _ _ _ _ _ n));
+  check-own-tiles = λ k a r x p n. by-way (told walk-same refl p) (by-way (behind _ _ n) (own-exactly _ _ _ _ n));
   decode-tiles = λ k a r x p n. by-way (told walk-same refl (p .says)) (by-way (behind _ _ n) (tiles-exactly _ _ _ _ _ _ _ n));
+  stage = λ k a r x p n. by-way (told stage-same refl (p .says)) (by-way (behind _ _ n) (whole-exactly _ _ _ n));
+  publish = λ k a r x p n. by-way (told publish-same refl (p .says)) (by-way (behind _ _ n) (publish-exactly _ _ _ _ n));
   read = λ k a r x p n. by-way (told read-same refl (p .says)) (by-way (behind _ _ n) (whole-exactly _ _ _ n));
 }
 
@@ -159,6 +164,8 @@ numbers-exactly = record {
   decode-mask = λ k a r x p. by-number (places-exactly .decode-mask k a r x p);
   prepare-mask = λ k a r x p. by-number (places-exactly .prepare-mask k a r x p);
   find-mask = λ k a r x p. by-number (places-exactly .find-mask k a r x p);
+  compare-runs = λ k a r x p. by-number (places-exactly .compare-runs k a r x p);
+  compare-mask = λ k a r x p. by-number (places-exactly .compare-mask k a r x p);
   pairs = λ k a r x p. by-number (places-exactly .pairs k a r x p);
   ranges-in = λ k a r x p. by-number (places-exactly .ranges-in k a r x p);
   read-ranges = λ k a r x p. by-number (places-exactly .read-ranges k a r x p);
@@ -171,7 +178,10 @@ numbers-exactly = record {
   walk = λ k a r x p. by-number (places-exactly .walk k a r x p);
   fill = λ k a r x p. by-number (places-exactly .fill k a r x p);
   check-tiles = λ k a r x p. by-number (places-exactly .check-tiles k a r x p);
+  check-own-tiles = λ k a r x p. by-number (places-exactly .check-own-tiles k a r x p);
   decode-tiles = λ k a r x p. by-number (places-exactly .decode-tiles k a r x p);
+  stage = λ k a r x p. by-number (places-exactly .stage k a r x p);
+  publish = λ k a r x p. by-number (places-exactly .publish k a r x p);
   read = λ k a r x p. by-number (places-exactly .read k a r x p);
 }
 
@@ -198,6 +208,8 @@ numbers-only = record {
   decode-mask = λ k a r x p n e. runs-in (In (5 ∷ 6 ∷ [])) refl refl (places-exactly .decode-mask k a r x p n .0 e);
   prepare-mask = λ k a r x p n e. prepare-in (In (1 ∷ 3 ∷ 4 ∷ 5 ∷ 6 ∷ [])) refl refl refl refl refl (places-exactly .prepare-mask k a r x p n .0 e);
   find-mask = λ k a r x p n e. find-in (In (1 ∷ 5 ∷ 6 ∷ [])) refl refl refl (places-exactly .find-mask k a r x p n .0 e);
+  compare-runs = λ k a r x p n e. runs-in (In (5 ∷ 6 ∷ [])) refl refl (places-exactly .compare-runs k a r x p n .0 e);
+  compare-mask = λ k a r x p n e. find-in (In (1 ∷ 5 ∷ 6 ∷ [])) refl refl refl (places-exactly .compare-mask k a r x p n .0 e);
   pairs = λ k a r x p n e. pairs-in (In (7 ∷ [])) refl (places-exactly .pairs k a r x p n .0 e);
   ranges-in = λ k a r x p n e. ranges-in-in (In (1 ∷ 4 ∷ 7 ∷ [])) refl refl refl (places-exactly .ranges-in k a r x p n .0 e);
   read-ranges = λ k a r x p n e. read-ranges-in (In (1 ∷ 3 ∷ 4 ∷ 7 ∷ [])) refl refl refl refl (places-exactly .read-ranges k a r x p n .0 e);
@@ -210,6 +222,9 @@ numbers-only = record {
   walk = λ k a r x p n e. walk-in (In (1 ∷ 3 ∷ 4 ∷ 5 ∷ 7 ∷ 8 ∷ 9 ∷ 10 ∷ [])) refl refl refl refl refl refl refl refl (places-exactly .walk k a r x p n .0 e);
   fill = λ k a r x p n e. fill-in (In (1 ∷ 3 ∷ 4 ∷ 5 ∷ 7 ∷ 8 ∷ 9 ∷ 11 ∷ [])) refl refl refl refl refl refl refl refl (places-exactly .fill k a r x p n .0 e);
   check-tiles = λ k a r x p n e. check-in (In (1 ∷ 3 ∷ 4 ∷ 5 ∷ 8 ∷ 9 ∷ [])) refl refl refl refl refl refl (places-exactly .check-tiles k a r x p n .0 e);
+  check-own-tiles = λ k a r x p n e. own-in (In (1 ∷ 3 ∷ 4 ∷ 8 ∷ 9 ∷ [])) refl refl refl refl refl (places-exactly .check-own-tiles k a r x p n .0 e);
   decode-tiles = λ k a r x p n e. tiles-in (In (1 ∷ 3 ∷ 4 ∷ 5 ∷ 8 ∷ 9 ∷ [])) refl refl refl refl refl refl (places-exactly .decode-tiles k a r x p n .0 e);
+  stage = λ k a r x p n e. whole-in (In (1 ∷ 2 ∷ 3 ∷ 4 ∷ 5 ∷ 6 ∷ 7 ∷ 8 ∷ 9 ∷ 10 ∷ 13 ∷ [])) refl refl refl refl refl refl refl refl refl refl refl (places-exactly .stage k a r x p n .0 e);
+  publish = λ k a r x p n e. publish-in (In (1 ∷ 2 ∷ 3 ∷ 4 ∷ 5 ∷ 6 ∷ 7 ∷ 8 ∷ 9 ∷ 10 ∷ 13 ∷ [])) refl refl refl refl refl refl refl refl refl refl refl (places-exactly .publish k a r x p n .0 e);
   read = λ k a r x p n e. whole-in (In (1 ∷ 2 ∷ 3 ∷ 4 ∷ 5 ∷ 6 ∷ 7 ∷ 8 ∷ 9 ∷ 10 ∷ 13 ∷ [])) refl refl refl refl refl refl refl refl refl refl refl (places-exactly .read k a r x p n .0 e);
 }

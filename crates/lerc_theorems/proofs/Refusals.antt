@@ -38,8 +38,12 @@ use Rattle.lerc_validity.specs.declared.MaskAnswer.the-variants as mask
 use Rattle.lerc_validity.specs.Validity.{Prepared, MaskInForce, reused, new, which, maskSays, prepareSays, inForce}
 use Rattle.lerc_ranges.specs.Ranges.{noRanges, rangesSaid, rangesInSays, readRangesSays, constantWords, constantsSaid}
 use Rattle.lerc_validity.proofs.Prepared.{mask-right, prepared-right}
+use Rattle.lerc.specs.declared.StageAnswer.{StageAnswer}
+use Rattle.lerc.specs.declared.StageAnswer.the-variants as staged
+use Rattle.lerc.specs.declared.PublishAnswer.the-variants as published
 use Rattle.lerc.specs.declared.ReadAnswer.the-variants as read
 use Rattle.lerc.specs.Read.{Lent, room, Masked, masked, readSays, refusedAfter, WholeRead}
+use Rattle.lerc.specs.Stage.{publishSays, StageRead, Publishing}
 use Rattle.lerc_fills.specs.Each.{filledOf, fillEach}
 use Rattle.lerc_fills.proofs.Turns.{length-fill}
 use Rattle.lerc_theorems.specs.Promises.{HandedBack}
@@ -111,6 +115,15 @@ module _ (b : List ℕ) (h : Header) (r : Ranges) (m list : List ℕ) where
       go (ok k) e left = absurd (let y : 1 + filledOf b h r m list (length image) ns ≡ 0 = rw (e) at z in omega arith)
       go (fail why) e left = rw (skipped n image e) (left (sym (count-skips (length image) [] n ns e) ∙ z))
 
+-- ---- staging and publishing
+
+staged-keeps : {b : List ℕ} {reuse : Bool} {l : Lent} {why : Refusal} {spare list : List ℕ} → StageRead b reuse (staged.Refused why) l spare list → list ≡ l .list
+staged-keeps {b} {reuse} {l} p = let e = bind-fail (readSays b reuse l) _ (sym (p .says)) in p .list ∙ rw (e)
+
+published-keeps : {b : List ℕ} {reuse : Bool} {a : StageAnswer} {l : Lent} {why : Refusal} {kept image : List ℕ} → Publishing b reuse a (published.Refused why) l kept image
+    → (kept ≡ l .kept) × (image ≡ l .image)
+published-keeps {b} {reuse} {a} {l} p = let e = bind-fail (publishSays b reuse a l) _ (sym (p .says)) in (p .kept ∙ rw (e), p .image ∙ rw (e))
+
 pub refusals-keep : RefusalsKeep
 refusals-keep = record {
   decode-plan = λ k a x why p. decoded-keeps _ p;
@@ -129,6 +142,9 @@ refusals-keep = record {
       );
   none-filled = λ k a x p. p .image ∙ none-left _ _ _ _ _ _ _ (sym (p .says));
   tiles-image = λ k a x why p. tiled-keeps _ p .1;
+  stage-list = λ k a x why p. staged-keeps p;
+  publish-kept = λ k a x why p. published-keeps p .0;
+  publish-image = λ k a x why p. published-keeps p .1;
 }
 
 -- ---- what is handed out with a refusal

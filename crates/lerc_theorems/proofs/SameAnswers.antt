@@ -33,6 +33,11 @@ use Rattle.lerc_image.specs.declared.WalkAnswer.{WalkAnswer}
 use Rattle.lerc_image.specs.declared.WalkAnswer.the-variants as walk
 use Rattle.lerc_image.specs.declared.FillAnswer.{FillAnswer}
 use Rattle.lerc_image.specs.declared.FillAnswer.the-variants as fill
+use Rattle.lerc.specs.declared.Staged.{Staged}
+use Rattle.lerc.specs.declared.StageAnswer.{StageAnswer}
+use Rattle.lerc.specs.declared.StageAnswer.the-variants as stage
+use Rattle.lerc.specs.declared.PublishAnswer.{PublishAnswer}
+use Rattle.lerc.specs.declared.PublishAnswer.the-variants as publish
 use Rattle.lerc.specs.declared.ReadAnswer.{ReadAnswer}
 use Rattle.lerc.specs.declared.ReadAnswer.the-variants as read
 use Rattle.lerc_words.specs.Res.{Res, ok, fail, wordSaid}
@@ -53,6 +58,7 @@ use Rattle.lerc_sweep.specs.Sweep.{Way, rawFrom, blocksFrom, waySaid}
 use Rattle.lerc_image.specs.Walk.{Walk, walkSaid}
 use Rattle.lerc_image.specs.Fill.{fillSaid}
 use Rattle.lerc.specs.Read.{ReadTold, readSaid}
+use Rattle.lerc.specs.Stage.{stageSaid, PublishTold, publishSaid}
 
 back-same : {A B : Type 0} (said : A → B) (back : B → A) → ((a : A) → back (said a) ≡ a) → (a b : A) → said a ≡ said b → a ≡ b
 back-same said back h a b e = sym (h a) ∙ ap back e ∙ h b
@@ -251,6 +257,30 @@ fill-same = back-same fillSaid fill-back (λ a. go a)
     go : (a : FillAnswer) → fill-back (fillSaid a) ≡ a
     go (fill.Filled n) = refl
     go (fill.Refused r) = refl
+
+stage-back : Res Staged → StageAnswer
+stage-back (ok s) = stage.Staged s
+stage-back (fail r) = stage.Refused r
+
+pub stage-same : (a b : StageAnswer) → stageSaid a ≡ stageSaid b → a ≡ b
+unfolding stage-back
+stage-same = back-same stageSaid stage-back (λ a. go a)
+  where
+    go : (a : StageAnswer) → stage-back (stageSaid a) ≡ a
+    go (stage.Staged s) = refl
+    go (stage.Refused r) = refl
+
+publish-back : Res PublishTold → PublishAnswer
+publish-back (ok w) = publish.Published (w .end) (w .words)
+publish-back (fail r) = publish.Refused r
+
+pub publish-same : (a b : PublishAnswer) → publishSaid a ≡ publishSaid b → a ≡ b
+unfolding publish-back
+publish-same = back-same publishSaid publish-back (λ a. go a)
+  where
+    go : (a : PublishAnswer) → publish-back (publishSaid a) ≡ a
+    go (publish.Published end words) = refl
+    go (publish.Refused r) = refl
 
 read-back : Res ReadTold → ReadAnswer
 read-back (ok w) = read.Whole (w .header) (w .blocks) (w .end)

@@ -1,6 +1,6 @@
 -- What is not looked at, proved.
 -- Assumes nothing.
-use mathlib.Core.Path.{_≡_, _∙_, sym, ap, refl}
+use mathlib.Core.Path.{_≡_, _∙_, sym, ap, refl, subst}
 use mathlib.Core.Bool.{Bool, true, cond, _&&_}
 use mathlib.Core.List.{List, [], _∷_}
 use Prim.Native.Nat.{ℕ, _+_, _≤_, _<_, min}
@@ -36,13 +36,18 @@ use Rattle.lerc_image.specs.Blocks.{Chain, blockAt}
 use Rattle.lerc_image.specs.Paint.{scattered}
 use Rattle.lerc_image.specs.Walk.{Walk, walkSays, walkCount, walkOf, walkList}
 use Rattle.lerc_image.specs.Fill.{fillSays, fillCount, fillImage}
-use Rattle.lerc_image.specs.Tiles.{checkedTiles, roomToList, listedTiles, roomToFill, filledTiles, writtenList, writtenImage, tilesSays, tilesImage}
+use Rattle.lerc_image.specs.Own.{ownTiles}
+use Rattle.lerc_image.specs.Tiles.{checkedTiles, roomToList, listedTiles, tilesListed, roomToFill, filledTiles, writtenList, writtenImage, tilesSays, tilesImage}
 use Rattle.lerc_fills.specs.Each.{filledOf, fillEach}
 use Rattle.lerc.specs.Meaning.{Meaning, meaningFrom}
-use Rattle.lerc.specs.Read.{Lent, room, Masked, masked, readSays, readCount}
+use Rattle.lerc.specs.Read.{Lent, room, Masked, masked, readSays, readCount, published}
+use Rattle.lerc.specs.declared.StageAnswer.{StageAnswer}
+use Rattle.lerc.specs.declared.PublishAnswer.{PublishAnswer}
+use Rattle.lerc.specs.Stage.{stagedOf, stagedSpare, stagedList, publishSays, bodyTold, StageRead, Publishing}
 use Rattle.lerc_theorems.specs.Calls.{WalkCall, FillCall}
 use Rattle.lerc_theorems.specs.Unread.{declared, SameDeclared, SameBelow, SameWithin, Unread}
 use Rattle.lerc_theorems.proofs.SameAnswers.{header-same, open-same, mask-same, walk-same, fill-same, read-same}
+use Rattle.lerc_theorems.proofs.Determined.{staged-same, published-same}
 use Rattle.lerc_theorems.proofs.Calls.{header-call, prepare-call, ranges-call, walk-call, fill-call, each-call, tiles-call, read-call}
 use Rattle.lerc_theorems.proofs.Bodies.{swept-in, block-in, chain-in}
 use Rattle.lerc_theorems.proofs.Front.{Agree, section-same, at-agrees, chain-agrees, sweep-agrees, coded-agrees}
@@ -83,6 +88,25 @@ module _ (b c : List ℕ) (same : SameDeclared b c) where
         go : (x : Res Masked) → masked b reuse l ≡ x → (x >>= λ (m : Masked). meaningFrom b (m .header) (m .mask)) ≡ (x >>= λ (m : Masked). meaningFrom c (m .header) (m .mask))
         go (ok m) e = rw (below-as (masked-is b reuse l m e .header))
         go (fail r) e = refl
+
+    -- staging and publishing the one blob is staging and publishing the other
+    stage-as : {r : StageAnswer} {spare list : List ℕ} → StageRead c reuse r l spare list → StageRead b reuse r l spare list
+    stage-as p = record {
+      says = p .says ∙ ap (λ (x : Res Meaning). x >>= λ m. ok (stagedOf m)) (sym read-as);
+      spare = p .spare ∙ ap (λ (x : Res Masked). stagedSpare x (l .spare)) (sym masked-as);
+      list = p .list ∙ ap (λ (x : Res Meaning). stagedList x (l .list)) (sym read-as);
+    }
+
+    publish-says-as : (a : StageAnswer) → publishSays c reuse a l ≡ publishSays b reuse a l
+    unfolding publishSays
+    publish-says-as a = rw (read-as)
+
+    publish-as : {a : StageAnswer} {r : PublishAnswer} {kept image : List ℕ} → Publishing c reuse a r l kept image → Publishing b reuse a r l kept image
+    publish-as {a} p = record {
+      says = p .says ∙ ap (λ (x : Res Meaning). x >>= λ m. ok (bodyTold (m .header) (m .body))) (publish-says-as a);
+      kept = p .kept ∙ ap (λ (x : Res Meaning). after x (l .kept) (λ m. published m l .kept)) (publish-says-as a);
+      image = p .image ∙ ap (λ (x : Res Meaning). after x (l .image) (λ m. published m l .image)) (publish-says-as a);
+    }
 
 -- ---- a blob with a header by value
 
@@ -142,6 +166,14 @@ module _ (b c : List ℕ) (h : Header) (same : SameBelow h b c) where
   listed-as : (m : List ℕ) (at : ℕ) (list : List ℕ) → listedTiles b h m at list ≡ listedTiles c h m at list
   unfolding listedTiles roomToList
   listed-as m at list = rw (held-as, same)
+
+  own-as : (maxima : List ℕ) (at : ℕ) → ownTiles b h maxima at ≡ ownTiles c h maxima at
+  unfolding ownTiles
+  own-as maxima at = rw (held-as, same)
+
+  compared-as : (m : List ℕ) (at : ℕ) (list : List ℕ) → tilesListed b h m at list ≡ tilesListed c h m at list
+  unfolding tilesListed roomToList
+  compared-as m at list = rw (held-as, same)
 
   filled-as : (m maxima list image : List ℕ) → filledTiles b h m maxima list image ≡ filledTiles c h m maxima list image
   unfolding filledTiles roomToFill
@@ -273,6 +305,14 @@ unread = record {
     read-same said told (read-call p .says ∙ ap (λ (x : Res Meaning). x >>= readCount) (read-as b c s reuse old) ∙ sym (read-call q .says)),
     read-call p .lent ∙ rw (read-as b c s reuse old, masked-as b c s reuse old) (sym (read-call q .lent)),
   );
+  stage = λ k a c r q x y e s p t.
+      let t' = subst (λ (z : Bool × (RefT (List ℕ) × (RefT (List ℕ) × (RefT (List ℕ) × (RefT (List ℕ) × Unit {0}))))).
+      StageRead (c .0 .now) (z .0) q (record { kept = z .1 .0 .now; spare = z .1 .1 .0 .now; list = z .1 .1 .1 .0 .now; image = z .1 .1 .1 .1 .0 .now }) (y .1 .1 .1 .0 .now) (y .1 .1 .1 .1 .0 .now)) (sym e) t in
+      staged-same p (stage-as (a .0 .now) (c .0 .now) s _ _ t');
+  publish = λ k a c r q x y e s p t.
+      let t' = subst (λ (z : Bool × (StageAnswer × (RefT (List ℕ) × (RefT (List ℕ) × (RefT (List ℕ) × (RefT (List ℕ) × Unit {0})))))).
+      Publishing (c .0 .now) (z .0) (z .1 .0) q (record { kept = z .1 .1 .0 .now; spare = z .1 .1 .1 .0 .now; list = z .1 .1 .1 .1 .0 .now; image = z .1 .1 .1 .1 .1 .0 .now }) (y .1 .1 .1 .0 .now) (y .1 .1 .1 .1 .1 .1 .0 .now)) (sym e) t in
+      published-same p (publish-as (a .0 .now) (c .0 .now) s _ _ t');
   prepare = λ b c h reuse kept said told old new other s p q.
       let e = prepare-as b c h s reuse kept (length old) in (
         mask-same said told (prepare-call p .says ∙ ap (λ (x : Res MaskInForce). x >>= which) e ∙ sym (prepare-call q .says)),
@@ -305,6 +345,22 @@ unread = record {
         ∙ ap (λ (z : Header × (RefT (List ℕ) × (RefT (List ℕ) × (ℕ × Unit {0})))). walkOf (z .0) (checkedTiles (c .0 .now) (z .0) (z .1 .0 .now) (z .1 .1 .0 .now) (z .1 .1 .1 .0))) e
         ∙ sym t
         ),
+    refl,
+  );
+  check-own-tiles = λ k a c r q x y e s p t. (
+    walk-same r q (
+        p
+        ∙ ap (walkOf (a .1 .0)) (own-as (a .0 .now) (c .0 .now) (a .1 .0) s (a .1 .1 .0 .now) (a .1 .1 .1 .0))
+        ∙ ap (λ (z : Header × (RefT (List ℕ) × (ℕ × Unit {0}))). walkOf (z .0) (ownTiles (c .0 .now) (z .0) (z .1 .0 .now) (z .1 .1 .0))) e
+        ∙ sym t
+        ),
+    refl,
+  );
+  are-listed = λ k a c r q x y e s p t. (
+    p
+        ∙ compared-as (a .0 .now) (c .0 .now) (a .1 .0) s (a .1 .1 .0 .now) (a .1 .1 .1 .0) (a .1 .1 .1 .1 .0 .now)
+        ∙ ap (λ (z : Header × (RefT (List ℕ) × (ℕ × (RefT (List ℕ) × Unit {0})))). tilesListed (c .0 .now) (z .0) (z .1 .0 .now) (z .1 .1 .0) (z .1 .1 .1 .0 .now)) e
+        ∙ sym t,
     refl,
   );
   list-tiles = λ k a c r q x y e s p t. (

@@ -37,6 +37,8 @@ use Rattle.lerc_mask.specs.declared.RunsAnswer.the-variants as runs-answer
 use Rattle.lerc_validity.proofs.prepare_mask.Reads as prepare-mask
 use Rattle.lerc_validity.specs.declared.MaskAnswer.the-variants as mask-answer
 use Rattle.lerc_validity.proofs.find_mask.Reads as find-mask
+use Rattle.lerc_validity.proofs.compare_mask.Reads as compare-mask
+use Rattle.lerc_mask.proofs.compare.Reads as compare-runs
 use Rattle.lerc_ranges.proofs.ranges_in.Reads as ranges-in
 use Rattle.lerc_ranges.proofs.pairs.Reads as pairs
 use Rattle.lerc_ranges.specs.declared.PairsAnswer.the-variants as pairs-answer
@@ -57,12 +59,18 @@ use Rattle.lerc_image.specs.declared.WalkAnswer.the-variants as walk-answer
 use Rattle.lerc_image.proofs.fill.Reads as fill
 use Rattle.lerc_image.specs.declared.FillAnswer.the-variants as fill-answer
 use Rattle.lerc_image.proofs.check_tiles.Reads as check-tiles
+use Rattle.lerc_image.proofs.check_own_tiles.Reads as check-own-tiles
 use Rattle.lerc_image.proofs.decode_tiles.Reads as decode-tiles
+use Rattle.lerc.specs.declared.StageAnswer.the-variants as stage-answer
+use Rattle.lerc.specs.declared.PublishAnswer.the-variants as publish-answer
 use Rattle.lerc.specs.declared.ReadAnswer.the-variants as read-answer
+use Rattle.lerc.specs.Read.{Lent}
+use Rattle.lerc.proofs.stage.Reads as stage
+use Rattle.lerc.proofs.publish.Reads as publish
 use Rattle.lerc.proofs.read.Reads as read
 use Rattle.lerc_theorems.specs.Promises.{lent}
 use Rattle.lerc_theorems.specs.BlockTable.{At, WordRefused, IntegerRefused, KindRefused, SampleRefused, StoredRefused, PlanRefused, CountsRefused, PlannedRefused, ConstantsRefused, BlockPlanRefused, ReadBlockRefused}
-use Rattle.lerc_theorems.specs.Table.{HeldRefused, HeaderRefused, RunsRefused, PrepareRefused, FindRefused, PairsRefused, RangesInRefused, ReadRangesRefused, SweepRefused, WalkRefused, FillRefused, CheckRefused, TilesRefused, WholeRefused}
+use Rattle.lerc_theorems.specs.Table.{HeldRefused, HeaderRefused, RunsRefused, PrepareRefused, FindRefused, PairsRefused, RangesInRefused, ReadRangesRefused, SweepRefused, WalkRefused, FillRefused, CheckRefused, OwnRefused, TilesRefused, WholeRefused, PublishRefused}
 
 -- an answer that is this refusal
 abbrev pub By : {R : Type 0} → (Refusal → R) → R → Refusal → Type 0
@@ -106,6 +114,8 @@ pub record EachRefusing (Agree : (Refusal → Type 0) → (Refusal → Type 0) �
   pub decode-mask : Promised Agree decode-mask.Post (By runs-answer.Refused) (λ a. RunsRefused (a .0 .now) (a .1 .0) (a .1 .1 .0) (length (a .1 .1 .1 .0 .now)))
   pub prepare-mask : Promised Agree prepare-mask.Post (By mask-answer.Refused) (λ a. PrepareRefused (a .0 .now) (a .1 .0) (a .1 .1 .0) (a .1 .1 .1 .0 .now) (length (a .1 .1 .1 .1 .0 .now)))
   pub find-mask : Promised Agree find-mask.Post (By mask-answer.Refused) (λ a. FindRefused (a .0 .now) (a .1 .0) (a .1 .1 .0) (a .1 .1 .1 .0 .now) (length (a .1 .1 .1 .1 .0 .now)))
+  pub compare-runs : Promised Agree compare-runs.Post (λ r. By runs-answer.Refused (r .answer)) (λ a. RunsRefused (a .0 .now) (a .1 .0) (a .1 .1 .0) (length (a .1 .1 .1 .0 .now)))
+  pub compare-mask : Promised Agree compare-mask.Post (λ r. By mask-answer.Refused (r .answer)) (λ a. FindRefused (a .0 .now) (a .1 .0) (a .1 .1 .0) (a .1 .1 .1 .0 .now) (length (a .1 .1 .1 .1 .0 .now)))
   pub pairs : Promised Agree pairs.Post (By pairs-answer.Refused) (λ a. PairsRefused (a .0) (a .1 .0))
   pub ranges-in : Promised Agree ranges-in.Post (λ r. By ranges-answer.Refused (r .answer)) (λ a. RangesInRefused (a .0 .now) (a .1 .0))
   pub read-ranges : Promised Agree read-ranges.Post (λ r. By ranges-answer.Refused (r .answer)) (λ a. ReadRangesRefused (a .0 .now) (a .1 .0))
@@ -118,7 +128,10 @@ pub record EachRefusing (Agree : (Refusal → Type 0) → (Refusal → Type 0) �
   pub walk : Promised Agree walk.Post (By walk-answer.Refused) (λ a. WalkRefused (a .0 .now) (a .1 .0) (a .1 .1 .0) (a .1 .1 .1 .0 .now) (length (a .1 .1 .1 .1 .0 .now)))
   pub fill : Promised Agree fill.Post (By fill-answer.Refused) (λ a. FillRefused (a .0 .now) (a .1 .0) (a .1 .1 .0) (a .1 .1 .1 .0 .now) (a .1 .1 .1 .1 .0 .now) (a .1 .1 .1 .1 .1 .0) (length (a .1 .1 .1 .1 .1 .1 .0 .now)))
   pub check-tiles : Promised Agree check-tiles.Post (By walk-answer.Refused) (λ a. CheckRefused (a .0 .now) (a .1 .0) (a .1 .1 .0 .now) (a .1 .1 .1 .0 .now) (a .1 .1 .1 .1 .0))
+  pub check-own-tiles : Promised Agree check-own-tiles.Post (By walk-answer.Refused) (λ a. OwnRefused (a .0 .now) (a .1 .0) (a .1 .1 .0 .now) (a .1 .1 .1 .0))
   pub decode-tiles : Promised Agree decode-tiles.Post (By walk-answer.Refused) (λ a. TilesRefused (a .0 .now) (a .1 .0) (a .1 .1 .0 .now) (a .1 .1 .1 .0 .now) (a .1 .1 .1 .1 .0) (length (a .1 .1 .1 .1 .1 .0 .now)) (length (a .1 .1 .1 .1 .1 .1 .0 .now)))
+  pub stage : Promised Agree stage.Post (By stage-answer.Refused) (λ a. WholeRefused (a .0 .now) (a .1 .0) (lent a))
+  pub publish : Promised Agree publish.Post (By publish-answer.Refused) (λ a. PublishRefused (a .0 .now) (a .1 .0) (a .1 .1 .0) (record { kept = a .1 .1 .1 .0 .now; spare = a .1 .1 .1 .1 .0 .now; list = a .1 .1 .1 .1 .1 .0 .now; image = a .1 .1 .1 .1 .1 .1 .0 .now }))
   pub read : Promised Agree read.Post (By read-answer.Refused) (λ a. WholeRefused (a .0 .now) (a .1 .0) (lent a))
 
 -- "given when": each number of each function, exactly
@@ -147,6 +160,8 @@ pub record NumbersOnly : Type 0 where
   pub decode-mask : Only decode-mask.Post (By runs-answer.Refused) (5 ∷ 6 ∷ [])
   pub prepare-mask : Only prepare-mask.Post (By mask-answer.Refused) (1 ∷ 3 ∷ 4 ∷ 5 ∷ 6 ∷ [])
   pub find-mask : Only find-mask.Post (By mask-answer.Refused) (1 ∷ 5 ∷ 6 ∷ [])
+  pub compare-runs : Only compare-runs.Post (λ r. By runs-answer.Refused (r .answer)) (5 ∷ 6 ∷ [])
+  pub compare-mask : Only compare-mask.Post (λ r. By mask-answer.Refused (r .answer)) (1 ∷ 5 ∷ 6 ∷ [])
   pub pairs : Only pairs.Post (By pairs-answer.Refused) (7 ∷ [])
   pub ranges-in : Only ranges-in.Post (λ r. By ranges-answer.Refused (r .answer)) (1 ∷ 4 ∷ 7 ∷ [])
   pub read-ranges : Only read-ranges.Post (λ r. By ranges-answer.Refused (r .answer)) (1 ∷ 3 ∷ 4 ∷ 7 ∷ [])
@@ -159,5 +174,8 @@ pub record NumbersOnly : Type 0 where
   pub walk : Only walk.Post (By walk-answer.Refused) (1 ∷ 3 ∷ 4 ∷ 5 ∷ 7 ∷ 8 ∷ 9 ∷ 10 ∷ [])
   pub fill : Only fill.Post (By fill-answer.Refused) (1 ∷ 3 ∷ 4 ∷ 5 ∷ 7 ∷ 8 ∷ 9 ∷ 11 ∷ [])
   pub check-tiles : Only check-tiles.Post (By walk-answer.Refused) (1 ∷ 3 ∷ 4 ∷ 5 ∷ 8 ∷ 9 ∷ [])
+  pub check-own-tiles : Only check-own-tiles.Post (By walk-answer.Refused) (1 ∷ 3 ∷ 4 ∷ 8 ∷ 9 ∷ [])
   pub decode-tiles : Only decode-tiles.Post (By walk-answer.Refused) (1 ∷ 3 ∷ 4 ∷ 5 ∷ 8 ∷ 9 ∷ [])
+  pub stage : Only stage.Post (By stage-answer.Refused) (1 ∷ 2 ∷ 3 ∷ 4 ∷ 5 ∷ 6 ∷ 7 ∷ 8 ∷ 9 ∷ 10 ∷ 13 ∷ [])
+  pub publish : Only publish.Post (By publish-answer.Refused) (1 ∷ 2 ∷ 3 ∷ 4 ∷ 5 ∷ 6 ∷ 7 ∷ 8 ∷ 9 ∷ 10 ∷ 13 ∷ [])
   pub read : Only read.Post (By read-answer.Refused) (1 ∷ 2 ∷ 3 ∷ 4 ∷ 5 ∷ 6 ∷ 7 ∷ 8 ∷ 9 ∷ 10 ∷ 13 ∷ [])

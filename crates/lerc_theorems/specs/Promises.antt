@@ -22,6 +22,8 @@ use Rattle.lerc_slices.proofs.copy_bytes.Reads as copy-bytes
 use Rattle.lerc_slices.proofs.copy_words.Reads as copy-words
 use Rattle.lerc_slices.proofs.fill_bytes.Reads as fill-bytes
 use Rattle.lerc_slices.proofs.fill_words.Reads as fill-words
+use Rattle.lerc_slices.proofs.begins_with.Reads as begins-with
+use Rattle.lerc_slices.proofs.all_bytes.Reads as all-bytes
 use Rattle.lerc_numeric.proofs.IntegerAnswer.refusal.Reads as integer-refusal
 use Rattle.lerc_numeric.proofs.plus.Reads as plus
 use Rattle.lerc_numeric.proofs.scale.Reads as scale
@@ -66,12 +68,15 @@ use Rattle.lerc_mask.proofs.count.Reads as count-valid
 use Rattle.lerc_mask.proofs.count_from.Reads as count-from
 use Rattle.lerc_mask.proofs.ones_word.Reads as ones-word
 use Rattle.lerc_mask.proofs.decode.Reads as decode-mask
+use Rattle.lerc_mask.proofs.compare.Reads as compare-runs
+use Rattle.lerc_mask.proofs.byte_from.Reads as byte-from
 use Rattle.lerc_validity.proofs.MaskAnswer.refusal.Reads as mask-refusal
 use Rattle.lerc_ranges.proofs.RangesAnswer.refusal.Reads as ranges-refusal
 use Rattle.lerc_ranges.proofs.PairsAnswer.refusal.Reads as pairs-refusal
 use Rattle.lerc_ranges.proofs.ConstantsAnswer.refusal.Reads as constants-refusal
 use Rattle.lerc_validity.proofs.prepare_mask.Reads as prepare-mask
 use Rattle.lerc_validity.proofs.find_mask.Reads as find-mask
+use Rattle.lerc_validity.proofs.compare_mask.Reads as compare-mask
 use Rattle.lerc_validity.specs.declared.MaskAnswer.the-variants as mask
 use Rattle.lerc_validity.proofs.mask_in_force.Reads as mask-in-force
 use Rattle.lerc_ranges.proofs.pairs.Reads as pairs
@@ -92,13 +97,19 @@ use Rattle.lerc_sweep.proofs.read_sweep.Reads as read-sweep
 use Rattle.lerc_image.proofs.walk.Reads as walk
 use Rattle.lerc_image.proofs.fill.Reads as fill
 use Rattle.lerc_image.proofs.check_tiles.Reads as check-tiles
+use Rattle.lerc_image.proofs.check_own_tiles.Reads as check-own-tiles
 use Rattle.lerc_image.proofs.list_tiles.Reads as list-tiles
+use Rattle.lerc_image.proofs.are_listed.Reads as are-listed
 use Rattle.lerc_image.proofs.fill_tiles.Reads as fill-tiles
 use Rattle.lerc_image.proofs.write_tiles.Reads as write-tiles
 use Rattle.lerc_image.proofs.decode_tiles.Reads as decode-tiles
 use Rattle.lerc_fills.proofs.fill_each.Reads as fill-each
 use Rattle.lerc.specs.Read.{Lent}
+use Rattle.lerc.proofs.StageAnswer.refusal.Reads as stage-refusal
+use Rattle.lerc.proofs.PublishAnswer.refusal.Reads as publish-refusal
 use Rattle.lerc.proofs.ReadAnswer.refusal.Reads as read-refusal
+use Rattle.lerc.proofs.stage.Reads as stage
+use Rattle.lerc.proofs.publish.Reads as publish
 use Rattle.lerc.proofs.read.Reads as read
 use Rattle.lerc_text.proofs.put_line.Reads as put-line
 use Rattle.lerc_text.proofs.put_refusal.Reads as put-refusal
@@ -155,6 +166,8 @@ pub record NoRoom : Type 0 where
   pub copy-words : Writes copy-words.Pre copy-words.Post (λ o. o .1 .0 .now)
   pub fill-bytes : Writes fill-bytes.Pre fill-bytes.Post (λ o. o .1 .0 .now)
   pub fill-words : Writes fill-words.Pre fill-words.Post (λ o. o .1 .0 .now)
+  pub begins-with : Answers begins-with.Pre begins-with.Post
+  pub all-bytes : Answers all-bytes.Pre all-bytes.Post
   -- lerc_checksum
   pub checksum : Answers checksum.Pre checksum.Post
   -- lerc_numeric
@@ -205,6 +218,8 @@ pub record NoRoom : Type 0 where
   pub count-from : Answers count-from.Pre count-from.Post
   pub ones-word : Answers ones-word.Pre ones-word.Post
   pub decode-mask : Writes decode-mask.Pre decode-mask.Post (λ o. o .1 .1 .1 .0 .now)
+  pub compare-runs : Answers compare-runs.Pre compare-runs.Post
+  pub byte-from : Answers byte-from.Pre byte-from.Post
   -- lerc_validity and lerc_ranges
   pub mask-refusal : Answers mask-refusal.Pre mask-refusal.Post
   pub ranges-refusal : Answers ranges-refusal.Pre ranges-refusal.Post
@@ -212,6 +227,7 @@ pub record NoRoom : Type 0 where
   pub constants-refusal : Answers constants-refusal.Pre constants-refusal.Post
   pub prepare-mask : Writes prepare-mask.Pre prepare-mask.Post (λ o. o .1 .1 .1 .1 .0 .now)
   pub find-mask : Writes find-mask.Pre find-mask.Post (λ o. o .1 .1 .1 .1 .0 .now)
+  pub compare-mask : Answers compare-mask.Pre compare-mask.Post
   -- a part of a slice: what it holds, and where it stands
   pub mask-in-force : Fixed {B = List ℕ × (ℕ × ℕ)} {S = Unit {0}} mask-in-force.Pre mask-in-force.Post (λ r. (r .now, r .ptr)) (λ o. tt)
   pub pairs : Answers pairs.Pre pairs.Post
@@ -235,14 +251,22 @@ pub record NoRoom : Type 0 where
   pub walk : Writes walk.Pre walk.Post (λ o. o .1 .1 .1 .1 .0 .now)
   pub fill : Writes fill.Pre fill.Post (λ o. o .1 .1 .1 .1 .1 .1 .0 .now)
   pub check-tiles : Answers check-tiles.Pre check-tiles.Post
+  pub check-own-tiles : Answers check-own-tiles.Pre check-own-tiles.Post
   pub list-tiles : Writes list-tiles.Pre list-tiles.Post (λ o. o .1 .1 .1 .1 .0 .now)
+  pub are-listed : Answers are-listed.Pre are-listed.Post
   pub fill-tiles : Writes fill-tiles.Pre fill-tiles.Post (λ o. o .1 .1 .1 .1 .1 .0 .now)
   pub write-tiles : Writes {S = List ℕ × List ℕ} write-tiles.Pre write-tiles.Post (λ o. (o .1 .1 .1 .1 .1 .0 .now, o .1 .1 .1 .1 .1 .1 .0 .now))
   pub decode-tiles : Writes {S = List ℕ × List ℕ} decode-tiles.Pre decode-tiles.Post (λ o. (o .1 .1 .1 .1 .1 .0 .now, o .1 .1 .1 .1 .1 .1 .0 .now))
   -- lerc_fills
   pub fill-each : Writes fill-each.Pre fill-each.Post (λ o. o .1 .1 .1 .1 .1 .1 .0 .now)
   -- lerc
+  pub stage-refusal : Answers stage-refusal.Pre stage-refusal.Post
+  pub publish-refusal : Answers publish-refusal.Pre publish-refusal.Post
   pub read-refusal : Answers read-refusal.Pre read-refusal.Post
+  -- spare and list; image and kept mask are lent to be looked at alone
+  pub stage : Writes {S = List ℕ × List ℕ} stage.Pre stage.Post (λ o. (o .1 .1 .1 .0 .now, o .1 .1 .1 .1 .0 .now))
+  -- kept mask and image; spare and list are lent to be looked at alone
+  pub publish : Writes {S = List ℕ × List ℕ} publish.Pre publish.Post (λ o. (o .1 .1 .1 .0 .now, o .1 .1 .1 .1 .1 .1 .0 .now))
   pub read : Writes read.Pre read.Post lent
   -- lerc_text
   pub put-line : Writes put-line.Pre put-line.Post (λ o. o .0 .now)

@@ -38,14 +38,18 @@ use Rattle.lerc_image.proofs.walk.Reads as walk
 use Rattle.lerc_image.proofs.fill.Reads as fill
 use Rattle.lerc_image.proofs.decode_tiles.Reads as decode-tiles
 use Rattle.lerc_fills.proofs.fill_each.Reads as each
+use Rattle.lerc.specs.declared.StageAnswer.the-variants as staged
+use Rattle.lerc.specs.declared.PublishAnswer.the-variants as published
 use Rattle.lerc.specs.Read.{Lent, room}
+use Rattle.lerc.proofs.stage.Reads as stage
+use Rattle.lerc.proofs.publish.Reads as publish
 use Rattle.lerc_theorems.specs.Calls.{FillCall, EachCall}
 
 -- a promise by which a refusal leaves what was lent: `before` of the inputs is `left` of the outputs
 abbrev pub RefusalKeeps : {K A R O S : Type 0} → (K → A → R → O → Type 0) → (Refusal → R) → (A → S) → (O → S) → Type 0
 RefusalKeeps {K} {A} {R} {O} Post Refused before left = (k : K) (a : A) (x : O) (why : Refusal) → Post k a (Refused why) x → left x ≡ before a
 
--- every public function that is lent a slice to write and can refuse, whole read apart
+-- every public function that is lent a slice to write and can refuse, whole read and the spare of staging apart
 pub record RefusalsKeep : Type 0 where
   pub decode-plan : RefusalKeeps decode-plan.Post counts.Refused (λ a. a .1 .1 .0 .now) (λ o. o .1 .1 .0 .now)
   pub decode-counts : RefusalKeeps decode-counts.Post counts.Refused (λ a. a .1 .1 .0 .now) (λ o. o .1 .1 .0 .now)
@@ -63,6 +67,10 @@ pub record RefusalsKeep : Type 0 where
   -- the list, and the image
   pub tiles-list : RefusalKeeps decode-tiles.Post walked.Refused (λ a. a .1 .1 .1 .1 .1 .0 .now) (λ o. o .1 .1 .1 .1 .1 .0 .now)
   pub tiles-image : RefusalKeeps decode-tiles.Post walked.Refused (λ a. a .1 .1 .1 .1 .1 .1 .0 .now) (λ o. o .1 .1 .1 .1 .1 .1 .0 .now)
+  pub stage-list : RefusalKeeps stage.Post staged.Refused (λ a. a .1 .1 .1 .1 .0 .now) (λ o. o .1 .1 .1 .1 .0 .now)
+  -- "its refusal changes no lent slice"
+  pub publish-kept : RefusalKeeps publish.Post published.Refused (λ a. a .1 .1 .1 .0 .now) (λ o. o .1 .1 .1 .0 .now)
+  pub publish-image : RefusalKeeps publish.Post published.Refused (λ a. a .1 .1 .1 .1 .1 .1 .0 .now) (λ o. o .1 .1 .1 .1 .1 .1 .0 .now)
 
 -- "A refusal carries its number, and 0 for each count and offset; a part to be handed back is then empty."
 -- An answer that is an enum holds nothing but number and place where it is a refusal; these are the others.

@@ -23,7 +23,11 @@ use Rattle.lerc_ranges.specs.Ranges.{maximaAt, rangesEnd, codedRanges, pairsRig
 use Rattle.lerc_sweep.specs.Sweep.{rawFrom, blocksFrom, hasModeByte, swept}
 use Rattle.lerc_image.specs.Geometry.{tileOf, validInTile}
 use Rattle.lerc_image.specs.Blocks.{Chain, chain}
-use Rattle.lerc.specs.Read.{Lent, room, Masked, masked}
+use Rattle.lerc_image.specs.Own.{ownMask}
+use Rattle.lerc.specs.declared.StageAnswer.{StageAnswer}
+use Rattle.lerc.specs.Meaning.{Meaning}
+use Rattle.lerc.specs.Read.{Lent, room, Masked, masked, readSays}
+use Rattle.lerc.specs.Stage.{wasStaged}
 use Rattle.lerc_theorems.specs.MaskTable.{CodedWrong}
 use Rattle.lerc_theorems.specs.BlockTable.{At, ConstantsRefused, BlockRefused}
 
@@ -238,6 +242,11 @@ pub data CheckRefused (b : List ℕ) (h : Header) (m maxima : List ℕ) (at : �
   check-blocks : {j : Refusal} → HeldRight h (length b) → maskLength (shapeOf h) ≤ length m → ChainRefused (take (h .size) b) h maxima m (blockCount (shapeOf h)) 0 at j
       → CheckRefused b h m maxima at j
 
+-- by the blob's own mask: no room is asked for
+pub data OwnRefused (b : List ℕ) (h : Header) (maxima : List ℕ) (at : ℕ) : Refusal → Type 0 where
+  own-held : {j : Refusal} → HeldRefused h (length b) j → OwnRefused b h maxima at j
+  own-blocks : {j : Refusal} → HeldRight h (length b) → ChainRefused (take (h .size) b) h maxima (ownMask (take (h .size) b) h) (blockCount (shapeOf h)) 0 at j → OwnRefused b h maxima at j
+
 pub data TilesRefused (b : List ℕ) (h : Header) (m maxima : List ℕ) (at entries words : ℕ) : Refusal → Type 0 where
   tiles-held : {j : Refusal} → HeldRefused h (length b) j → TilesRefused b h m maxima at entries words j
   tiles-room : HeldRight h (length b) → NoFillRoom h m entries words → TilesRefused b h m maxima at entries words (refuse 5)
@@ -265,3 +274,8 @@ pub data WholeRefused (b : List ℕ) (reuse : Bool) (l : Lent) : Refusal → Typ
   whole-room : (h : Header) → headerSays b ≡ ok h → TooShort h l → WholeRefused b reuse l (refuse 5)
   whole-mask : (h : Header) → headerSays b ≡ ok h → room h l ≡ true → MaskWrong (take (h .size) b) h reuse (l .kept) → WholeRefused b reuse l (placed 66 (refuse 6))
   whole-body : {n : Refusal} (k : Masked) → masked b reuse l ≡ ok k → BodyRefused (take (k .header .size) b) (k .header) (bytesOf (k .mask)) n → WholeRefused b reuse l n
+
+-- publishing: what the blob itself earns, then 3 for an answer, a spare or a list that staging did not give
+pub data PublishRefused (b : List ℕ) (reuse : Bool) (given : StageAnswer) (l : Lent) : Refusal → Type 0 where
+  publish-blob : {n : Refusal} → WholeRefused b reuse l n → PublishRefused b reuse given l n
+  publish-given : (m : Meaning) → readSays b reuse l ≡ ok m → wasStaged m given l ≡ false → PublishRefused b reuse given l (refuse 3)

@@ -24,11 +24,15 @@ use Rattle.lerc_image.specs.declared.FillAnswer.{FillAnswer}
 use Rattle.lerc_image.specs.declared.FillAnswer.the-variants as fill-answer
 use Rattle.lerc_image.specs.Blocks.{blockAt}
 use Rattle.lerc_image.proofs.check_tiles.Reads as checking
+use Rattle.lerc_image.proofs.check_own_tiles.Reads as checking-own
 use Rattle.lerc_image.proofs.list_tiles.Reads as listing
+use Rattle.lerc_image.proofs.are_listed.Reads as comparing
 use Rattle.lerc_image.proofs.fill_tiles.Reads as filling
 use Rattle.lerc_image.proofs.write_tiles.Reads as writing
 use Rattle.lerc.specs.declared.ReadAnswer.{ReadAnswer}
 use Rattle.lerc.specs.Read.{Lent}
+use Rattle.lerc.proofs.stage.Reads as staging
+use Rattle.lerc.proofs.publish.Reads as publishing
 use Rattle.lerc_theorems.specs.Calls.{HeaderCall, PrepareCall, RangesCall, WalkCall, FillCall, EachCall, TilesCall, ReadCall}
 
 -- the size that a blob declares, and at least its header
@@ -53,12 +57,19 @@ abbrev pub BehindSize : {K Q R O S : Type 0} → (K → RefT (List ℕ) × (Head
 BehindSize {K} {Q} {R} {O} Post left =
     (k : K) (a c : RefT (List ℕ) × (Header × Q)) (r q : R) (x y : O) → a .1 ≡ c .1 → SameBelow (a .1 .0) (a .0 .now) (c .0 .now) → Post k a r x → Post k c q y → (r ≡ q) × (left x ≡ left y)
 
+-- The same of a promise whose inputs are a blob, of which no header is given, and others.
+abbrev pub BehindDeclared : {K Q R O S : Type 0} → (K → RefT (List ℕ) × Q → R → O → Type 0) → (O → S) → Type 0
+BehindDeclared {K} {Q} {R} {O} Post left =
+    (k : K) (a c : RefT (List ℕ) × Q) (r q : R) (x y : O) → a .1 ≡ c .1 → SameDeclared (a .0 .now) (c .0 .now) → Post k a r x → Post k c q y → (r ≡ q) × (left x ≡ left y)
+
 pub record Unread : Type 0 where
   -- "Bytes after size .. are never looked at", by any function that is lent a whole blob
   pub open-blob : (k : _) (a c : RefT (List ℕ) × Unit {0}) (r q : _) (x y : _) → SameDeclared (a .0 .now) (c .0 .now) → opening.Post k a r x → opening.Post k c q y → r ≡ q
   pub header : (b c : List ℕ) (said told : HeaderAnswer) → SameDeclared b c → HeaderCall b said → HeaderCall c told → said ≡ told
   pub read : (b c : List ℕ) (reuse : Bool) (said told : ReadAnswer) (old new other : Lent) → SameDeclared b c → ReadCall b reuse said old new → ReadCall c reuse told old other
       → (said ≡ told) × (new ≡ other)
+  pub stage : BehindDeclared {S = List ℕ × List ℕ} staging.Post (λ o. (o .1 .1 .1 .0 .now, o .1 .1 .1 .1 .0 .now))
+  pub publish : BehindDeclared {S = List ℕ × List ℕ} publishing.Post (λ o. (o .1 .1 .1 .0 .now, o .1 .1 .1 .1 .1 .1 .0 .now))
   pub prepare : (b c : List ℕ) (h : Header) (reuse : Bool) (kept : List ℕ) (said told : MaskAnswer) (old new other : List ℕ) → SameBelow h b c
       → PrepareCall b h reuse kept said old new → PrepareCall c h reuse kept told old other → (said ≡ told) × (new ≡ other)
   pub ranges : (b c : List ℕ) (h : Header) (said told : RangesRead) → SameBelow h b c → RangesCall b h said → RangesCall c h told → said ≡ told
@@ -72,7 +83,9 @@ pub record Unread : Type 0 where
       → TilesCall b h m maxima at said list new-list image new-image → TilesCall c h m maxima at told list other-list image other-image
       → (said ≡ told) × (new-list ≡ other-list) × (new-image ≡ other-image)
   pub check-tiles : BehindSize {S = Unit {0}} checking.Post (λ o. tt)
+  pub check-own-tiles : BehindSize {S = Unit {0}} checking-own.Post (λ o. tt)
   pub list-tiles : BehindSize listing.Post (λ o. o .1 .1 .1 .1 .0 .now)
+  pub are-listed : BehindSize {S = Unit {0}} comparing.Post (λ o. tt)
   pub fill-tiles : BehindSize filling.Post (λ o. o .1 .1 .1 .1 .1 .0 .now)
   pub write-list : BehindSize writing.Post (λ o. o .1 .1 .1 .1 .1 .0 .now)
   pub write-image : BehindSize writing.Post (λ o. o .1 .1 .1 .1 .1 .1 .0 .now)

@@ -1,2 +1,3 @@
 pub mod Preparing
+pub mod Comparing
 pub mod Prepared

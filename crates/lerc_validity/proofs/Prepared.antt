@@ -12,7 +12,7 @@ use lib.Dec.{leb, eqb}
 use lib.ListN.{length, take, drop, replicate, length-take, length-append, length-replicate}
 use lib.Seq.{take-append-seam}
 use Rattle.lerc_words.specs.declared.Refusal.{Refusal}
-use Rattle.lerc_words.specs.Res.{Res, ok, fail, _>>=_, refuse, placed, marked, require}
+use Rattle.lerc_words.specs.Res.{Res, ok, fail, _>>=_, refuse, placed, require}
 use Rattle.lerc_words.proofs.Marking.{marked-is, marked-fails}
 use Rattle.lerc_words.specs.Lists.{over}
 use Rattle.lerc_words.proofs.Binding.{bind-is, require-is, cond-elim, and-is}
@@ -28,7 +28,8 @@ use Rattle.lerc_mask.proofs.Steps.{bytes-part, bytes-repeat}
 use Rattle.lerc_mask.proofs.Runs.{coded-is, coded-length, coded-bytes, coded-six}
 use Rattle.lerc_validity.specs.declared.MaskAnswer.{MaskAnswer}
 use Rattle.lerc_validity.specs.declared.MaskAnswer.the-variants.{Kept, Spare, Refused}
-use Rattle.lerc_validity.specs.Validity.{MaskInForce, reused, new, bytesOf, uniform, kept, unrolled, maskIn, maskSays, prepareSays, maskSaid, Prepared, firstOf, inForce}
+use Rattle.lerc_validity.specs.declared.compared.MaskFound.{MaskFound}
+use Rattle.lerc_validity.specs.Validity.{MaskInForce, reused, new, bytesOf, uniform, kept, unrolled, maskIn, maskSays, prepareSays, maskSaid, Prepared, Compared, firstOf, inForce}
 
 -- a reused mask is the first part of the kept one
 abbrev pub Part : List ℕ → MaskInForce → Type 0
@@ -195,3 +196,9 @@ same-said (Spare n) b e = sym (said-is b (Spare n) (sym e))
 
 pub prepared-same : {m : Res MaskInForce} {a b : MaskAnswer} {old x y : List ℕ} → Prepared m a old x → Prepared m b old y → (a ≡ b) × (x ≡ y)
 prepared-same {m} {a} {b} p q = (same-said a b (p .says ∙ sym (q .says)), p .spare ∙ sym (q .spare))
+
+pub compared-same : {m : Res MaskInForce} {a b : MaskFound} {spare : List ℕ} → Compared m a spare → Compared m b spare → a ≡ b
+compared-same {m} {a} {b} p q =
+    let e = same-said (a .answer) (b .answer) (p .says ∙ sym (q .says)) in
+    let f = p .same ∙ sym (q .same) in
+    λ i. record { answer = e i; same = f i }

@@ -9,7 +9,7 @@ use borrow.Author.Tests.{le-leb, lt-leb, eq-eqb, ne-eqb}
 use lib.ListN.{length, take, drop, replicate, length-take}
 use lib.Dec.{leb}
 use Rattle.lerc_words.specs.declared.Refusal.{Refusal}
-use Rattle.lerc_words.specs.Res.{Res, ok, fail, _>>=_, refuse, placed, marked}
+use Rattle.lerc_words.specs.Res.{Res, ok, fail, _>>=_, refuse, placed, marked, after}
 use Rattle.lerc_words.proofs.Marking.{marked-after, Bare}
 use Rattle.lerc_words.specs.Lists.{over}
 use Rattle.lerc_header.specs.declared.Header.{Header}
@@ -19,12 +19,12 @@ use Rattle.lerc_header.proofs.Kept.{held-is, held-size}
 use Rattle.lerc_header.specs.Shape.{pixels, maskLength}
 use Rattle.lerc_mask.specs.declared.RunsAnswer.{RunsAnswer}
 use Rattle.lerc_mask.specs.declared.RunsAnswer.the-variants as runs
-use Rattle.lerc_mask.specs.Mask.{validBelow, maskField, coded, decoded, RunsUnrolled}
+use Rattle.lerc_mask.specs.Mask.{validBelow, maskField, coded, decoded, runsSaid, RunsUnrolled}
 use Rattle.lerc_mask.proofs.Pixels.{valid-take}
 use Rattle.lerc_mask.proofs.Runs.{coded-bare, decoded-coded}
 use Rattle.lerc_validity.specs.declared.MaskAnswer.{MaskAnswer}
 use Rattle.lerc_validity.specs.declared.MaskAnswer.the-variants.{Kept, Spare, Refused}
-use Rattle.lerc_validity.specs.Validity.{MaskInForce, reused, new, uniform, kept, unrolled, maskIn, maskSays, findSays, prepareSays, spareWith, maskSaid, which, Prepared}
+use Rattle.lerc_validity.specs.Validity.{MaskInForce, reused, new, uniform, kept, unrolled, maskIn, maskSays, findSays, prepareSays, spareWith, maskSaid, which, Prepared, fromRuns}
 
 -- ---- the promise, for each answer
 
@@ -38,7 +38,7 @@ pub reuses : {m : Res MaskInForce} (bytes : List ℕ) (n : ℕ) {old : List ℕ}
 reuses bytes n e l = rw e (record { says = rw (l); spare = refl })
 
 -- with a place on the answer
-told-at : (p : ℕ) (m : Res MaskInForce) → marked p (m >>= which) ≡ (marked p m >>= which)
+pub told-at : (p : ℕ) (m : Res MaskInForce) → marked p (m >>= which) ≡ (marked p m >>= which)
 told-at p (ok (reused m)) = refl
 told-at p (ok (new m)) = refl
 told-at p (fail r) = refl
@@ -80,19 +80,22 @@ module _ (h : Header) (reuse : Bool) (old : List ℕ) where
 
 -- ---- a mask of runs
 
--- the place is taken off a refusal, since all of a mask's have one
-abbrev pub fromRuns : RunsAnswer → MaskAnswer
-fromRuns (runs.Mask n) = Spare n
-fromRuns (runs.Refused r) = Refused (placed 0 r)
+-- what the answer says, whatever is done with the bytes
+pub runs-says : (p : ℕ) (m : Res (List ℕ)) → Bare m → (a : RunsAnswer) → runsSaid a ≡ (marked p m >>= λ bytes. ok (length bytes)) → maskSaid (fromRuns a) ≡ (m >>= (λ bytes. ok (new bytes)) >>= which)
+runs-says p (ok bytes) i (runs.Mask n) u = let e : n ≡ length bytes = cc in rw (e)
+runs-says p (ok bytes) i (runs.Refused r) u = absurd (let z : _≡_ {A = ℕ} 0 1 = cc in omega arith)
+runs-says p (fail q) i (runs.Mask n) u = absurd (let z : _≡_ {A = ℕ} 0 1 = cc in omega arith)
+runs-says p (fail q) i (runs.Refused r) u =
+    let e : r ≡ placed p q = cc (u) in
+    let z : placed 0 q ≡ q = cc (i) in
+    rw (e) (ap fail z)
+
+runs-after : (m : Res (List ℕ)) (old : List ℕ) → after m old (λ bytes. over bytes old) ≡ after (m >>= λ bytes. ok (new bytes)) old (λ f. spareWith f old)
+runs-after (ok bytes) old = refl
+runs-after (fail r) old = refl
 
 runs-told : (p : ℕ) (m : Res (List ℕ)) → Bare m → (a : RunsAnswer) {old newer : List ℕ} → RunsUnrolled (marked p m) a old newer → Prepared (m >>= λ bytes. ok (new bytes)) (fromRuns a) old newer
-runs-told p (ok bytes) i (runs.Mask n) u = let e : n ≡ length bytes = cc (u .says) in record { says = rw (e); spare = u .left }
-runs-told p (ok bytes) i (runs.Refused r) u = absurd (let z : _≡_ {A = ℕ} 0 1 = cc (u .says) in omega arith)
-runs-told p (fail q) i (runs.Mask n) u = absurd (let z : _≡_ {A = ℕ} 0 1 = cc (u .says) in omega arith)
-runs-told p (fail q) i (runs.Refused r) u =
-    let e : r ≡ placed p q = cc (u .says) in
-    let z : placed 0 q ≡ q = cc (i) in
-    record { says = rw (e) (ap fail z); spare = u .left }
+runs-told p m i a {old} u = record { says = runs-says p m i a (u .says); spare = u .left ∙ marked-after p m old (λ bytes. over bytes old) ∙ runs-after m old }
 
 pub unroll-told : (s : List ℕ) (h : Header) (room : ℕ) (a : RunsAnswer) {old newer : List ℕ} → maskLength (shapeOf h) ≤ room
     → RunsUnrolled (decoded (take (h .mask) (drop headerBytes s)) (pixels (shapeOf h)) (h .valid) room) a old newer → Prepared (unrolled s h) (fromRuns a) old newer

@@ -2,19 +2,23 @@
 -- Assumes nothing.
 use Prim.Native.Nat.{ℕ}
 use mathlib.Core.Path.{_≡_}
-use mathlib.Core.Bool.{Bool, cond, _&&_}
+use mathlib.Core.Bool.{Bool, true, cond, _&&_}
 use mathlib.Core.List.{List, []}
 use lib.ListN.{length, take, drop, replicate}
 use lib.Dec.{leb, eqb}
 use Rattle.lerc_words.specs.declared.Refusal.{Refusal}
-use Rattle.lerc_words.specs.Res.{Res, ok, fail, _>>=_, refuse, marked, require, after}
+use Rattle.lerc_words.specs.Res.{Res, ok, fail, _>>=_, refuse, placed, marked, require, after}
 use Rattle.lerc_words.specs.Lists.{over}
+use Rattle.lerc_slices.specs.Slices.{beginsWith, acceptsWith}
 use Rattle.lerc_header.specs.declared.Header.{Header}
 use Rattle.lerc_header.specs.Header.{shapeOf, headerBytes, rangesAt, held}
 use Rattle.lerc_header.specs.Shape.{pixels, maskLength}
+use Rattle.lerc_mask.specs.declared.RunsAnswer.{RunsAnswer}
+use Rattle.lerc_mask.specs.declared.RunsAnswer.the-variants as runs
 use Rattle.lerc_mask.specs.Mask.{validBelow, coded, maskField}
 use Rattle.lerc_validity.specs.declared.MaskAnswer.{MaskAnswer}
 use Rattle.lerc_validity.specs.declared.MaskAnswer.the-variants.{Kept, Spare, Refused}
+use Rattle.lerc_validity.specs.declared.compared.MaskFound.{MaskFound}
 
 -- a reused mask, or a new one
 pub data MaskInForce : Type 0 where
@@ -94,6 +98,23 @@ which (new m) = ok (Spare (length m))
 pub record Prepared (m : Res MaskInForce) (r : MaskAnswer) (old new : List ℕ) : Type 0 where
   pub says : maskSaid r ≡ (m >>= which)
   pub spare : new ≡ after m old (λ f. spareWith f old)
+
+-- what a private function promises: the answer of a section's reader, with no place on a refusal, since all of a mask's have one
+abbrev pub fromRuns : RunsAnswer → MaskAnswer
+fromRuns (runs.Mask n) = Spare n
+fromRuns (runs.Refused r) = Refused (placed 0 r)
+
+-- ---- compare a mask
+
+-- a new mask stands at the front of the spare; a reused one need not
+abbrev pub holdsMask : MaskInForce → List ℕ → Bool
+holdsMask (reused m) spare = true
+holdsMask (new m) spare = beginsWith m spare
+
+-- the same answer, and whether the spare holds the mask; after a refusal it does not
+pub record Compared (m : Res MaskInForce) (r : MaskFound) (spare : List ℕ) : Type 0 where
+  pub says : maskSaid (r .answer) ≡ (m >>= which)
+  pub same : r .same ≡ acceptsWith m (λ f. holdsMask f spare)
 
 -- ---- the mask handed back
 

@@ -15,6 +15,11 @@ use lerc_mask::MASK_FIELD;
 use lerc_mask::RunsAnswer;
 use lerc_words::Refusal;
 
+mod compared;
+
+pub use compared::MaskFound;
+pub use compared::compare_mask;
+
 // Which mask is in force, and how long it is.
 pub enum MaskAnswer {
     Kept(usize),
@@ -72,6 +77,16 @@ fn take_kept(h: Header, pixels: usize, n: usize, reuse: bool, kept: &[u8]) -> Ma
     MaskAnswer::Kept(n)
 }
 
+// the answer of the section's reader; the place is taken off a refusal, since all of a mask's have one
+fn from_runs(answer: RunsAnswer) -> MaskAnswer
+    ensures { λ r. ⌜ r ≡ Mask.fromRuns answer ⌝ }
+{
+    match answer {
+        RunsAnswer::Mask(n) => MaskAnswer::Spare(n),
+        RunsAnswer::Refused(why) => MaskAnswer::Refused(why.at(0)),
+    }
+}
+
 // the mask of the section, which is checked whole before a byte is written
 fn unroll(s: &[u8], h: Header, pixels: usize, spare: &mut [u8]) -> MaskAnswer
     requires { ⌜ (pixels ≡ Sizes.pixels (shapeOf h)) × (rangesAt h ≤ length (now s)) × (maskLength (shapeOf h) ≤ length (now spare)) ⌝ }
@@ -79,11 +94,7 @@ fn unroll(s: &[u8], h: Header, pixels: usize, spare: &mut [u8]) -> MaskAnswer
 {
     let end = HEADER + h.mask as usize;
     let answer = lerc_mask::decode(&s[HEADER..end], pixels, h.valid as usize, spare);
-    let RunsAnswer::Mask(n) = answer else {
-        let why = answer.refusal();
-        return MaskAnswer::Refused(why.at(0));
-    };
-    MaskAnswer::Spare(n)
+    from_runs(answer)
 }
 
 // the mask, where there is room for it and its section lies in s

@@ -31,6 +31,11 @@ use Rattle.lerc_image.specs.Fill.{fillSays}
 use Rattle.lerc_image.specs.Walk.{wayWalked, bodyWalked, walkSays}
 use Rattle.lerc.specs.Meaning.{rawBody, blockBody, sweptBody, constantBody, bodySays, cellWord, meaningFrom, startsOf, endOf}
 use Rattle.lerc.specs.Read.{Lent, room, masked, readSays, published, refusedAfter, readAfter}
+use Rattle.lerc_slices.specs.Slices.{beginsWith}
+use Rattle.lerc.specs.declared.Staged.{Staged}
+use Rattle.lerc.specs.declared.StageAnswer.{StageAnswer}
+use Rattle.lerc.specs.declared.StageAnswer.the-variants as stage-answer
+use Rattle.lerc.specs.Stage.{kindNumber, stageSays, sameStaged, publishSays}
 
 pub record Fields : Type 0 where
   pub rows : ℕ
@@ -389,6 +394,91 @@ unfolding wordAt little each from count allTo mag code sum countedSum scaled les
     levelBlock stepOf steppedBlock offsetAt finiteOffset offsetBlock formed flagAt blockSays tileOf pixelOf blockOf placeIn rank isValidCell painted indexOf blockAt chain modeByte moded
     sweepByte swept rawBody blockBody sweptBody constantBody bodySays cellWord meaningFrom room masked readSays published refusedAfter size span climb widened readRangesSays fillSays walkSays bodyWalked wayWalked
 witnesses = (refl, refl, refl, refl)
+
+-- ---- stage, then publish
+
+-- raw words, a constant body, and three blocks of one pixel each
+abbrev pub raw-blob : List ℕ
+raw-blob = row 8 2 ten twelve (0x01 ∷ 0x00 ∷ 0xA0 ∷ 0x00 ∷ 0x80 ∷ []) (0x0A ∷ 0x0C ∷ 0x01 ∷ 0x0B ∷ 0x0C ∷ [])
+
+abbrev pub constant-blob : List ℕ
+constant-blob = row 8 3 ten ten [] []
+
+abbrev pub three-blocks : List ℕ
+three-blocks = row 1 3 ten twelve [] (0x0A ∷ 0x0C ∷ 0x00 ∷ 0x00 ∷ 0x03 ∷ 0x0B ∷ 0x02 ∷ 0x00 ∷ 0x0C ∷ [])
+
+-- two of three pixels valid, and a block that is wrong
+abbrev pub broken-blob : List ℕ
+broken-blob = row 8 2 ten twelve (0x01 ∷ 0x00 ∷ 0xA0 ∷ 0x00 ∷ 0x80 ∷ []) (0x0A ∷ 0x0C ∷ 0x00 ∷ 0x00 ∷ 0x05 ∷ [])
+
+abbrev pub answered : Res Staged → StageAnswer
+answered (ok s) = stage-answer.Staged s
+answered (fail r) = stage-answer.Refused r
+
+-- what staging answers, with slices as a whole read is lent them
+abbrev pub stagedAs : List ℕ → StageAnswer
+stagedAs b = answered (stageSays b false (lent 3 4))
+
+-- kind of body, count of blocks, end
+abbrev pub outlined : Res Staged → List ℕ
+outlined (ok s) = kindNumber (s .body) ∷ s .blocks ∷ s .end ∷ []
+outlined (fail r) = r .number ∷ r .at ∷ []
+
+abbrev pub stagings : List (List ℕ)
+stagings =
+    outlined (stageSays whole-blob false (lent 3 4))
+    ∷ outlined (stageSays raw-blob false (lent 3 4))
+    ∷ outlined (stageSays constant-blob false (lent 3 4))
+    ∷ outlined (stageSays (row 8 0 ten twelve [] []) false (lent 3 4))
+    ∷ outlined (stageSays broken-blob false (lent 3 4))
+    -- room for the image is judged, though nothing is written there
+    ∷ outlined (stageSays whole-blob false (lent 3 2))
+    ∷ []
+
+-- an answer, published with this spare and this list
+abbrev pub publishing : List ℕ → StageAnswer → List ℕ → List ℕ → Refusal
+publishing b a spare list = refusalOf (publishSays b false a (record { kept = 7 ∷ []; spare = spare; list = list; image = replicate 4 7 }))
+
+abbrev pub publishings : List Refusal
+publishings =
+    -- as staging gave and left it
+    publishing whole-blob (stagedAs whole-blob) (255 ∷ 7 ∷ []) (74 ∷ 7 ∷ 7 ∷ [])
+    -- what stands behind is not looked at
+    ∷ publishing whole-blob (stagedAs whole-blob) (255 ∷ 9 ∷ []) (74 ∷ 9 ∷ 9 ∷ [])
+    -- another spare, another start, the last of three starts
+    ∷ publishing whole-blob (stagedAs whole-blob) (254 ∷ 7 ∷ []) (74 ∷ 7 ∷ 7 ∷ [])
+    ∷ publishing whole-blob (stagedAs whole-blob) (255 ∷ 7 ∷ []) (75 ∷ 7 ∷ 7 ∷ [])
+    ∷ publishing three-blocks (stagedAs three-blocks) (255 ∷ 7 ∷ []) (74 ∷ 76 ∷ 78 ∷ [])
+    -- a refused answer, and that of another blob
+    ∷ publishing whole-blob (stage-answer.Refused (refuse 0)) (255 ∷ 7 ∷ []) (74 ∷ 7 ∷ 7 ∷ [])
+    ∷ publishing whole-blob (stagedAs constant-blob) (255 ∷ 7 ∷ []) (74 ∷ 7 ∷ 7 ∷ [])
+    -- the list of a body without blocks
+    ∷ publishing raw-blob (stagedAs raw-blob) (160 ∷ 7 ∷ []) (9 ∷ 9 ∷ 9 ∷ [])
+    -- what the blob itself earns comes first, whatever the answer, the spare and the list are
+    ∷ publishing broken-blob (stagedAs whole-blob) (0 ∷ 0 ∷ []) (0 ∷ 0 ∷ 0 ∷ [])
+    ∷ publishing whole-blob (stagedAs whole-blob) (255 ∷ 7 ∷ []) []
+    ∷ []
+
+pub in-two :
+    (stagings ≡ (3 ∷ 1 ∷ 79 ∷ []) ∷ (2 ∷ 0 ∷ 80 ∷ []) ∷ (1 ∷ 0 ∷ 70 ∷ []) ∷ (0 ∷ 0 ∷ 70 ∷ []) ∷ (8 ∷ 79 ∷ []) ∷ (5 ∷ 0 ∷ []) ∷ [])
+    × (publishings
+    ≡ refuse 0
+    ∷ refuse 0
+    ∷ refuse 3
+    ∷ refuse 3
+    ∷ refuse 3
+    ∷ refuse 3
+    ∷ refuse 3
+    ∷ refuse 0
+    ∷ placed 79 (refuse 8)
+    ∷ refuse 5
+    ∷ [])
+unfolding wordAt little each from count allTo mag code sum countedSum scaled less same lesser integer valueOf whole cut sampleAt stored offsetKinds offsetKind
+    bytes counts plan tabled unpacked valuesOf lookedUp digits chosen pixelValid copyAt repeatAt endAt signedAt stepAt runs coded strips errorRight pairRight fieldsRight withinCeilings
+    held keyRight headerOf word half fold sumsTo closedTo withLast joined checksum checksumRight headerSays uniform kept unrolled maskIn uniformRanges numberAt byDepth codedRanges pairsRight firstWrong wrongNumberAt rangesSays constantWords rawWords
+    levelBlock stepOf steppedBlock offsetAt finiteOffset offsetBlock formed flagAt blockSays tileOf pixelOf blockOf placeIn rank isValidCell painted indexOf blockAt chain modeByte moded
+    sweepByte swept rawBody blockBody sweptBody constantBody bodySays cellWord meaningFrom room masked readSays published refusedAfter size span climb widened readRangesSays fillSays walkSays bodyWalked wayWalked beginsWith sameStaged publishSays
+in-two = (refl, refl)
 
 -- ---- how many pixels of a part are valid: of the rules' mask of ten pixels, 0, 2 and 9 valid, its spare bits set
 

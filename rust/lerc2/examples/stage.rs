@@ -1,67 +1,85 @@
-//! Stages blobs block by block and publishes an image only once all of it is
-//! there: who looks at the published image never sees a half of one, nor
-//! anything of a blob that was refused.
+//! One thread stages a blob while another still steers by the old terrain; then
+//! this one publishes it under the lock. Whoever looks at the terrain under that
+//! lock finds the old one or the new, and never a part of each; a blob that is
+//! refused changes nothing of it.
 //!
 //!     cargo run --example stage < image.lerc2
 
-use lerc2::{fill, prepare_mask, read_header, read_ranges, walk, Header, Refusal};
+use lerc2::{publish, read_header, stage, Header, Published, Refusal, Staged};
 use std::io::Read;
 use std::process::ExitCode;
+use std::sync::RwLock;
+use std::thread;
 
-/// What others may look at.
-#[derive(Default)]
-struct Published {
-    header: Option<Header>,
+/// What the unit steers by, behind a lock of the caller's own. Its room is there
+/// from the start.
+struct Terrain {
     mask: Vec<u8>,
     image: Vec<u64>,
 }
 
-/// What nobody else sees. Its slices grow to what a header asks for, which the
-/// rules bound.
-#[derive(Default)]
-struct Stage {
-    mask: Vec<u8>,
-    list: Vec<usize>,
-    image: Vec<u64>,
-}
+/// A cell of the terrain before any blob.
+const OLD: u64 = u64::MAX;
 
-impl Stage {
-    /// Fills the stage from a blob in blocks; any refusal ends it.
-    fn take(&mut self, blob: &[u8]) -> Result<Header, Refusal> {
-        let header = read_header(blob)?;
-        self.mask.resize(header.mask_length(), 0);
-        self.list.resize(header.blocks(), 0);
-        self.image.clear();
-        self.image.resize(header.cells(), 0);
-        let kept = vec![0; header.mask_length()];
-        let mask = prepare_mask(blob, &header, false, &kept, &mut self.mask)?.bytes();
-        let ranges = read_ranges(blob, &header)?;
-        let walked = walk(blob, &header, &ranges, mask, &mut self.list)?;
-        // Any order will do; here the last block comes first.
-        for number in (0..walked.blocks).rev() {
-            fill(
-                blob,
-                &header,
-                &ranges,
-                mask,
-                &self.list,
-                number,
-                &mut self.image,
-            )?;
+impl Terrain {
+    fn with_room_for(header: &Header) -> Terrain {
+        Terrain {
+            mask: vec![0; header.mask_length()],
+            image: vec![OLD; header.cells()],
         }
-        Ok(header)
     }
 }
 
-impl Published {
-    /// The stage and what is published change places, on acceptance alone.
-    fn publish(&mut self, stage: &mut Stage, blob: &[u8]) -> Result<(), Refusal> {
-        let header = stage.take(blob)?;
-        self.header = Some(header);
-        std::mem::swap(&mut self.mask, &mut stage.mask);
-        std::mem::swap(&mut self.image, &mut stage.image);
-        Ok(())
-    }
+/// What the loader hands over. Spare and list were its own until then.
+struct Ready<'a> {
+    blob: &'a [u8],
+    staged: Staged,
+    spare: Vec<u8>,
+    list: Vec<usize>,
+}
+
+/// The loader: all of the checking. The terrain is lent for reading alone, under
+/// a guard that the unit's own looks do not wait for: the kept mask for blobs
+/// that reuse it, the image for its room.
+fn load<'a>(terrain: &RwLock<Terrain>, blob: &'a [u8]) -> Result<Ready<'a>, Refusal> {
+    let header = read_header(blob)?;
+    let (mut spare, mut list) = (vec![0; header.mask_length()], vec![0; header.blocks()]);
+    let terrain = terrain.read().expect("no thread failed");
+    let (kept, image) = (&terrain.mask, &terrain.image);
+    let staged = stage(blob, false, kept, &mut spare, &mut list, image)?;
+    Ok(Ready {
+        blob,
+        staged,
+        spare,
+        list,
+    })
+}
+
+/// The unit's own: all of the writing, while nobody looks.
+fn take(terrain: &RwLock<Terrain>, ready: &Ready) -> Result<Published, Refusal> {
+    let terrain = &mut *terrain.write().expect("no thread failed");
+    let (blob, staged, spare, list) = (ready.blob, &ready.staged, &ready.spare, &ready.list);
+    let (kept, image) = (&mut terrain.mask, &mut terrain.image);
+    publish(blob, false, staged, kept, spare, list, image)
+}
+
+/// Steers by what is there: how many cells are not the old ones.
+fn look(terrain: &RwLock<Terrain>) -> usize {
+    let terrain = terrain.read().expect("no thread failed");
+    terrain.image.iter().filter(|&&word| word != OLD).count()
+}
+
+/// Steers by the old terrain until the loader is done, then takes the new one.
+fn steer(terrain: &RwLock<Terrain>, blob: &[u8]) -> Result<Published, Refusal> {
+    let before = look(terrain);
+    thread::scope(|scope| {
+        let loader = scope.spawn(|| load(terrain, blob));
+        while !loader.is_finished() {
+            assert_eq!(look(terrain), before);
+        }
+        let ready = loader.join().expect("no thread failed")?;
+        take(terrain, &ready)
+    })
 }
 
 /// Fails where the blob is refused, with its number, its place and a sentence.
@@ -71,30 +89,44 @@ fn main() -> Result<ExitCode, Box<dyn std::error::Error>> {
     }
     let mut blob = Vec::new();
     std::io::stdin().read_to_end(&mut blob)?;
-    let (mut published, mut stage) = (Published::default(), Stage::default());
-    let answer = published.publish(&mut stage, &blob);
+    let told = |refusal: Refusal| {
+        println!("{refusal}: {}", refusal.where_to_look());
+        ExitCode::FAILURE
+    };
+    let header = match read_header(&blob) {
+        Ok(header) => header,
+        Err(refusal) => return Ok(told(refusal)),
+    };
+    let terrain = RwLock::new(Terrain::with_room_for(&header));
 
-    // A blob that ends one byte early is refused, and changes nothing here.
-    let before = published.image.clone();
+    // A blob that ends one byte early is refused where it is staged; an answer
+    // that was spoilt since, where it is published. The terrain is the old one
+    // after either.
     let cut = &blob[..blob.len().saturating_sub(1)];
-    if let Err(refusal) = published.publish(&mut stage, cut) {
+    if let Err(refusal) = steer(&terrain, cut) {
         println!("one byte short: {refusal}: {}", refusal.where_to_look());
     }
-    assert_eq!(published.image, before);
-
-    if let Err(refusal) = answer {
-        println!("{refusal}: {}", refusal.where_to_look());
-        return Ok(ExitCode::FAILURE);
+    if let Ok(mut ready) = load(&terrain, &blob) {
+        ready.staged.end += 1;
+        if let Err(refusal) = take(&terrain, &ready) {
+            println!("a spoilt answer: {refusal}: {}", refusal.where_to_look());
+        }
     }
-    let header = published.header.ok_or("nothing was published")?;
-    for (cell, &word) in published.image.iter().enumerate().take(10) {
+    assert_eq!(look(&terrain), 0);
+
+    let published = match steer(&terrain, &blob) {
+        Ok(published) => published,
+        Err(refusal) => return Ok(told(refusal)),
+    };
+    let terrain = terrain.into_inner()?;
+    for (cell, &word) in terrain.image.iter().enumerate().take(10) {
         let pixel = cell / header.depth as usize;
-        if lerc2::is_valid(&published.mask, pixel) {
+        if lerc2::is_valid(&terrain.mask, pixel) {
             println!("cell {cell}: {}", header.kind.number(word));
         } else {
             println!("cell {cell}: not valid");
         }
     }
-    println!("{} cells", header.cells());
+    println!("{} of {} cells", published.words, header.cells());
     Ok(ExitCode::SUCCESS)
 }

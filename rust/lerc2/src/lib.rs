@@ -1,22 +1,27 @@
 //! A reader of one Lerc2 version 4 blob whose every function is proved to meet
 //! its contract, called through its C interface.
 //!
-//! [`read`] reads a whole blob. The steps can be called one by one as well:
-//! [`read_header`], [`prepare_mask`], [`read_ranges`], [`walk`], [`fill`].
+//! [`read`] reads a whole blob: it is [`stage`], which checks all of it, and
+//! [`publish`], which writes it, one after the other. Who looks at the image
+//! while a blob comes in calls these two, the second under a lock, and finds the
+//! old image or the new, never a part of each.
+//! The steps can be called one by one as well: [`read_header`],
+//! [`prepare_mask`], [`read_ranges`], [`walk`], [`fill`].
 //! Every function takes any bytes and any slices. How long the slices must be,
 //! a header tells: [`Header::mask_length`], [`Header::blocks`],
 //! [`Header::cells`]; longer is fine.
 //!
 //! A [`Refusal`] has a number and a place in the blob, "refused 8 at 74"; it
-//! leaves every lent slice as it was, except that [`read`] leaves an accepted
-//! new mask in the spare.
+//! leaves every lent slice as it was, except that [`read`] and [`stage`] leave
+//! an accepted new mask in the spare.
 //!
 //! Cells are words: the sample's own bits, zero-extended. The word of pixel
 //! `p` at depth `d` stands at `p * depth + d`; [`Kind::number`] gives its
 //! number. Cells of pixels that are not valid are not written.
 //!
 //! The checksum is tested where a header is read from the bytes, by
-//! [`read_header`] and [`read`], and not again; [`checksum`] computes it.
+//! [`read_header`], [`read`], [`stage`] and [`publish`], and not by the other
+//! steps; [`checksum`] computes it.
 //!
 //! A thread that has changed its float unit must not read: [`float_ready`].
 //!
@@ -49,6 +54,7 @@ mod header;
 mod mask;
 mod ranges;
 mod refusal;
+mod stage;
 mod steps;
 
 // The only place with `unsafe` in it.
@@ -60,4 +66,5 @@ pub use header::{checksum, read_header, Header, Kind};
 pub use mask::{is_valid, prepare_mask, Mask};
 pub use ranges::{read_ranges, Ranges, MOST_DEPTH};
 pub use refusal::{Refusal, Why};
+pub use stage::{publish, stage, BodyKind, Published, Staged, StagedMask};
 pub use steps::{fill, read, walk, Walked, Whole};

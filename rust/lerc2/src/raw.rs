@@ -6,10 +6,12 @@
 //! before anything else, and nothing is written. Else the first number of it is
 //! written in every outcome: the place of the refusal, or 0. The rest stays.
 //!
-//! Records are slices of 64-bit numbers: a header 11, ranges 130, what an entry
-//! says 1, 2 or 13. A record that is too short is refused 5, then a number that
-//! its field cannot hold 3, both before anything else but the place, and both
-//! at place 0. After a refusal the records are as they were.
+//! Records are slices of 64-bit numbers: a header 11, ranges 130, a staged
+//! answer 16, what an entry says 1, 2 or 13. A record that is too short is
+//! refused 5, then a number that its field cannot hold 3, both before anything
+//! else but the place, and both at place 0; a staged answer with such a number is
+//! one that staging did not give, which [`publish`] refuses 3 after all else.
+//! After a refusal the records are as they were.
 //!
 //! All `unsafe` of this crate is here. Each call hands over the pointer and
 //! the length of a slice that lives through it; slices that are written do not
@@ -32,6 +34,13 @@ pub const FILL: usize = 1;
 pub const STORED: usize = 1;
 /// Numbers that [`read`] says: the header's, how many blocks, the body's end.
 pub const READ: usize = 13;
+/// Numbers of a staged answer: the header's, how many blocks, the body's end,
+/// the body (0 empty, 1 constant, 2 raw, 3 blocks), 1 for the kept mask or 2 for
+/// the spare, and the mask's length.
+pub const STAGED: usize = 16;
+/// Numbers that [`publish`] says: the body's end, and how many words were
+/// written.
+pub const PUBLISH: usize = 2;
 /// Numbers of a place.
 pub const PLACE: usize = 1;
 
@@ -114,6 +123,42 @@ mod c {
             spare: *mut u8,
             spare_n: usize,
             list: *mut usize,
+            list_n: usize,
+            image: *mut u64,
+            image_n: usize,
+            said: *mut u64,
+            said_n: usize,
+            place: *mut u64,
+            place_n: usize,
+        ) -> u32;
+        pub fn lerc2_stage(
+            blob: *const u8,
+            n: usize,
+            reuse: bool,
+            kept: *const u8,
+            kept_n: usize,
+            spare: *mut u8,
+            spare_n: usize,
+            list: *mut usize,
+            list_n: usize,
+            image: *const u64,
+            image_n: usize,
+            staged: *mut u64,
+            staged_n: usize,
+            place: *mut u64,
+            place_n: usize,
+        ) -> u32;
+        pub fn lerc2_publish(
+            blob: *const u8,
+            n: usize,
+            reuse: bool,
+            staged: *const u64,
+            staged_n: usize,
+            kept: *mut u8,
+            kept_n: usize,
+            spare: *const u8,
+            spare_n: usize,
+            list: *const usize,
             list_n: usize,
             image: *mut u64,
             image_n: usize,
@@ -286,6 +331,77 @@ pub fn read(
             spare.as_mut_ptr(),
             spare.len(),
             list.as_mut_ptr(),
+            list.len(),
+            image.as_mut_ptr(),
+            image.len(),
+            said.as_mut_ptr(),
+            said.len(),
+            place.as_mut_ptr(),
+            place.len(),
+        )
+    }
+}
+
+/// Does all the checking of a whole read: a new mask into the spare, block starts
+/// into the list, the answer into its record. The image is lent for its room.
+#[allow(clippy::too_many_arguments)]
+pub fn stage(
+    blob: &[u8],
+    reuse: bool,
+    kept: &[u8],
+    spare: &mut [u8],
+    list: &mut [usize],
+    image: &[u64],
+    staged: &mut [u64],
+    place: &mut [u64],
+) -> u32 {
+    unsafe {
+        c::lerc2_stage(
+            blob.as_ptr(),
+            blob.len(),
+            reuse,
+            kept.as_ptr(),
+            kept.len(),
+            spare.as_mut_ptr(),
+            spare.len(),
+            list.as_mut_ptr(),
+            list.len(),
+            image.as_ptr(),
+            image.len(),
+            staged.as_mut_ptr(),
+            staged.len(),
+            place.as_mut_ptr(),
+            place.len(),
+        )
+    }
+}
+
+/// Writes the cells, then the mask, of a blob whose staging gave this answer,
+/// spare and list.
+#[allow(clippy::too_many_arguments)]
+pub fn publish(
+    blob: &[u8],
+    reuse: bool,
+    staged: &[u64],
+    kept: &mut [u8],
+    spare: &[u8],
+    list: &[usize],
+    image: &mut [u64],
+    said: &mut [u64],
+    place: &mut [u64],
+) -> u32 {
+    unsafe {
+        c::lerc2_publish(
+            blob.as_ptr(),
+            blob.len(),
+            reuse,
+            staged.as_ptr(),
+            staged.len(),
+            kept.as_mut_ptr(),
+            kept.len(),
+            spare.as_ptr(),
+            spare.len(),
+            list.as_ptr(),
             list.len(),
             image.as_mut_ptr(),
             image.len(),

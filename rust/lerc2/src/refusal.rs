@@ -40,7 +40,8 @@ pub enum Why {
     PassesSize = 1,
     /// 2: key or version differs.
     WrongKey = 2,
-    /// 3: a header field breaks its rule.
+    /// 3: a header field breaks its rule; or a publish is given an answer, spare
+    /// or list that staging did not give.
     WrongField = 3,
     /// 4: a ceiling is passed.
     Ceiling = 4,
@@ -94,7 +95,7 @@ impl fmt::Display for Why {
         f.write_str(match self {
             Why::PassesSize => "something passes the declared size",
             Why::WrongKey => "key or version differs",
-            Why::WrongField => "a header field breaks its rule",
+            Why::WrongField => "a header field breaks its rule, or staging did not give this",
             Why::Ceiling => "a ceiling is passed",
             Why::NoRoom => "a lent slice is too short",
             Why::WrongMask => "the mask section is wrong",
@@ -137,7 +138,9 @@ impl Refusal {
                 "what begins at {at}: a block, the sweep or mode byte, a raw word, or the ranges"
             ),
             (Why::WrongKey, _) => "the key at 0 and the version at 6".into(),
-            (Why::WrongField, _) => "the header's fields, in a blob from 14 to 69".into(),
+            (Why::WrongField, _) => "the header's fields, in a blob from 14 to 69; \
+                 or, in a publish, the answer, the spare and the list"
+                .into(),
             (Why::Ceiling, _) => {
                 "rows, columns, depth, side and size, in a blob from 14 to 37".into()
             }

@@ -64,7 +64,8 @@ pub fn fill(
 
 /// Reads a whole blob: the image's valid cells, the list of a body in blocks,
 /// and the mask, which is in the kept one afterwards. Nothing is written before
-/// all is checked, except a new mask to the spare.
+/// all is checked, except a new mask to the spare. It is [`stage`](crate::stage)
+/// and [`publish`](crate::publish), one after the other.
 pub fn read(
     blob: &[u8],
     reuse: bool,

@@ -1,11 +1,11 @@
-//! The checksum: a field that is not true is refused 13 at 0 by the two
+//! The checksum: a field that is not true is refused 13 at 0 by the four
 //! functions that read a header, behind the header's other refusals and before
 //! room. Those that are given a header do not look at it. By itself it is
 //! compared with a plain loop.
 
 mod sealed;
 
-use lerc2::{fill, prepare_mask, raw, read, read_header, read_ranges, walk};
+use lerc2::{fill, prepare_mask, publish, raw, read, read_header, read_ranges, stage, walk};
 use lerc2::{Refusal, Whole, Why};
 use sealed::{seal, FIELD};
 
@@ -57,16 +57,36 @@ fn changed(blob: &[u8], place: usize, by: u8) -> Vec<u8> {
     blob
 }
 
-/// A whole read with room, which must leave all of it as it was if it is
-/// refused 13.
+/// All that is lent, with room: kept mask, spare, list and image.
+type Lent = ([u8; 90], [u8; 90], [usize; 90], [u64; 700]);
+
+const LENT: Lent = ([0xA0; 90], [2; 90], [7; 90], [9; 700]);
+
+/// A whole read, which must leave all of it as it was if it is refused 13.
+/// Staging refuses alike, and so does publishing what was staged of another.
 fn whole(blob: &[u8], reuse: bool) -> Result<Whole, Refusal> {
-    let before = ([0xA0; 90], [2; 90], [7; 90], [9; 700]);
-    let (mut kept, mut spare, mut list, mut image) = before;
+    let (mut kept, mut spare, mut list, mut image) = LENT;
     let answer = read(blob, reuse, &mut kept, &mut spare, &mut list, &mut image);
     if answer == Err(FALSE) {
-        assert_eq!((kept, spare, list, image), before);
+        assert_eq!((kept, spare, list, image), LENT);
+        not_published(blob, reuse);
+    }
+    let (kept, mut spare, mut list, image) = LENT;
+    let staged = stage(blob, reuse, &kept, &mut spare, &mut list, &image);
+    assert_eq!(staged.err(), answer.err());
+    if answer == Err(FALSE) {
+        assert_eq!((kept, spare, list, image), LENT);
     }
     answer
+}
+
+fn not_published(blob: &[u8], reuse: bool) {
+    let (mut kept, mut spare, mut list, mut image) = LENT;
+    let staged = stage(&rules(), false, &kept, &mut spare, &mut list, &image).unwrap();
+    let before = (kept, spare, list, image);
+    let published = publish(blob, reuse, &staged, &mut kept, &spare, &list, &mut image);
+    assert_eq!(published, Err(FALSE));
+    assert_eq!((kept, spare, list, image), before);
 }
 
 fn is_refused(blob: &[u8]) {
@@ -205,9 +225,17 @@ fn behind_the_headers_other_refusals() {
 #[test]
 fn before_room() {
     let nothing = |blob: &[u8]| read(blob, false, &mut [], &mut [], &mut [], &mut []);
-    assert_eq!(nothing(&with_field(&rules(), 0)), Err(FALSE));
+    let staged = |blob: &[u8]| stage(blob, false, &[], &mut [], &mut [], &[]);
+    let other = stage(&rules(), false, &[0], &mut [0], &mut [0], &[0; 3]).unwrap();
+    let published = |blob: &[u8]| publish(blob, false, &other, &mut [], &[], &[], &mut []);
+    let untrue = with_field(&rules(), 0);
+    assert_eq!(nothing(&untrue), Err(FALSE));
+    assert_eq!(staged(&untrue), Err(FALSE));
+    assert_eq!(published(&untrue), Err(FALSE));
     let (why, place) = (Why::NoRoom, 0);
     assert_eq!(nothing(&rules()), Err(Refusal { why, place }));
+    assert_eq!(staged(&rules()), Err(Refusal { why, place }));
+    assert_eq!(published(&rules()), Err(Refusal { why, place }));
 }
 
 #[test]

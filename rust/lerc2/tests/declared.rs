@@ -9,7 +9,7 @@ type Declared = BTreeMap<String, Vec<String>>;
 fn as_in_the_header_file() {
     let c = of_c(include_str!("../../../include/lerc2.h"));
     let rust = of_rust(include_str!("../src/raw.rs"));
-    assert_eq!(c.len(), 13);
+    assert_eq!(c.len(), 15);
     assert_eq!(c, rust);
 }
 

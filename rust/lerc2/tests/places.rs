@@ -5,7 +5,8 @@
 mod sealed;
 
 use lerc2::{
-    fill, prepare_mask, raw, read, read_header, read_ranges, walk, Kind, Ranges, Refusal, Why,
+    fill, prepare_mask, raw, read, read_header, read_ranges, stage, walk, Kind, Ranges, Refusal,
+    Why,
 };
 
 /// A blob of one row of three pixels, in one tile.
@@ -87,11 +88,15 @@ impl<'a> Row<'a> {
         self.first_range() + self.ranges.len()
     }
 
-    /// What a whole read says, with room for everything.
+    /// What a whole read says, with room for everything; staging says the same.
     fn refused(&self) -> Refusal {
         let (mut kept, mut spare, mut list, mut image) = ([0; 8], [0; 8], [0; 8], [0; 64]);
         let blob = self.blob();
-        read(&blob, false, &mut kept, &mut spare, &mut list, &mut image).unwrap_err()
+        let staged = stage(&blob, false, &kept, &mut spare, &mut list, &image);
+        let refusal = read(&blob, false, &mut kept, &mut spare, &mut list, &mut image);
+        let refusal = refusal.unwrap_err();
+        assert_eq!(staged, Err(refusal));
+        refusal
     }
 
     /// What a walk says of ranges that a test may change.
@@ -372,6 +377,7 @@ fn no_room_and_no_block_have_no_place() {
 struct Lent {
     header: [u64; raw::HEADER],
     ranges: [u64; raw::RANGES],
+    staged: [u64; raw::STAGED],
     masks: [[u8; 2]; 2],
     list: [usize; 2],
     image: [u64; 4],
@@ -381,7 +387,7 @@ struct Lent {
 type Entry = fn(&[u8], &mut Lent, &mut [u64]) -> u32;
 
 /// The entries that can refuse.
-const ENTRIES: [(&str, Entry); 7] = [
+const ENTRIES: [(&str, Entry); 9] = [
     ("read_header", |blob, lent, place| {
         raw::read_header(blob, &mut lent.said, place)
     }),
@@ -389,6 +395,16 @@ const ENTRIES: [(&str, Entry); 7] = [
         let [kept, spare] = &mut lent.masks;
         let (list, image) = (&mut lent.list, &mut lent.image);
         raw::read(blob, false, kept, spare, list, image, &mut lent.said, place)
+    }),
+    ("stage", |blob, lent, place| {
+        let ([kept, spare], image) = (&mut lent.masks, &lent.image);
+        let (list, said) = (&mut lent.list, &mut lent.said);
+        raw::stage(blob, false, kept, spare, list, image, said, place)
+    }),
+    ("publish", |blob, lent, place| {
+        let (staged, [kept, _]) = (&lent.staged, &mut lent.masks);
+        let (image, said) = (&mut lent.image, &mut lent.said);
+        raw::publish(blob, false, staged, kept, &[255], &[73], image, said, place)
     }),
     ("prepare_mask", |blob, lent, place| {
         let [kept, spare] = &mut lent.masks;
@@ -431,9 +447,23 @@ fn lent(blob: &[u8]) -> Lent {
     let (mut header, mut ranges) = ([0; raw::HEADER], [0; raw::RANGES]);
     assert_eq!(raw::read_header(blob, &mut header, &mut [0]), 0);
     assert_eq!(raw::read_ranges(blob, &header, &mut ranges, &mut [0]), 0);
+    let mut staged = [0; raw::STAGED];
+    let (spare, list) = (&mut [0], &mut [0]);
+    let number = raw::stage(
+        blob,
+        false,
+        &[0],
+        spare,
+        list,
+        &[0; 3],
+        &mut staged,
+        &mut [0],
+    );
+    assert_eq!((number, *spare, *list), (0, [255], [73]));
     Lent {
         header,
         ranges,
+        staged,
         masks: [[1; 2], [2; 2]],
         list: [3; 2],
         image: [4; 4],
@@ -471,7 +501,7 @@ fn a_refusal_writes_its_place_and_no_more() {
     let wrong = ROW.with(&[0, 7, 11]).blob();
     for (name, entry) in ENTRIES {
         let (number, at) = match name {
-            "read" | "walk" | "fill" => (8, 73),
+            "read" | "stage" | "publish" | "walk" | "fill" => (8, 73),
             _ => (0, 0),
         };
         let mut place = [7; 3];

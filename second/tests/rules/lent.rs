@@ -1,8 +1,8 @@
 //! Slices to lend, with a mark in every place, so that it shows what a reader
 //! wrote.
 
-use second::{fill, prepare_mask, read, read_header, read_ranges, walk};
-use second::{is_valid, Header, Mask, Refusal};
+use second::{fill, prepare_mask, publish, read, read_header, read_ranges, stage, walk};
+use second::{is_valid, Header, Mask, PublishAnswer, Refusal, StageAnswer};
 
 pub const KEPT: u8 = 0x5A;
 pub const SPARE: u8 = 0xC3;
@@ -61,6 +61,32 @@ impl Lent {
             &mut self.image,
         )
     }
+
+    pub fn stage(&mut self, bytes: &[u8], reuse: bool) -> StageAnswer {
+        let (kept, spare) = (&self.kept, &mut self.spare);
+        let before = self.list.clone();
+        let answer = stage(bytes, reuse, kept, spare, &mut self.list, &self.image);
+        let blocks = answer.map_or(0, |staged| staged.blocks);
+        assert_eq!(self.list[blocks..], before[blocks..], "{answer:?}");
+        answer
+    }
+
+    /// A refusal must change nothing.
+    pub fn publish(&mut self, bytes: &[u8], reuse: bool, staged: StageAnswer) -> PublishAnswer {
+        let before = self.clone();
+        let (kept, spare) = (&mut self.kept, &self.spare);
+        let answer = publish(
+            bytes,
+            reuse,
+            staged,
+            kept,
+            spare,
+            &self.list,
+            &mut self.image,
+        );
+        assert!(answer.is_ok() || *self == before, "{answer:?}");
+        answer
+    }
 }
 
 /// Reads a blob that must be accepted, and gives what the slices hold then.
@@ -105,10 +131,12 @@ fn refused_with(bytes: &[u8], mask: Option<&[u8]>) -> Refusal {
     refusal
 }
 
-/// Reads a blob as a whole and in steps, and compares all that both give.
+/// Reads a blob as a whole, in two operations and in steps, and compares all
+/// that they give.
 pub fn whole_and_steps(bytes: &[u8], reuse: bool, lent: &Lent) -> Result<Lent, Refusal> {
     let mut whole = lent.clone();
     let answer = whole.read(bytes, reuse);
+    check_two(bytes, reuse, lent, answer, &whole);
     let mut steps = lent.clone();
     let stepwise = read_in_steps(bytes, reuse, &mut steps);
     match stepwise {
@@ -129,6 +157,29 @@ pub fn whole_and_steps(bytes: &[u8], reuse: bool, lent: &Lent) -> Result<Lent, R
         }
     }
     answer.map(|_| whole)
+}
+
+/// Stage, then publish, against what a whole read gave.
+pub fn check_two(
+    bytes: &[u8],
+    reuse: bool,
+    lent: &Lent,
+    answer: Result<(Header, usize, usize), Refusal>,
+    whole: &Lent,
+) {
+    let mut two = lent.clone();
+    let staged = two.stage(bytes, reuse);
+    assert_eq!(two.image, lent.image);
+    assert_eq!(two.kept, lent.kept);
+    assert_eq!(staged.map(|s| (s.header, s.blocks, s.end)), answer);
+    let published = two.publish(bytes, reuse, staged);
+    assert_eq!(two, *whole);
+    let words = |header: Header| header.valid as usize * header.depth as usize;
+    let expected = answer.map(|(header, _, end)| (end, words(header)));
+    assert_eq!(published.map(|p| (p.end, p.words)), expected);
+    // Again, and nothing more changes.
+    assert_eq!(two.publish(bytes, reuse, staged), published);
+    assert_eq!(two, *whole);
 }
 
 /// Only valid cells are written, and no list.

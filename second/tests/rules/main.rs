@@ -15,4 +15,5 @@ mod proved_cases;
 mod random;
 mod random_blobs;
 mod refusals;
+mod stage;
 mod vectors;

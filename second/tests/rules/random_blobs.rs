@@ -70,6 +70,33 @@ fn random_changes_do_no_harm() {
     assert_eq!((refused[0], refused[5], refused[11]), (0, 0, 0));
 }
 
+#[test]
+fn random_forgeries_are_refused() {
+    let mut random = Random::new(14);
+    let mut bodies = [0; 4];
+    for _ in 0..2_000 {
+        let bytes = made(&mut random).blob.bytes();
+        let mut lent = Lent::to_read(&bytes);
+        let answer = lent.stage(&bytes, false);
+        let staged = answer.unwrap();
+        bodies[staged.body as usize] += 1;
+        for _ in 0..5 {
+            let (mut lent, mut forged) = (lent.clone(), staged);
+            match random.below(6) {
+                0 if staged.blocks > 0 => lent.list[random.below(staged.blocks)] ^= 1,
+                1 => forged.end ^= 1 << random.below(64),
+                2 => forged.blocks ^= 1 << random.below(64),
+                3 => forged.header.min ^= 1 << random.below(64),
+                4 => forged.header.valid ^= 1 << random.below(32),
+                _ => lent.spare[random.below(staged.header.mask_length())] ^= 1 << random.below(8),
+            }
+            assert_eq!(lent.publish(&bytes, false, Ok(forged)), Err(Refusal::of(3)));
+        }
+        assert!(lent.publish(&bytes, false, answer).is_ok());
+    }
+    assert!(bodies.iter().all(|&count| count > 10), "{bodies:?}");
+}
+
 /// What every place of a whole read is held to, wherever it comes from.
 fn check_place(bytes: &[u8], refusal: Refusal) {
     let Refusal { number, place } = refusal;

@@ -1,4 +1,3 @@
-mod Turn
 use mathlib.Core.Path.{_≡_, _∙_, ap}
 use Prim.Native.Nat.{_-_}
 use native.Mathlib.Omega.{arith}
@@ -9,7 +8,7 @@ use Rattle.lerc_image.specs.Parts.{BlockTile}
 use Rattle.lerc_image.proofs.Reading.{said-refused}
 use Rattle.lerc_image.proofs.Rows.{Carried, carried-none}
 use Rattle.lerc_image.proofs.Standing.{here-depth, here-read, here-carried, standing-within, standing-tile, standing-count, standing-few}
-use Rattle.lerc_image.proofs.check_blocks.Proof.Turn.{Walking, walking-none, walking-all, walking-no, walking-next}
+use Rattle.lerc_image.proofs.Walking.{Walking, walking-none, walking-all, walking-no, walking-next}
 use borrow.Author.Needs.{needs}
 use Rattle.lerc_image.proofs.check_blocks.Statement.{statement}
 use Rattle.lerc_image.proofs.check_blocks.Tie as tie

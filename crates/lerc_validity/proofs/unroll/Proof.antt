@@ -1,13 +1,11 @@
 use borrow.Author.Needs.{needs}
 use Prim.Native.Nat.{_-_, _+_}
-use mathlib.Core.Path.{_≡_, _∙_, ap}
+use mathlib.Core.Path.{_≡_}
 use native.Mathlib.Omega.{arith}
 use denote.Ref.{now}
 use lib.ListN.{length}
-use Rattle.lerc_words.specs.Res.{placed}
-use Rattle.lerc_mask.specs.Mask.{refusalOfRuns}
-use Rattle.lerc_validity.specs.Validity.{unrolled, Prepared}
-use Rattle.lerc_validity.proofs.Preparing.{fromRuns, unroll-told}
+use Rattle.lerc_validity.specs.Validity.{unrolled, Prepared, fromRuns}
+use Rattle.lerc_validity.proofs.Preparing.{unroll-told}
 use Rattle.lerc_validity.proofs.unroll.Statement.{statement}
 use Rattle.lerc_validity.proofs.unroll.Tie as tie
 
@@ -19,12 +17,7 @@ told c =
     unroll-told (now (a .s)) (a .h) (length (now (a .spare))) (c .decode .result) (c .before .before .before .before .before .before .before .pre .2) (rw (c .before .before .before .before .before .before .before .pre .0, d) at (c .decode .ensures))
 
 returns : tie.Need-returns
-returns c =
-    let q = c .at .ensures ∙ ap (placed 0) (c .before .refusal .ensures ∙ ap refusalOfRuns (c .before .before .enum-told .given .1)) in
-    rw (q) (rw (c .before .before .enum-told .given .1) at (told (c .before .before .before .before .before .before)))
-
-returns-2 : tie.Need-returns-2
-returns-2 c = rw (c .before .answer .given .1) at (told (c .before .before .before .before .before))
+returns c = rw (c .from-runs .ensures) (told (c .before .before .before))
 
 pub unroll-spec : {M : Type 1} → statement M
 unroll-spec =
@@ -37,11 +30,6 @@ unroll-spec =
     (λ c. search needs)
     (λ c. search needs)
     (λ c κs. search needs)
-    (λ c. search needs)
-    (λ c. search needs)
-    (λ c κs. search needs)
     (λ c κs. search needs)
     (λ c. search needs)
-    returns
-    (λ c. search needs)
-    returns-2)
+    returns)

@@ -2,6 +2,7 @@ use mathlib.Core.Path.{_∙_, sym, ap}
 use denote.Ref.{now}
 use Rattle.lerc_sweep.specs.Sweep.{waySaid, rawFrom, blocksFrom}
 use Rattle.lerc.proofs.Checking.{swept-to, sweep-no}
+use Rattle.lerc.specs.Parts.{maskBy}
 use borrow.Author.Needs.{needs}
 use Rattle.lerc.proofs.body.check_swept.Statement.{statement}
 use Rattle.lerc.proofs.body.check_swept.Tie as tie
@@ -10,19 +11,19 @@ returns : tie.Need-returns
 returns c =
     let a = c .before .before .before .before .before .before .before .args in
     let way = c .before .before .way .given in
-    swept-to (now (a .s)) (a .h) (now (a .mask)) _ (rawFrom (way .0 .0)) (sym (c .before .before .before .before .read-sweep .ensures) ∙ ap waySaid (way .1)) (c .check-raw .ensures _)
+    swept-to (now (a .s)) (a .h) (maskBy (now (a .s)) (a .h) (a .lent) (now (a .mask))) _ (rawFrom (way .0 .0)) (sym (c .before .before .before .before .read-sweep .ensures) ∙ ap waySaid (way .1)) (c .check-raw .ensures _ _)
 
 returns-2 : tie.Need-returns-2
 returns-2 c =
     let w = c .before .before .before .before in
     let a = w .before .before .before .before .before .args in
     let way = w .way2 .given in
-    swept-to (now (a .s)) (a .h) (now (a .mask)) _ (blocksFrom (way .0 .0)) (sym (w .before .before .read-sweep .ensures) ∙ ap waySaid (way .1)) (c .check-blocks .ensures)
+    swept-to (now (a .s)) (a .h) (maskBy (now (a .s)) (a .h) (a .lent) (now (a .mask))) _ (blocksFrom (way .0 .0)) (sym (w .before .before .read-sweep .ensures) ∙ ap waySaid (way .1)) (c .check-blocks .ensures)
 
 returns-3 : tie.Need-returns-3
 returns-3 c =
     let a = c .before .before .before .before .before .before .args in
-    sweep-no (now (a .s)) (a .h) (now (a .mask)) _ (sym (c .before .before .before .read-sweep .ensures) ∙ ap waySaid (c .before .way3 .given .1))
+    sweep-no (now (a .s)) (a .h) (maskBy (now (a .s)) (a .h) (a .lent) (now (a .mask))) _ (sym (c .before .before .before .read-sweep .ensures) ∙ ap waySaid (c .before .way3 .given .1))
 
 pub check-swept-spec : {M : Type 1} → statement M
 check-swept-spec =

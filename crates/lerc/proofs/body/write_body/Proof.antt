@@ -4,7 +4,7 @@ use native.Mathlib.Omega.{arith}
 use lib.ListN.{length}
 use Rattle.lerc_header.specs.Limits.{depthLimit}
 use denote.Ref.{now}
-use Rattle.lerc.proofs.Writing.{shaped, raw-asked, list-refused, list-empty, list-constant, list-raw, image-refused, image-none, image-constant, image-written, blocks-written}
+use Rattle.lerc.proofs.Writing.{shaped, raw-asked, image-refused, image-none, image-constant, image-written, blocks-filled}
 use borrow.Author.Needs.{needs}
 use Rattle.lerc.proofs.body.write_body.Statement.{statement}
 use Rattle.lerc.proofs.body.write_body.Tie as tie
@@ -22,52 +22,45 @@ write-constant-requires c κs =
     let s = f .before .before .before .before .before .before in
     let k : length (s .args .body .words) ≡ depthLimit = search (needs, s .good .1 .1 .1 .0) in
     let long : depthLimit ≤ length (s .args .body .words) = omega (arith, k) in
-    rw (f .shape .ensures) (shaped (s .pre .0), s .pre .2, long)
+    rw (f .shape .ensures) (shaped (s .pre .body), s .pre .room, long)
 
 write-raw-requires : tie.Need-write-raw-requires
 write-raw-requires c κs =
     let z = c .before .before .before .before in
     let s = z .before .before .before .before .before .before .before in
-    rw (z .before .shape .ensures, z .size .ensures) (raw-asked (s .pre .0) (c .before .before .found2 .given .1) (s .pre .2))
+    rw (z .before .shape .ensures, z .size .ensures) (raw-asked (s .pre .body) (c .before .before .found2 .given .1) (s .pre .room))
 
 returns : tie.Need-returns
 returns c =
     let told = c .before .before .before .before .before .before .found .given .1 in
     let z = c .before .before .before .before .before .before .before .before in
     let s = z .before .before .before .before .before .before .before in
-    record {
-      list = list-constant (s .pre .0) (now (s .args .list)) told;
-      image = image-constant (s .pre .0) (now (s .args .image)) told (rw (z .before .shape .ensures) at (c .before .before .write-constant .ensures));
-    }
+    image-constant (s .pre .body) (now (s .args .image)) told (rw (z .before .shape .ensures) at (c .before .before .write-constant .ensures))
 
 returns-2 : tie.Need-returns-2
 returns-2 c =
     let told = c .before .before .before .before .before .found2 .given .1 in
     let z = c .before .before .before .before .before .before .before in
     let s = z .before .before .before .before .before .before .before in
-    record {
-      list = list-raw (s .pre .0) (now (s .args .list)) told;
-      image = image-written (s .pre .0) (now (s .args .image)) told (rw (z .before .shape .ensures, z .size .ensures) at (c .before .before .write-raw .ensures));
-    }
+    image-written (s .pre .body) (now (s .args .image)) told (rw (z .before .shape .ensures, z .size .ensures) at (c .before .before .write-raw .ensures))
 
 returns-3 : tie.Need-returns-3
 returns-3 c =
-    let w = c .before .before .before .before in
-    let f = w .before .before .before .before .before in
-    let s = f .before .before .before .before .before .before .before .before .before in
-    blocks-written (s .pre .0) (f .found3 .given .1) (now (s .args .list)) (now (s .args .image)) (s .pre .1) (s .pre .2) (w .write-tiles .ensures)
+    let w = c .before .before in
+    let s = c .before .before .before .before .before .before .before .before .before .before .before .before .before .before .before in
+    blocks-filled (s .pre .body) (c .before .before .before .before .before .before .found3 .given .1) (s .pre) (w .fill-tiles .ensures)
 
 returns-4 : tie.Need-returns-4
 returns-4 c =
     let s = c .before .before .before .before .before .before .before .before .before in
     let told = c .enum-told .given .1 in
-    record { list = list-empty (s .pre .0) (now (s .args .list)) told; image = image-none (s .pre .0) (now (s .args .image)) told }
+    image-none (s .pre .body) (now (s .args .image)) told
 
 returns-5 : tie.Need-returns-5
 returns-5 c =
     let s = c .before .before .before .before .before .before .before .before .before .before in
     let told = c .before .found4 .given .1 in
-    record { list = list-refused (s .pre .0) (now (s .args .list)) told; image = image-refused (s .pre .0) (now (s .args .image)) told }
+    image-refused (s .pre .body) (now (s .args .image)) told
 
 pub write-body-spec : {M : Type 1} → statement M
 write-body-spec =
@@ -88,7 +81,6 @@ write-body-spec =
     returns
     (λ c. search needs)
     returns-2
-    (λ c. search needs)
     (λ c. search needs)
     returns-3
     returns-4

@@ -3,16 +3,16 @@ use Rattle.lerc.proofs.body.BodyChecked.answer.Statement.{statement}
 use Rattle.lerc.proofs.body.BodyChecked.answer.Tie as tie
 
 returns : tie.Need-returns
-returns c = rw (c .before .enum-told .given .1) (c .whole .ensures)
+returns c = rw (c .before .enum-told .given .1) (c .tell .ensures)
 
 returns-2 : tie.Need-returns-2
-returns-2 c = rw (c .before .before .found .given .1) (c .whole2 .ensures)
+returns-2 c = rw (c .before .before .found .given .1) (c .tell2 .ensures)
 
 returns-3 : tie.Need-returns-3
-returns-3 c = rw (c .before .before .found2 .given .1) (c .whole3 .ensures)
+returns-3 c = rw (c .before .before .found2 .given .1) (c .tell3 .ensures)
 
 returns-4 : tie.Need-returns-4
-returns-4 c = rw (c .before .before .found3 .given .1) (c .whole4 .ensures)
+returns-4 c = rw (c .before .before .found3 .given .1) (c .tell4 .ensures)
 
 returns-5 : tie.Need-returns-5
 returns-5 c = rw (c .before .found4 .given .1)

@@ -1,4 +1,4 @@
--- What `check_blocks` has done before block n: all blocks below it are accepted, and it begins at `next`.
+-- What a pass that judges every block has done before block n: all blocks below it are accepted, and it begins at `next`.
 -- Assumes nothing.
 use mathlib.Core.Path.{_≡_, refl}
 use mathlib.Core.List.{List, []}

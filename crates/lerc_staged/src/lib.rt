@@ -1,0 +1,1 @@
+// What staging and publishing do together, in calls; there is no code here.
