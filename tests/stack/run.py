@@ -88,7 +88,7 @@ def disassembled(archive):
 
 
 def tables(archive):
-    """Tables of jumps: for each section of constants the (section, offset) that its entries lead to."""
+    """Tables of jumps: for each section of constants its entries, as (place, section, offset by the relocation)."""
     found, section = {}, None
     for line in run(['objdump', '-r', archive]).splitlines():
         if line.startswith('RELOCATION RECORDS FOR ['):
@@ -98,8 +98,7 @@ def tables(archive):
             match = re.match(r'(\.text\S*)\+0x([0-9a-f]+)$', value)
             if kind != 'R_X86_64_PC32' or not match:
                 raise Unknown('an entry of %s that is no jump: %s' % (section, value))
-            # an entry counts from the table's start, its relocation from the entry
-            found.setdefault(section, []).append((match.group(1), int(match.group(2), 16) - int(entry, 16)))
+            found.setdefault(section, []).append((int(entry, 16), match.group(1), int(match.group(2), 16)))
     return found
 
 
@@ -230,8 +229,16 @@ class Depths:
 
     def table(self, instruction):
         """The goals of the tables that this function names."""
-        names = {symbol(r)[0] for i in self.function.code.values() for r in i.relocated}
-        goals = [goal for name in sorted(names) for goal in self.code[2].get(name, [])]
+        named = {symbol(r) for i in self.function.code.values() for r in i.relocated}
+        goals = []
+        for name in sorted({name for name, _ in named if name in self.code[2]}):
+            starts = [start for other, start in named if other == name]
+            for entry, section, offset in self.code[2][name]:
+                before = [start for start in starts if start <= entry]
+                if not before:
+                    self.give_up(instruction, 'an entry of %s in front of every table' % name)
+                # an entry counts from its table's start, its relocation from the entry
+                goals.append((section, offset - (entry - max(before))))
         if instruction.name != 'jmp' or not goals:
             self.give_up(instruction, 'a jump whose goal is not known')
         return goals
