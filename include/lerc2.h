@@ -1,4 +1,4 @@
-/* Lerc2 version 4 blobs, read by functions that are proved (crates/lerc_c).
+/* Lerc2 version 4 blobs, alone or many in one pack, read by functions that are proved (crates/lerc_c).
  *
  * Link target/staticlib/liblerc_c.a, which tools/archive.sh proves and writes; x86-64 only. It needs memcpy and memset and
  * nothing else: no allocation, no input or output, no state between calls. docs/API.md says how much stack a call needs.
@@ -9,13 +9,14 @@
  *    3  a header field breaks its rule, or a number of a record does not fit its field; or lerc2_publish is given an
  *       answer, spare or list that staging did not give
  *    4  a ceiling is passed
- *    5  a slice is too short: place, kept mask, spare mask, mask, image, list, or a record
+ *    5  a slice is too short: place, kept mask, spare mask, mask, image, list, pack, or a record
  *    6  mask section wrong, or a mask would be reused that must not be or has another count of valid pixels
  *    7  a range number not finite, or a maximum less than its minimum
  *    8  block, sweep or mode byte wrong
  *    9  a value does not fit its integer kind
  *   10  walk on a body not in blocks; mode byte 1 or 2
  *   11  block number at or above the count
+ *   12  a pack breaks a rule, or does not have the entry that is asked for; or the tiles that are given make no pack
  *   13  the checksum is not that of the blob's bytes from 14 up to its size
  * Reading goes front to back, and the first failing read decides the number, and with it the place.
  *
@@ -34,7 +35,7 @@
  *    8  inside a block: its flag byte; else the wrong sweep or mode byte
  *    9  inside a block: its flag byte; else (a constant body, lerc2_stored) 0
  *   10  the sweep byte of a raw body in a walk; the mode byte; 0 for a walk on an empty or constant body
- *    2, 3 (of an answer, spare or list too), 4, 5, 11, 13: 0
+ *    2, 3 (of an answer, spare or list too), 4, 5, 11, 12, 13: 0
  * Inside a block are its check bits, offset, counts, raw words and values. The ranges begin at 70 + mask bytes: all
  * minima, then all maxima, each of the kind's size. Behind them comes the sweep byte, and where it is 0, of kinds 0 and 1
  * with error 0.5, the mode byte; a walk looks for them where its ranges say that the body begins.
@@ -54,11 +55,11 @@
  * of the unit. An archive that is built to compute over whole numbers alone (TRUSTED in
  * crates/lerc_numeric/src/machine.rt) has no float arithmetic, and asks nothing of it.
  *
- * Records. A header, ranges and what a function says are arrays of uint64_t. After `place`, a record slice that is too
- * short is refused (5), then a number that its field cannot hold (3: a header field of 2^32 or more, a constant mark that
- * is neither 0 nor 1), then what the function's own comment lists, in that order. A staged answer with a number that no
- * answer has is one that staging did not give, which comes last. After any refusal every record is as it was. On
- * acceptance a record's first entries are written and the rest stay.
+ * Records. A header, ranges, an entry of a pack and what a function says are arrays of uint64_t. After `place`, a
+ * record slice that is too short is refused (5), then a number that its field cannot hold (3: a header field of 2^32 or
+ * more, a constant mark that is neither 0 nor 1), then what the function's own comment lists, in that order. A staged
+ * answer with a number that no answer has is one that staging did not give, which comes last. After any refusal every
+ * record is as it was. On acceptance a record's first entries are written and the rest stay.
  *
  * How half-new terrain is avoided. lerc2_stage does all of the checking and writes neither image nor kept mask, so that a
  * unit can steer by the old image meanwhile. Then lerc2_publish, under the caller's own lock, checks again, and only then
@@ -134,6 +135,21 @@ enum { LERC2_EMPTY, LERC2_CONSTANT, LERC2_RAW, LERC2_BLOCKS };
 /* which slice holds the mask in force: what lerc2_prepare_mask says first, and a staged answer among other things */
 enum { LERC2_KEPT = 1, LERC2_SPARE = 2 };
 
+/* the numbers of a pack's entry: where the tile stands in the field, what its blob's header says, where the blob stands
+ * in the pack */
+enum {
+    LERC2_ENTRY_ROW,
+    LERC2_ENTRY_COLUMN,
+    LERC2_ENTRY_KIND,
+    LERC2_ENTRY_DEPTH,
+    LERC2_ENTRY_START,
+    LERC2_ENTRY_LENGTH,
+    LERC2_ENTRY /* how many numbers */
+};
+
+/* the most tiles of a pack */
+enum { LERC2_TILES = 256 };
+
 /* Whether the calling thread's float unit rounds as the reader needs: some telling operands are added, multiplied and
  * clamped by the machine and over whole numbers. `mix` is 0; any other word tries other operands (each is xor-ed with
  * it), which may tell less. To be asked by each thread before it reads, and again where something else may have changed
@@ -203,6 +219,67 @@ uint32_t lerc2_publish(const uint8_t *blob, size_t blob_count, bool reuse, const
                        uint8_t *kept, size_t kept_count, const uint8_t *spare, size_t spare_count, const size_t *list,
                        size_t list_count, uint64_t *image, size_t image_count, uint64_t *said, size_t said_count,
                        uint64_t *place, size_t place_count);
+
+/* ---- A pack of many tiles: a field in one file, whose tiles are blobs. Numbers have their lowest byte first.
+ *
+ *     0        the version, 1
+ *     1 .. 3   zeros
+ *     4 .. 7   the count of tiles, 0 to LERC2_TILES
+ *     8 ..     an entry of 16 bytes for each tile, number n at 8 + 16 * n:
+ *                  0, 1      row of the tile in the field
+ *                  2, 3      column
+ *                  4         kind, that of the blob's header
+ *                  5         depth less one (0 to 63), that of the blob's header
+ *                  6, 7      zeros
+ *                  8 .. 11   where the blob begins, from the pack's first byte
+ *                  12 .. 15  the blob's length, which is the size that it declares
+ *     then the blobs, in the order of the entries, without a gap, up to the end of the pack
+ *
+ * Entries rise strictly, by row, and within a row by column. The header of each blob must be one that lerc2_read_header
+ * accepts, the checksum included. A pack without tiles is 01 and seven zeros. A pack may have more than 2^32 bytes (256
+ * tiles of 16 MiB): a start and a length fit 32 bits, a blob's end and the pack's length do not.
+ *
+ * Opening judges all of that, and no body. Each tile is then a blob as any other:
+ *
+ *     lerc2_stage(pack + entry[LERC2_ENTRY_START], entry[LERC2_ENTRY_LENGTH], ...)
+ *
+ * It answers for it as for a file of its own. What a header earns does not come up in a pack that was opened and has not
+ * changed since; all else does: 5 (room), 6 (mask), 1, 7 (ranges), 9, 1, 8, 10 (body). A place counts from the blob's
+ * first byte, so that in the pack it is entry[LERC2_ENTRY_START] + place[0]. A tile that is refused leaves the others as
+ * they are. A blob without a mask of its own may reuse the kept one, as always: which tile was read before is the
+ * caller's affair, and with reuse false no tile depends on another. */
+
+/* Whether these bytes, all of them, are a pack, and of how many tiles. It is one pass over the pack: each header is read,
+ * and all bytes of its blob are summed. A wrong block under a true checksum is not found here, but where the tile is
+ * staged.
+ * Refuses 5 (place under 1), 5 (said under 1), 12 (a rule above is broken; bytes behind the last blob break one too).
+ * Accepted: said[0] is the count of tiles, place[0] is 0.
+ * Refused: said is as it was, place[0] is 0. */
+uint32_t lerc2_pack_open(const uint8_t *pack, size_t pack_count, uint64_t *said, size_t said_count, uint64_t *place,
+                         size_t place_count);
+
+/* The entry `number`, counted from 0, of a pack of `tiles` tiles. It is for a pack that was opened, with the count that
+ * this said; but any bytes and any count are answered, with what the entry's 16 bytes say.
+ * Refuses 5 (place under 1), 5 (entry under 6), 12 (number at or above tiles; the 16 bytes, or the blob that they name, do
+ * not lie within the pack). Nothing else is judged again.
+ * Accepted: entry[0 .. 5] is row, column, kind, depth (the byte and one more), start and length. Start plus length is at
+ *   most pack_count. place[0] is 0.
+ * Refused: entry is as it was, place[0] is 0. */
+uint32_t lerc2_pack_entry(const uint8_t *pack, size_t pack_count, size_t tiles, size_t number, uint64_t *entry,
+                          size_t entry_count, uint64_t *place, size_t place_count);
+
+/* A pack out of tiles: rows, columns and lengths have one number for each, in the pack's order, and bodies has the blobs,
+ * end to end. Kind and depth of an entry are taken from the blob's header.
+ * Refuses 5 (place under 1), 5 (said under 1), 12 (rows, columns and lengths are not as many as each other; there are more
+ * than LERC2_TILES; the lengths do not add up to bodies_count; rows and columns do not rise strictly; a header is refused;
+ * a length is not the size that its blob declares), 5 (pack under 8 + 16 * tiles + bodies_count).
+ * Accepted: said[0] is the pack's length, 8 + 16 * tiles + bodies_count. The first said[0] bytes of pack are a pack that
+ *   lerc2_pack_open accepts, the rest stay. place[0] is 0. Without tiles that is the empty pack.
+ * Refused: pack and said are as they were, place[0] is 0. */
+uint32_t lerc2_pack_write(const uint16_t *rows, size_t rows_count, const uint16_t *columns, size_t columns_count,
+                          const size_t *lengths, size_t lengths_count, const uint8_t *bodies, size_t bodies_count,
+                          uint8_t *pack, size_t pack_count, uint64_t *said, size_t said_count, uint64_t *place,
+                          size_t place_count);
 
 /* ---- A blob block by block. Header and ranges are given by value: they are held to the rules again, and not compared
  * with the blob; its checksum is not tested again. */

@@ -11,6 +11,10 @@ impl Mark for u8 {
     const MARK: u8 = 0xA7;
 }
 
+impl Mark for u16 {
+    const MARK: u16 = 0xA7B6;
+}
+
 impl Mark for u64 {
     const MARK: u64 = 0xA7B6_C5D4_E3F2_0119;
 }

@@ -16,6 +16,7 @@ pub mod folder;
 pub mod form;
 mod lent;
 pub mod operands;
+pub mod packs;
 pub mod paths;
 pub mod places;
 pub mod plan;

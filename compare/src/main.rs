@@ -21,6 +21,12 @@ compare run [--calls N] [--seed S] [--from BLOB] [--out FOLDER]
 compare arithmetic [--pairs N] [--seed S]
     sums, products, steps and conversions of operands made at random (a
     million of each, finite and not; any seed) against whole numbers
+compare packs [--calls N] [--seed S] [--from PACK] [--out FOLDER]
+    packs made at random, opened, read and written (a million calls, any seed,
+    from pack 0); calls that differ are shown, long ones
+    saved to FOLDER (failed)
+compare packs --largest
+    the largest pack that there is, of 4 GB; it takes 9 GB of memory
 compare replay FILE
     one saved call
 compare folder FOLDER..
@@ -41,8 +47,12 @@ folder count calls by the place at which they are refused, and publishes by what
 was done since staging.
 
 Exit status: 0 no disagreement, 1 some, 2 wrong words, or it could not be run,
-or a run of 500,000 calls or more left a path, a place or a sort of publish out.
+or a run of 500,000 calls or more left a path, a place, a sort of publish or of
+pack out.
 ";
+
+/// Calls with packs are shown up to so many letters, and saved above.
+const SHOWN: usize = 8_192;
 
 fn main() -> ExitCode {
     let arguments: Vec<String> = std::env::args().skip(1).collect();
@@ -54,6 +64,7 @@ fn main() -> ExitCode {
         }
         ["run", rest @ ..] => run(rest),
         ["arithmetic", rest @ ..] => arithmetic_compared(rest),
+        ["packs", rest @ ..] => packs(rest),
         ["replay", file] => replay(file),
         ["folder", folders @ ..] if !folders.is_empty() => folders_compared(folders),
         ["checksums", folders @ ..] if !folders.is_empty() => checksums_compared(folders),
@@ -63,7 +74,7 @@ fn main() -> ExitCode {
             Err(format!("{word} takes one folder or more").into())
         }
         [] => Err(
-            "run, arithmetic, replay, folder, checksums or esri? `compare --help` says what they do"
+            "run, arithmetic, packs, replay, folder, checksums or esri? `compare --help` says what they do"
                 .into(),
         ),
         [word, ..] => Err(format!("unknown word {word}; `compare --help` has all").into()),
@@ -202,6 +213,79 @@ fn arithmetic_compared(rest: &[&str]) -> Result<bool, Box<dyn Error>> {
     let seconds = begun.elapsed().as_secs_f64();
     println!("\n{}, in {seconds:.0} s", report.text());
     Ok(report.disagreements() == 0)
+}
+
+fn packs(rest: &[&str]) -> Result<bool, Box<dyn Error>> {
+    use compare::packs::run::{Run, Side};
+    use compare::packs::sides;
+    ready()?;
+    if rest == ["--largest"] {
+        return Ok(largest_compared());
+    }
+    let options = Options::of(rest, &["--calls", "--seed", "--from", "--out"], &[])?;
+    let run = Run {
+        seed: options.number("--seed", any_seed()?)?,
+        from: options.number("--from", 0)?,
+        calls: options.number("--calls", 1_000_000)?,
+        failures: 10,
+    };
+    let out = PathBuf::from(options.word("--out").unwrap_or("failed"));
+    println!("seed {}, packs from {}", run.seed, run.from);
+    let begun = Instant::now();
+    let (one, other) = (
+        Side {
+            packs: &sides::proved,
+            stage: proved,
+        },
+        Side {
+            packs: &sides::plain,
+            stage: plain,
+        },
+    );
+    let report = run.go(one, other);
+    println!("\n{}", report.text());
+    for failure in &report.failures {
+        println!("{}", failure.text());
+        let text = failure.call.text();
+        if text.len() <= SHOWN {
+            println!("{text}");
+        } else {
+            fs::create_dir_all(&out)?;
+            let file = out.join(format!("{}-{}.pack", run.seed, failure.pack));
+            fs::write(&file, format!("# {}\n{text}", failure.text()))?;
+            println!("saved to {}", file.display());
+        }
+        println!(
+            "again: cargo run --release -- packs --seed {} --from {} --calls 1\n",
+            run.seed, failure.pack
+        );
+    }
+    println!(
+        "{} calls on {} packs in {:.0} s, {} disagreements",
+        grouped(report.table.total()),
+        grouped(report.packs),
+        begun.elapsed().as_secs_f64(),
+        report.failures.len()
+    );
+    Ok(report.verdict()?)
+}
+
+/// Each side must write, open and read the one pack.
+fn largest_compared() -> bool {
+    use compare::packs::largest::{compared, LARGEST};
+    use compare::packs::sides::{Packs, Plain, Proved};
+    let sides: [(&str, &dyn Packs); 2] = [("proved", &Proved), ("plain", &Plain)];
+    let mut disagreements = 0;
+    for (name, side) in sides {
+        let begun = Instant::now();
+        let said = compared(side, LARGEST);
+        let seconds = begun.elapsed().as_secs_f64();
+        disagreements += usize::from(said.is_err());
+        let said = said.err().unwrap_or("written, opened and read".into());
+        println!("{name}: {said}, in {seconds:.0} s");
+    }
+    println!("the largest pack, {disagreements} disagreements");
+    disagreements == 0
 }
 
 /// Saves a call that was made smaller, and says how to replay it.

@@ -65,5 +65,7 @@ pub const DOES_NOT_FIT: u32 = 9;
 pub const NOT_BLOCKS: u32 = 10;
 /// The block number is at or above the count.
 pub const NO_SUCH_BLOCK: u32 = 11;
+/// A pack is wrong, in its contents or in the header of a blob.
+pub const WRONG_PACK: u32 = 12;
 /// The stored checksum is not that of the bytes behind it.
 pub const WRONG_CHECKSUM: u32 = 13;

@@ -1,7 +1,7 @@
-/* What every function that can refuse does with its last slice, the place: each is called on the rules' own blob, which comes
- * from standard input (crates/lerc2/stdin), with no room for a place, with a record that is too short, rightly, on a blob
- * whose block is wrong, and on blobs whose checksum is false: those that read the header say 13 at 0 and leave every slice as
- * it was, those that have a header by value do not look.
+/* What every function that can refuse a blob does with its last slice, the place (pack.c has those for packs): each is called on
+ * the rules' own blob, which comes from standard input (crates/lerc2/stdin), with no room for a place, with a record that is too
+ * short, rightly, on a blob whose block is wrong, and on blobs whose checksum is false: those that read the header say 13 at 0
+ * and leave every slice as it was, those that have a header by value do not look.
  * Exit status: 0 as expected, 1 not so, 2 there is another blob on standard input. */
 #include "../../include/lerc2.h"
 

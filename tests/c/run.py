@@ -1,11 +1,11 @@
 #!/usr/bin/env python3
 """Runs the C examples on the stored blobs of lerc_fill_cases and compares what they write with Esri's cells; then on blobs that are
-refused (refused.py), and compares number and place.
+refused (refused.py), and compares number and place; then on packs of such blobs (packs.py), and compares the table of tiles.
 
-    python3 tests/c/run.py FOLDER [EMULATOR AND ITS WORDS]      FOLDER has the programs read, blocks and stage (target/examples)
+    python3 tests/c/run.py FOLDER [EMULATOR AND ITS WORDS]      FOLDER has the programs read, blocks, stage and pack (target/examples)
 
 In data blob i is file 2i and what Esri's decoder gave for it file 2i + 1 (its form is in tests/fill/make.py). What data/names
-calls planted has a wrong expectation, and must differ; so have the refusals that refused.py plants. Ends with status 1 if
+calls planted has a wrong expectation, and must differ; so have the refusals and packs that are planted. Ends with status 1 if
 anything else differs or a planted one does not, 2 if it could not be run.
 """
 import glob
@@ -16,11 +16,13 @@ import subprocess
 import sys
 
 sys.dont_write_bytecode = True
+import packs  # noqa: E402
 import refused  # noqa: E402
 
 DATA = os.path.join(os.path.dirname(os.path.abspath(__file__)), '../../crates/lerc_fill_cases/data')
 WORD = ('B', 'B', 'H', 'H', 'I', 'I', 'I', 'Q')
-PROGRAMS = ('read', 'blocks', 'stage')
+PROGRAMS = ('read', 'blocks', 'stage')  # of one blob
+ALL = PROGRAMS + ('pack',)
 
 
 class Expected:
@@ -85,6 +87,24 @@ def compare_refusals(commands):
     return len(differ) + len(missed)
 
 
+def same_table(command, pack, lines, status):
+    ran = subprocess.run(command, input=pack, stdout=subprocess.PIPE)
+    return (ran.stdout.decode().splitlines(), ran.returncode) == (lines, status)
+
+
+def compare_packs(command, stored):
+    """how many packs differ, or are planted and do not"""
+    cases, planted = list(packs.cases(stored)), list(packs.planted())
+    differ = [name for name, *rest in cases if not same_table(command, *rest)]
+    missed = [name for name, *rest in planted if same_table(command, *rest)]
+    for name in differ + missed:
+        print('%s: the pack %s' % (name, 'does not show what was planted' if name in missed else 'differs'))
+    tiles = sum(len(lines) - 2 for _, _, lines, _ in cases if lines != packs.NONE)
+    print('%d packs, %d tiles in those that are right, by pack: %d differ' % (len(cases), tiles, len(differ)))
+    print('%d planted packs that must differ' % len(planted))
+    return len(differ) + len(missed)
+
+
 def wrong(why):
     print('run.py: %s; usage: python3 tests/c/run.py FOLDER [EMULATOR AND ITS WORDS]' % why, file=sys.stderr)
     return 2
@@ -94,7 +114,7 @@ def main():
     if len(sys.argv) < 2:
         return wrong('no folder')
     folder, emulator = sys.argv[1], sys.argv[2:]
-    for name in PROGRAMS:
+    for name in ALL:
         if not os.access(os.path.join(folder, name), os.X_OK):
             return wrong('there is no program %s in %s (examples/build.sh makes it)' % (name, folder))
     if emulator and not shutil.which(emulator[0]):
@@ -119,6 +139,7 @@ def main():
     print('%d blobs, %d valid cells, by read, by blocks and by stage: %d differ' % (len(planted) - found, cells, differ))
     print('%d planted expectations that must differ' % found)
     differ += compare_refusals([emulator + [os.path.join(folder, name)] for name in PROGRAMS])
+    differ += compare_packs(emulator + [os.path.join(folder, 'pack')], [open(blob, 'rb').read() for blob in files[0::2]])
     return 1 if differ or not found or len(files) != 2 * len(planted) else 0
 
 

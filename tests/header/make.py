@@ -3,9 +3,8 @@
 
     python3 tests/header/make.py            in the repository's root: writes crates/lerc_header_cases/{stdin,stdout}
 
-Written from the rules alone, over whole numbers: a binary64 is its bits, and two finite ones are compared by sign and
-magnitude; of the checksum Esri's published code decides (tools/checksum.py). A record is its size (4 bytes), another length
-(4 bytes) and a blob. Its line says what the header reader answers, then what follows from the fields by value beside a slice of
+Written from the rules alone, over whole numbers; the header's own are in rules.py. A record is its size (4 bytes), another length (4 bytes)
+and a blob. Its line says what the header reader answers, then what follows from the fields by value beside a slice of
 the other length, then the ranges read with these fields.
 """
 import os
@@ -16,34 +15,16 @@ ROOT = os.path.join(os.path.dirname(os.path.abspath(__file__)), '../..')
 sys.path[:0] = [os.path.join(ROOT, 'tools'), os.path.join(ROOT, 'tests/checksum')]
 from checksum import by_the_words, checksum, sealed, stored, summed_part, with_field  # noqa: E402
 from rows import IN_BLOCK, ROWS  # noqa: E402
+from rules import NAMES, SIGN, Refused, fields, finite, held, order, read_header, require  # noqa: E402
 
 if sys.argv[1:]:
     print('make.py: no word is known; usage: python3 tests/header/make.py', file=sys.stderr)
     sys.exit(2)
 
-SIGN, INF, NAN = 1 << 63, 2047 << 52, (2047 << 52) + 1
+INF, NAN = 2047 << 52, (2047 << 52) + 1
 LARGEST = INF - 1
 SIZES = [1, 1, 2, 2, 4, 4, 4, 8]
-NAMES = ['rows', 'columns', 'depth', 'valid', 'side', 'size', 'kind', 'error', 'min', 'max', 'mask']
 TOP = 0xFFFFFFFF
-
-
-class Refused(Exception):
-    pass
-
-
-def require(test, number):
-    if not test:
-        raise Refused(number)
-
-
-def finite(w):
-    return w >> 52 & 2047 != 2047
-
-
-def order(w):
-    """finite words in the order of their values, both zeros alike"""
-    return -(w - SIGN) if w >= SIGN else w
 
 
 def same(a, b):
@@ -80,40 +61,6 @@ def number(word, kind):
     if kind % 2 == 0 and word >> width - 1:
         word -= 1 << width
     return whole(word)
-
-
-def fields(blob):
-    """the fields as they stand; zeros past the end"""
-    return dict(zip(NAMES, struct.unpack('<7I3QI', blob[14:70].ljust(56, b'\0'))))
-
-
-def held(h, length):
-    pixels = h['rows'] * h['columns']
-    require(h['rows'] >= 1 and h['columns'] >= 1 and h['depth'] >= 1 and h['side'] >= 1, 3)
-    require(h['valid'] <= pixels, 3)
-    require(h['kind'] <= 7, 3)
-    require(h['error'] < SIGN and finite(h['error']) and h['error'] < 2046 << 52, 3)
-    require(finite(h['min']) and finite(h['max']) and order(h['max']) >= order(h['min']), 3)
-    require(h['size'] >= 70 + h['mask'], 3)
-    require(h['rows'] <= 4096 and h['columns'] <= 4096, 4)
-    require(h['depth'] <= 64, 4)
-    require(pixels * h['depth'] <= 4194304, 4)
-    require(h['side'] <= 16, 4)
-    require(h['size'] <= 16777216, 4)
-    require(length >= h['size'], 1)
-    tiles = -(-h['rows'] // h['side']) * -(-h['columns'] // h['side'])
-    return [('pixels', pixels), ('cells', pixels * h['depth']), ('mask', (pixels + 7) // 8), ('blocks', tiles * h['depth']),
-            ('ranges', 70 + h['mask']), ('size', h['size'])]
-
-
-def read_header(blob):
-    require(len(blob) >= 70, 1)
-    require(blob[:6] == b'Lerc2 ' and blob[6:10] == struct.pack('<I', 4), 2)
-    h = fields(blob)
-    held(h, len(blob))
-    # "refusal 13, after the header's own refusals"; a header by value (held, read_ranges) is not tested
-    require(stored(blob) == checksum(summed_part(blob)), 13)
-    return [(name, h[name]) for name in NAMES]
 
 
 def read_ranges(blob, h):

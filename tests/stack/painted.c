@@ -12,7 +12,9 @@ enum { STACK = 1 << 18, PAINT = 0xA5, BYTES = 1 << 20, MASK = 1 << 14, CELLS = 1
 
 static uint8_t stack[STACK] __attribute__((aligned(16)));
 static uint8_t blob[BYTES], kept[MASK], spare[MASK];
+static uint8_t bodies[2 * BYTES], pack[3 * BYTES];
 static uint64_t header[LERC2_HEADER], ranges[LERC2_RANGES], staged[LERC2_STAGED], image[CELLS], said[LERC2_READ], place[1];
+static uint64_t entry[LERC2_ENTRY];
 static size_t size, list[CELLS], count, length;
 static const uint8_t *mask;
 
@@ -30,6 +32,9 @@ NOTED(lerc2_prepare_mask);
 NOTED(lerc2_read_ranges);
 NOTED(lerc2_walk);
 NOTED(lerc2_fill);
+NOTED(lerc2_pack_open);
+NOTED(lerc2_pack_entry);
+NOTED(lerc2_pack_write);
 NOTED(lerc2_float_ready);
 NOTED(lerc2_sum);
 NOTED(lerc2_scaled);
@@ -75,6 +80,22 @@ static void call_stage(void) {
 static void call_publish(void) {
     answer = noted_lerc2_publish(blob, size, false, staged, LERC2_STAGED, kept, MASK, spare, MASK, list, CELLS, image, CELLS,
                                  said, 2, place, 1);
+}
+
+/* a pack of the blob twice, which is opened and asked for its second tile */
+static size_t packed;
+
+static void call_pack_write(void) {
+    static const uint16_t rows[] = {0, 0}, columns[] = {0, 1};
+    const size_t lengths[] = {header[LERC2_SIZE], header[LERC2_SIZE]};
+    answer = noted_lerc2_pack_write(rows, 2, columns, 2, lengths, 2, bodies, 2 * lengths[0], pack, sizeof pack, said, 1, place,
+                                    1);
+}
+
+static void call_pack_open(void) { answer = noted_lerc2_pack_open(pack, packed, said, 1, place, 1); }
+
+static void call_pack_entry(void) {
+    answer = noted_lerc2_pack_entry(pack, packed, 2, 1, entry, LERC2_ENTRY, place, 1);
 }
 
 /* operands that are far apart, that cancel, that are small and that are not finite */
@@ -161,6 +182,16 @@ static int used(const char *name, void (*function)(void)) {
     return answer == 0;
 }
 
+static void use_pack(void) {
+    memcpy(bodies, blob, header[LERC2_SIZE]);
+    memcpy(bodies + header[LERC2_SIZE], blob, header[LERC2_SIZE]);
+    if (used("lerc2_pack_write", call_pack_write)) {
+        packed = said[0];
+        used("lerc2_pack_open", call_pack_open);
+        used("lerc2_pack_entry", call_pack_entry);
+    }
+}
+
 static void use_blob(const char *path) {
     FILE *file = fopen(path, "rb");
     if (file == NULL) {
@@ -172,7 +203,11 @@ static void use_blob(const char *path) {
     used("lerc2_read", call_read);
     used("lerc2_stage", call_stage);
     used("lerc2_publish", call_publish);
-    if (!used("lerc2_read_header", call_read_header) || !used("lerc2_prepare_mask", call_prepare_mask)) {
+    if (!used("lerc2_read_header", call_read_header)) {
+        return;
+    }
+    use_pack();
+    if (!used("lerc2_prepare_mask", call_prepare_mask)) {
         return;
     }
     mask = said[0] == LERC2_KEPT ? kept : spare;

@@ -1,6 +1,6 @@
 #!/bin/sh
 # Tests the scripts and programs around the reader: ./lerc2, the archive and who links it, wrong words, lost outputs, checksums,
-# the stack, float units that were changed.
+# the stack, float units that were changed, fields and their picture.
 #     tests/tools/run.sh       less than a minute; ends in 'N passed, M failed', with status 1 where M is not 0
 # Proving takes minutes, so a stand-in for the kit (tests/tools/rt) says what it is told to. What needs cargo, gcc or a proved
 # archive that is not there is named as not tried.
@@ -342,7 +342,7 @@ wrong_words() { # WORDS IN WHAT IT SAYS, COMMAND...
     gives "$*" 2 "$@"
     says "$*" "$say_so"
 }
-pictures=$(cat docs/*.svg | sha256sum)
+pictures=$(cat docs/*.svg docs/*.png | sha256sum)
 wrong_words 'usage: bench/whole.sh' bench/whole.sh nosuch
 wrong_words 'usage: bench/whole.sh' bench/whole.sh --svg "$ROOM/x.svg"
 wrong_words 'usage: bench/whole.sh' bench/whole.sh --rounds many
@@ -379,7 +379,7 @@ if command -v python3 >/dev/null; then
     wrong_words 'no folder' python3 tests/c/run.py
     wrong_words 'no program read in nosuch' python3 tests/c/run.py nosuch
     mkdir "$ROOM/nothing"
-    for program in read blocks stage; do printf '#!/bin/sh\n' >"$ROOM/nothing/$program" && chmod +x "$ROOM/nothing/$program"; done
+    for program in read blocks stage pack; do printf '#!/bin/sh\n' >"$ROOM/nothing/$program" && chmod +x "$ROOM/nothing/$program"; done
     gives 'programs that write nothing differ' 1 python3 tests/c/run.py "$ROOM/nothing"
     wrong_words 'usage: ' python3 tests/stack/run.py nosuch
     # scripts that write stored cases: in a copy, since a wrong word must not change one
@@ -666,7 +666,7 @@ if command -v cargo >/dev/null && command -v gcc >/dev/null && tools/archive.sh 
     gives 'compare folder' 0 compare folder "$ROOM/blobs"
     holds 'compare folder counts disagreements' grep -q ' calls on 1 blobs, 0 disagreements$' "$out"
     gives 'the examples' 0 examples/build.sh
-    for program in read blocks stage; do
+    for program in read blocks stage pack; do
         lost_by() { "target/examples/$program" <crates/lerc2/stdin >/dev/full; }
         gives "examples/$program.c to a full device" 3 lost_by
     done
@@ -683,9 +683,73 @@ if command -v cargo >/dev/null && command -v gcc >/dev/null && tools/archive.sh 
     gives 'the place of each function, another blob' 2 places README.md
     gives 'tests/c/stage.c is built' 0 gcc -std=c11 -O2 -Wall -Wextra -Werror -pedantic tests/c/stage.c target/staticlib/liblerc_c.a -o "$ROOM/stage"
     gives 'stage and publish' 0 "$ROOM/stage"
+    gives 'tests/c/pack.c is built' 0 gcc -std=c11 -O2 -Wall -Wextra -Werror -pedantic tests/c/pack.c target/staticlib/liblerc_c.a -o "$ROOM/pack"
+    gives 'packs, one of them of more than 2^32 bytes' 0 "$ROOM/pack" long
+    wrong_words 'unknown word nosuch' "$ROOM/pack" nosuch
     gives 'tests/c/checksum.c is built' 0 gcc -std=c11 -O2 -Wall -Wextra -Werror -pedantic tests/c/checksum.c target/staticlib/liblerc_c.a -o "$ROOM/checksum"
     gives 'the checksum by itself' 0 "$ROOM/checksum"
     gives 'the examples on stored blobs and refused ones' 0 python3 tests/c/run.py target/examples
+    # a field: one table from C and from Rust, and a picture
+    gives 'the examples in Rust' 0 cargo build --offline --quiet -j1 --examples --manifest-path rust/lerc2/Cargo.toml
+    in_rust=rust/lerc2/target/debug/examples
+    gives 'a field is made' 0 "$in_rust/make_field"
+    cp "$out" "$ROOM/field.pack"
+    for name in few none far odd empty large; do
+        gives "a field is made, $name" 0 python3 tests/tools/fields.py "$name"
+        cp "$out" "$ROOM/$name.pack"
+    done
+    wrong_words 'usage: ' python3 tests/tools/fields.py nosuch
+    of_field() { # NAME PROGRAM WORDS...
+        name=$1
+        shift
+        "$@" <"$ROOM/$name.pack"
+    }
+    for told in 'field 1' 'few 1' 'none 0' 'far 0' 'odd 0' 'empty 0' 'large 0'; do
+        gives "a table in C, $told" "${told#* }" of_field "${told% *}" target/examples/pack
+        is_silent "a table in C, $told"
+        cp "$out" "$ROOM/table"
+        gives "a table in Rust, $told" "${told#* }" of_field "${told% *}" "$in_rust/pack"
+        is_silent "a table in Rust, $told"
+        holds "which is the same, $told" cmp "$ROOM/table" "$out"
+        gives "a picture, $told" "${told#* }" of_field "${told% *}" "$in_rust/field"
+        cp "$out" "$ROOM/picture.png"
+        gives "which is one, $told" 0 python3 tests/tools/png.py "$ROOM/picture.png"
+    done
+    gives 'a picture with words' 1 of_field few "$in_rust/field" --depth 1 --scale 40
+    says 'a picture with words' 'field: tile 2 514: refused 8 at 74'
+    gives 'the picture of docs/' 1 of_field field "$in_rust/field" --scale 4
+    holds 'is this one' cmp docs/field.png "$out"
+    printf 'spoilt' >>"$ROOM/picture.png"
+    gives 'no picture' 1 python3 tests/tools/png.py "$ROOM/picture.png"
+    wrong_words 'usage: ' python3 tests/tools/png.py
+    wrong_words 'the picture would have 69309280 pixels' of_field large "$in_rust/field" --scale 4
+    for odd in '--depth 64' '--depth -1' '--depth' '--scale 0' '--scale 65' '--scale many' '--scale 2 --scale'; do
+        # shellcheck disable=SC2086
+        wrong_words ' needs a number, ' "$in_rust/field" $odd
+    done
+    wrong_words '--scale stands there twice' "$in_rust/field" --scale 2 --scale 2
+    wrong_words 'unknown word nosuch' "$in_rust/field" nosuch
+    wrong_words 'unknown word --help' "$in_rust/field" --help more
+    for program in target/examples/pack "$in_rust/pack" "$in_rust/make_field"; do
+        wrong_words 'no word is known but --help' "$program" nosuch
+        wrong_words 'no word is known but --help' "$program" --help more
+    done
+    for program in target/examples/pack "$in_rust/pack" "$in_rust/field" "$in_rust/make_field"; do
+        lost_words() { "$program" --help >/dev/full; }
+        gives "$program --help" 0 "$program" --help
+        holds "$program --help names each status" grep -q '^Exit status: 0 ' "$out"
+        gives "$program --help to a full device" 3 lost_words
+        lost_by() { "$program" <"$ROOM/field.pack" >/dev/full; }
+        gives "$program to a full device" 3 lost_by
+    done
+    for program in target/examples/pack "$in_rust/pack" "$in_rust/field"; do
+        of_folder() { "$program" <"$ROOM"; }
+        wrong_words 'standard input cannot be read' of_folder
+        of_blob() { "$program" <crates/lerc2/stdin; }
+        gives "$program, no pack" 1 of_blob
+        told=$(cat "$out" "$err")
+        holds "$program, no pack: says so" [ "${told#*refused 12 at 0}" != "$told" ]
+    done
     gives 'checksums by the reader' 0 python3 tests/checksum/run.py --archive target/staticlib/liblerc_c.a --wrong false -- "$ROOM/checksums"
     # shellcheck disable=SC2086
     gives 'the float instructions' 0 python3 tests/floats/run.py ${words:+--words target/staticlib/liblerc_c.a}
@@ -705,7 +769,7 @@ if command -v cargo >/dev/null && command -v gcc >/dev/null && tools/archive.sh 
     fi
     if [ "$(uname -m)" = x86_64 ] && [ -z "$words" ]; then
         # gcc adds code that begins with small numbers flushed to zero
-        for program in read blocks stage; do
+        for program in read blocks stage pack; do
             gcc -std=c11 -O2 -ffast-math "examples/$program.c" target/staticlib/liblerc_c.a -o "$ROOM/flushing"
             flushing() { "$ROOM/flushing" <crates/lerc2/stdin; }
             gives "examples/$program.c with -ffast-math" 2 flushing
@@ -740,7 +804,7 @@ if command -v cargo >/dev/null && command -v gcc >/dev/null && tools/archive.sh 
 else
     not_tried 'compare, the examples, the plain reader and measuring (cargo, gcc or the archive is missing)'
 fi
-holds 'the pictures of docs/ are as they were' [ "$(cat docs/*.svg | sha256sum)" = "$pictures" ]
+holds 'the pictures of docs/ are as they were' [ "$(cat docs/*.svg docs/*.png | sha256sum)" = "$pictures" ]
 
 echo "$passed passed, $failed failed"
 [ "$failed" -eq 0 ]

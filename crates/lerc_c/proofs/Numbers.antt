@@ -1,8 +1,8 @@
--- Every refusal carries a number from 1 to 11, or 13, so 0 always means accepted.
+-- Every refusal carries a number from 1 to 13, so 0 always means accepted. 12 comes from the entries of packs alone.
 -- Assumes nothing.
 use Prim.Native.Nat.{ℕ, zero, suc, _+_, _*_, _/_, _%_, _-_, _≤_}
 use mathlib.Core.Path.{_≡_, refl}
-use mathlib.Core.Bool.{Bool, true, false, cond, not, _&&_, _||_}
+use mathlib.Core.Bool.{Bool, true, false, cond, not, _&&_}
 use mathlib.Core.List.{List, [], _∷_}
 use native.Mathlib.Omega.{arith}
 use lib.ListN.{length, getD, take, drop, replicate}
@@ -35,13 +35,18 @@ use Rattle.lerc.specs.Meaning.{missingWordAt, rawBody, blockBody, bodyFrom, swe
 use Rattle.lerc.specs.Read.{Lent, room, masked, readSays}
 use Rattle.lerc.specs.declared.StageAnswer.{StageAnswer}
 use Rattle.lerc.specs.Stage.{wasStaged, publishSays}
+use Rattle.lerc_words.specs.Lists.{allTo}
+use Rattle.lerc_pack.specs.Contents.{entryPlace, bodyEnd, bodyPlace, tilesRight}
+use Rattle.lerc_pack.specs.Pack.{countOf, headRight, entryPart, zerosRight, entryAt, tileOf as tileIn, packSays, entrySays}
+use Rattle.lerc_pack_writer.specs.Writing.{Given, givenRight, addsUp, packLength, tileGiven, writeSays}
 use Rattle.lerc_c.specs.Records.{numberOf, headerRoom, fieldsFit, headerFrom, rangesRoom, rangesFrom, stagedRoom, stagedFrom}
 use Rattle.lerc_c.specs.Entries.{headerEntry, prepareEntry, rangesEntry, walkEntry, fillEntry, readRoom, readEntry, stageEntry, publishEntry, storedEntry}
+use Rattle.lerc_c.specs.Packs.{packEntry, entryRoom, entryEntry, packWriteEntry}
 
 -- ---- answers whose refusals are numbered, and how they are put together
 
 abbrev inTable : ℕ → Bool
-inTable n = leb 1 n && (leb n 11 || eqb n 13)
+inTable n = leb 1 n && leb n 13
 
 pub record Numbered {A : Type 0} (m : Res A) : Type 0 where
   pub number : (r : Refusal) → m ≡ fail r → inTable (r .number) ≡ true
@@ -357,10 +362,45 @@ pub stored-numbered : (kind v : ℕ) (said : List ℕ) → Numbered (storedEntry
 unfolding storedEntry
 stored-numbered kind v said = check (leb 1 (length said)) 5 refl (λ _. stored-n kind v)
 
+-- ---- packs
+
+pack-n : (b : List ℕ) → Numbered (packSays b)
+unfolding packSays
+pack-n b =
+    check (headRight b) 12 refl
+    (λ _. check (allTo (countOf b) (λ i. zerosRight (entryPart b i))) 12 refl
+    (λ _. check (tilesRight (countOf b) (tileIn b)) 12 refl
+    (λ _. check (eqb (bodyPlace (countOf b) (tileIn b) (countOf b)) (length b)) 12 refl (λ _. accepted _))))
+
+entry-n : (b : List ℕ) (n i : ℕ) → Numbered (entrySays b n i)
+unfolding entrySays
+entry-n b n i =
+    check (ltb i n) 12 refl
+    (λ _. check (leb (entryPlace (suc i)) (length b)) 12 refl (λ _. check (leb (bodyEnd (entryAt b i)) (length b)) 12 refl (λ _. accepted _)))
+
+write-n : (g : Given) (room : ℕ) → Numbered (writeSays g room)
+unfolding writeSays
+write-n g room =
+    check (givenRight g) 12 refl
+    (λ _. check (addsUp g) 12 refl
+    (λ _. check (tilesRight (length (g .rows)) (tileGiven g)) 12 refl (λ _. check (leb (packLength g) room) 5 refl (λ _. accepted _))))
+
+pub pack-numbered : (b said : List ℕ) → Numbered (packEntry b said)
+unfolding packEntry
+pack-numbered b said = check (leb 1 (length said)) 5 refl (λ _. pack-n b)
+
+pub entry-numbered : (b : List ℕ) (tiles number : ℕ) (entry : List ℕ) → Numbered (entryEntry b tiles number entry)
+unfolding entryEntry
+entry-numbered b tiles number entry = check (leb entryRoom (length entry)) 5 refl (λ _. entry-n b tiles number)
+
+pub write-numbered : (g : Given) (room : ℕ) (said : List ℕ) → Numbered (packWriteEntry g room said)
+unfolding packWriteEntry
+write-numbered g room said = check (leb 1 (length said)) 5 refl (λ _. write-n g room)
+
 -- an entry that returns 0 has accepted
 pub zero-accepts : {A : Type 0} {m : Res A} → Numbered m → numberOf m ≡ 0 → (a : A) × (m ≡ ok a)
 zero-accepts {A} {m} p e = go m p e
   where
     go : (x : Res A) → Numbered x → numberOf x ≡ 0 → (a : A) × (x ≡ ok a)
     go (ok a) q d = (a, refl)
-    go (fail r) q d = absurd (let h : 1 ≤ r .number = leb-true 1 (r .number) (and-is (leb 1 (r .number)) (leb (r .number) 11 || eqb (r .number) 13) (q .number r refl) .0) in omega arith)
+    go (fail r) q d = absurd (let h : 1 ≤ r .number = leb-true 1 (r .number) (and-is (leb 1 (r .number)) (leb (r .number) 13) (q .number r refl) .0) in omega arith)

@@ -6,9 +6,12 @@ ghost use mathlib.Core.Bool.{true};
 ghost use Rattle.lerc_checksum.specs.Checksum.{checksum};
 ghost use Rattle.lerc_numeric.specs.Numeric.{sum, scaled};
 ghost use Rattle.lerc_numeric.specs.Kinds.{valueOf, narrowed};
+ghost use lib.ListN.{length};
 ghost use Rattle.lerc_c.specs.Entries as Entry;
+ghost use Rattle.lerc_c.specs.Packs as Packs;
 
 mod calls;
+mod packs;
 mod ranges;
 mod records;
 mod staged;
@@ -209,6 +212,59 @@ pub extern "C" fn lerc2_fill(
     );
     place[0] = fill_why.at as u64;
     fill_why.number
+}
+
+// The whole pack is judged: `said` is the count of its tiles.
+#[no_mangle]
+pub extern "C" fn lerc2_pack_open(pack: &[u8], said: &mut [u64], place: &mut [u64]) -> u32
+    ensures { λ r. ⌜ Entry.Returned (λ why. Packs.PackOpenDone (Entry.placing (now (place .entry)) (Packs.packEntry (now (pack .entry)) (now (said .entry)))) why (now (said .entry)) (now (said .exit))) r (now (place .entry)) (now (place .exit)) ⌝ }
+{
+    if place.len() < 1 {
+        return 5;
+    }
+    let open_why = packs::open_pack(pack, &mut said[..]);
+    place[0] = open_why.at as u64;
+    open_why.number
+}
+
+// One entry of a pack with `tiles` tiles: `entry` is row, column, kind, depth, start and length.
+#[no_mangle]
+pub extern "C" fn lerc2_pack_entry(
+    pack: &[u8],
+    tiles: usize,
+    number: usize,
+    entry: &mut [u64],
+    place: &mut [u64],
+) -> u32
+    ensures { λ r. ⌜ Entry.Returned (λ why. Packs.PackEntryDone (Entry.placing (now (place .entry)) (Packs.entryEntry (now (pack .entry)) tiles number (now (entry .entry)))) why (now (entry .entry)) (now (entry .exit))) r (now (place .entry)) (now (place .exit)) ⌝ }
+{
+    if place.len() < 1 {
+        return 5;
+    }
+    let entry_why = packs::read_entry(pack, tiles, number, &mut entry[..]);
+    place[0] = entry_why.at as u64;
+    entry_why.number
+}
+
+// Tiles as a pack: `said` is the pack's length.
+#[no_mangle]
+pub extern "C" fn lerc2_pack_write(
+    rows: &[u16],
+    columns: &[u16],
+    lengths: &[usize],
+    bodies: &[u8],
+    pack: &mut [u8],
+    said: &mut [u64],
+    place: &mut [u64],
+) -> u32
+    ensures { λ r. ⌜ Entry.Returned (λ why. Packs.PackWriteDone (record { rows = now (rows .entry); columns = now (columns .entry); lengths = now (lengths .entry); bodies = now (bodies .entry) }) (Entry.placing (now (place .entry)) (Packs.packWriteEntry (record { rows = now (rows .entry); columns = now (columns .entry); lengths = now (lengths .entry); bodies = now (bodies .entry) }) (length (now (pack .entry))) (now (said .entry)))) why (now (pack .entry)) (now (pack .exit)) (now (said .entry)) (now (said .exit))) r (now (place .entry)) (now (place .exit)) ⌝ }
+{
+    if place.len() < 1 {
+        return 5;
+    }
+    let write_why = packs::write_pack(rows, columns, lengths, bodies, &mut pack[..], &mut said[..]);
+    place[0] = write_why.at as u64;
+    write_why.number
 }
 
 // a binary64 word as a stored word of a kind, which is what `said` is

@@ -4,6 +4,7 @@ use mathlib.Core.Path.{_≡_, _∙_, sym, ap}
 use mathlib.Core.Bool.{Bool}
 use mathlib.Core.List.{List}
 use Prim.Native.Nat.{ℕ}
+use lib.ListN.{length}
 use Rattle.lerc_words.specs.declared.Refusal.{Refusal}
 use Rattle.lerc_words.specs.Res.{Res}
 use Rattle.lerc_samples.specs.declared.StoredAnswer.{StoredAnswer}
@@ -16,9 +17,16 @@ use Rattle.lerc.specs.declared.StageAnswer.{StageAnswer}
 use Rattle.lerc.specs.declared.PublishAnswer.{PublishAnswer}
 use Rattle.lerc.specs.Read.{Lent, Masked}
 use Rattle.lerc.specs.Stage.{StageRead, Publishing}
+use Rattle.lerc_pack.specs.declared.Entry.{Entry}
+use Rattle.lerc_pack.specs.declared.PackAnswer.{PackAnswer}
+use Rattle.lerc_pack.specs.declared.EntryAnswer.{EntryAnswer}
+use Rattle.lerc_pack.specs.Pack.{packSays, packSaid, entrySays, entrySaid}
+use Rattle.lerc_pack_writer.specs.declared.WriteAnswer.{WriteAnswer}
+use Rattle.lerc_pack_writer.specs.Writing.{Given, PackWritten}
 use Rattle.lerc_c.specs.Entries.{placing, Returned, headerEntry, HeaderDone, prepareEntry, PrepareDone, rangesEntry, RangesDone, Walking, walkEntry, WalkDone, Filling, fillEntry, FillDone, readEntry, maskedEntry, ReadDone, stageEntry, stagedMaskEntry, StageDone, publishEntry, PublishDone, storedEntry, StoredDone}
+use Rattle.lerc_c.specs.Packs.{packEntry, PackOpenDone, entryEntry, PackEntryDone, packWriteEntry, PackWriteDone}
 use Rattle.lerc_theorems.proofs.Calls.{promise}
-use Rattle.lerc_c_theorems.specs.Calls.{Told, HeaderInC, PrepareInC, RangesInC, WalkInC, FillInC, ReadInC, StageInC, PublishInC, StageCall, PublishCall, StoredInC, StoredCall}
+use Rattle.lerc_c_theorems.specs.Calls.{Told, HeaderInC, PrepareInC, RangesInC, WalkInC, FillInC, ReadInC, StageInC, PublishInC, StageCall, PublishCall, StoredInC, StoredCall, PackOpenInC, PackEntryInC, PackWriteInC, PackOpenCall, PackEntryCall, PackWriteCall}
 
 -- what an entry does, and what is told of it
 abbrev pub Entered : (Refusal → Type 0) → Told → Type 0
@@ -72,6 +80,27 @@ stored-done = promise (λ g n x. Returned (λ why. StoredDone (placing (g .3) (s
 pub stored-call : {v kind : ℕ} {answer : StoredAnswer} → StoredCall v kind answer → storedSaid answer ≡ stored kind v
 stored-call = promise (λ g r x. storedSaid r ≡ stored (g .1) (g .0)) (λ k a r x p. p)
 
+pub pack-open-done : {b : List ℕ} {t : Told} {said₀ said₁ : List ℕ} → PackOpenInC b t said₀ said₁ → Entered (λ why. PackOpenDone (placing (t .place₀) (packEntry b said₀)) why said₀ said₁) t
+pack-open-done = promise (λ g n x. Returned (λ why. PackOpenDone (placing (g .2) (packEntry (g .0) (g .1))) why (g .1) (x .0)) n (g .2) (x .1)) (λ k a r x p. p)
+
+pub pack-entry-done : {b : List ℕ} {tiles number : ℕ} {t : Told} {entry₀ entry₁ : List ℕ} → PackEntryInC b tiles number t entry₀ entry₁
+    → Entered (λ why. PackEntryDone (placing (t .place₀) (entryEntry b tiles number entry₀)) why entry₀ entry₁) t
+pack-entry-done = promise (λ g n x. Returned (λ why. PackEntryDone (placing (g .4) (entryEntry (g .0) (g .1) (g .2) (g .3))) why (g .3) (x .0)) n (g .4) (x .1)) (λ k a r x p. p)
+
+pub pack-write-done : {g : Given} {t : Told} {pack₀ pack₁ said₀ said₁ : List ℕ} → PackWriteInC g t pack₀ pack₁ said₀ said₁
+    → Entered (λ why. PackWriteDone g (placing (t .place₀) (packWriteEntry g (length pack₀) said₀)) why pack₀ pack₁ said₀ said₁) t
+pack-write-done =
+    promise (λ g n x. Returned (λ why. PackWriteDone (g .0) (placing (g .3) (packWriteEntry (g .0) (length (g .1)) (g .2))) why (g .1) (x .0) (g .2) (x .1)) n (g .3) (x .2)) (λ k a r x p. p)
+
+pub pack-open-call : {b : List ℕ} {answer : PackAnswer} → PackOpenCall b answer → packSaid answer ≡ packSays b
+pack-open-call = promise (λ g r x. packSaid r ≡ packSays g) (λ k a r x p. p)
+
+pub pack-entry-call : {b : List ℕ} {tiles number : ℕ} {answer : EntryAnswer} → PackEntryCall b tiles number answer → entrySaid answer ≡ entrySays b tiles number
+pack-entry-call = promise (λ g r x. entrySaid r ≡ entrySays (g .0) (g .1) (g .2)) (λ k a r x p. p)
+
+pub pack-write-call : {g : Given} {answer : WriteAnswer} {pack₀ pack₁ : List ℕ} → PackWriteCall g answer pack₀ pack₁ → PackWritten g answer pack₀ pack₁
+pack-write-call = promise (λ g r x. PackWritten (g .0) r (g .1) x) (λ k a r x p. p)
+
 -- ---- what an entry does is given by its answer: two outcomes of one answer are alike
 
 module _ {t u : Told} {Done Left : Refusal → Type 0} where
@@ -115,3 +144,13 @@ module _ {w v : Refusal} where
 
   pub stored-alike : {m k : Res ℕ} {said₀ said₁ said₂ : List ℕ} → m ≡ k → StoredDone m w said₀ said₁ → StoredDone k v said₀ said₂ → (w ≡ v) × (said₁ ≡ said₂)
   stored-alike e p q = let p = rw (e) at p in (p .why ∙ sym (q .why), p .said ∙ sym (q .said))
+
+  pub pack-open-alike : {m k : Res ℕ} {said₀ said₁ said₂ : List ℕ} → m ≡ k → PackOpenDone m w said₀ said₁ → PackOpenDone k v said₀ said₂ → (w ≡ v) × (said₁ ≡ said₂)
+  pack-open-alike e p q = let p = rw (e) at p in (p .why ∙ sym (q .why), p .said ∙ sym (q .said))
+
+  pub pack-entry-alike : {m k : Res Entry} {entry₀ entry₁ entry₂ : List ℕ} → m ≡ k → PackEntryDone m w entry₀ entry₁ → PackEntryDone k v entry₀ entry₂ → (w ≡ v) × (entry₁ ≡ entry₂)
+  pack-entry-alike e p q = let p = rw (e) at p in (p .why ∙ sym (q .why), p .entry ∙ sym (q .entry))
+
+  pub pack-write-alike : {g : Given} {m k : Res ℕ} {pack₀ pack₁ pack₂ said₀ said₁ said₂ : List ℕ} → m ≡ k → PackWriteDone g m w pack₀ pack₁ said₀ said₁ → PackWriteDone g k v pack₀ pack₂ said₀ said₂
+      → (w ≡ v) × (pack₁ ≡ pack₂) × (said₁ ≡ said₂)
+  pack-write-alike e p q = let p = rw (e) at p in (p .why ∙ sym (q .why), p .pack ∙ sym (q .pack), p .said ∙ sym (q .said))

@@ -7,8 +7,8 @@ use lib.ListN.{set}
 use Rattle.lerc_words.specs.declared.Refusal.{Refusal}
 use Rattle.lerc_c.specs.Entries.{Returned}
 use Rattle.lerc_theorems.specs.Promises.{Answers}
-use Rattle.lerc_c_theorems.specs.Promises.{StageFixed, PublishFixed, NoRoomInC}
-use Rattle.lerc_c_theorems.proofs.Calls.{header-alike, prepare-alike, ranges-alike, walk-alike, fill-alike, read-alike, stage-alike, publish-alike, stored-alike}
+use Rattle.lerc_c_theorems.specs.Promises.{StageFixed, PublishFixed, PackOpenFixed, PackEntryFixed, PackWriteFixed, NoRoomInC}
+use Rattle.lerc_c_theorems.proofs.Calls.{header-alike, prepare-alike, ranges-alike, walk-alike, fill-alike, read-alike, stage-alike, publish-alike, stored-alike, pack-open-alike, pack-entry-alike, pack-write-alike}
 
 -- an answer that is given by the inputs
 given : {K A R O : Type 0} {Pre : K → A → Type 0} {Post : K → A → R → O → Type 0} → ((k : K) (a : A) → Pre k a) → (f : K → A → R) → ((k : K) (a : A) (r : R) (x : O) → Post k a r x → r ≡ f k a) → Answers Pre Post
@@ -24,6 +24,15 @@ stage-fixed = record { asks-nothing = λ k a. tt; same = λ k a r q x y p s. let
 publish-fixed : PublishFixed
 publish-fixed = record { asks-nothing = λ k a. tt; same = λ k a r q x y p s. let (e, f, g, h) = publish-alike refl (p .done) (s .done) in let (n, i) = told p s e in (n, rw (f, g, h, i)) }
 
+pack-open-fixed : PackOpenFixed
+pack-open-fixed = record { asks-nothing = λ k a. tt; same = λ k a r q x y p s. let (e, f) = pack-open-alike refl (p .done) (s .done) in let (n, i) = told p s e in (n, rw (f, i)) }
+
+pack-entry-fixed : PackEntryFixed
+pack-entry-fixed = record { asks-nothing = λ k a. tt; same = λ k a r q x y p s. let (e, f) = pack-entry-alike refl (p .done) (s .done) in let (n, i) = told p s e in (n, rw (f, i)) }
+
+pack-write-fixed : PackWriteFixed
+pack-write-fixed = record { asks-nothing = λ k a. tt; same = λ k a r q x y p s. let (e, f, g) = pack-write-alike refl (p .done) (s .done) in let (n, i) = told p s e in (n, rw (f, g, i)) }
+
 pub no-room-in-c : NoRoomInC
 no-room-in-c = record {
   read-header = record { asks-nothing = λ k a. tt; same = λ k a r q x y p s. let (e, f) = header-alike refl (p .done) (s .done) in let (n, i) = told p s e in (n, rw (f, i)) };
@@ -34,6 +43,9 @@ no-room-in-c = record {
   read = record { asks-nothing = λ k a. tt; same = λ k a r q x y p s. let (e, f, g) = read-alike refl refl (p .done) (s .done) in let (n, i) = told p s e in (n, rw (f, g, i)) };
   stage = stage-fixed;
   publish = publish-fixed;
+  pack-open = pack-open-fixed;
+  pack-entry = pack-entry-fixed;
+  pack-write = pack-write-fixed;
   float-ready = given (λ k a. tt) _ (λ k a r x p. p);
   sum = given (λ k a. tt) _ (λ k a r x p. p);
   scaled = given (λ k a. tt) _ (λ k a r x p. p);

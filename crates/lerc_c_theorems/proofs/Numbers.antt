@@ -33,7 +33,10 @@ use Rattle.lerc.proofs.Answers.{answer-self, answer-is}
 use Rattle.lerc_c.specs.Records.{whyOf, headerRoom, fieldsFit, headerAt, headerFrom, rangesRoom, rangesIn, rangesFrom, stagedRoom, kindFrom, maskFrom, namesRight, answerIn, stagedIn, stagedFrom}
 use Rattle.lerc_c.specs.Entries.{placing, Returned, headerEntry, prepareEntry, rangesEntry, walkEntry, fillEntry, readRoom, readEntry, stageEntry, publishEntry, storedEntry}
 use Rattle.lerc_c.proofs.RecordParts.{Fit, fit}
-use Rattle.lerc_c.proofs.Numbers.{Numbered, header-numbered, prepare-numbered, ranges-numbered, walk-numbered, fill-numbered, read-numbered, stage-numbered, publish-numbered, stored-numbered, zero-accepts}
+use Rattle.lerc_c.proofs.Numbers.{Numbered, header-numbered, prepare-numbered, ranges-numbered, walk-numbered, fill-numbered, read-numbered, stage-numbered, publish-numbered, stored-numbered, pack-numbered, entry-numbered, write-numbered, zero-accepts}
+use Rattle.lerc_pack.specs.Pack.{packSays, entrySays}
+use Rattle.lerc_pack_writer.specs.Writing.{Given, writeSays}
+use Rattle.lerc_c.specs.Packs.{packEntry, entryRoom, entryEntry, packWriteEntry}
 use Rattle.lerc_theorems.specs.Numbers.{Exactly, ExactlyNumbered}
 use Rattle.lerc_theorems.specs.BlockTable.{StoredRefused}
 use Rattle.lerc_theorems.specs.Table.{HeaderRefused, PrepareRefused, ReadRangesRefused, WalkRefused, FillRefused, WholeRefused}
@@ -43,9 +46,11 @@ use Rattle.lerc_theorems.proofs.Given.{header-in, prepare-in, read-ranges-in, w
 use Rattle.lerc_theorems.proofs.Headers.{header-exactly, prepare-exactly, read-ranges-exactly}
 use Rattle.lerc_theorems.proofs.Entries.{walk-exactly, fill-exactly, whole-exactly}
 use Rattle.lerc_theorems.proofs.Blocks.{stored-exactly}
-use Rattle.lerc_c_theorems.specs.Promises.{c-lent, c-given}
+use Rattle.lerc_c_theorems.specs.Promises.{c-lent, c-given, c-tiles, c-written}
+use Rattle.lerc_c_theorems.specs.PackTable.{PackRefused, EntryOutside, WriteRefused}
+use Rattle.lerc_c_theorems.proofs.PackTable.{pack-exactly, entry-exactly, write-exactly, pack-in, outside-in, write-in}
 use Rattle.lerc_c_theorems.proofs.SameReader.{placing-numbered}
-use Rattle.lerc_c_theorems.specs.Numbers.{ToldInC, PromisedInC, EntryRefused, slice-short, number-wide, reader-refuses, NothingWide, Shorter, HeaderWide, rows-wide, columns-wide, depth-wide, valid-wide, side-wide, size-wide, kind-wide, mask-wide, MarkWide, NameWide, body-wide, mask-none, mask-many, NoAnswer, AsStaged, PublishRefused, publish-read, publish-given, StageNumbers, PublishNumbers, StageOnly, PublishOnly, NumbersExactlyInC, PlacesExactlyInC, OnlyInC, NumbersOnlyInC}
+use Rattle.lerc_c_theorems.specs.Numbers.{ToldInC, PromisedInC, EntryRefused, slice-short, number-wide, reader-refuses, NothingWide, Shorter, HeaderWide, rows-wide, columns-wide, depth-wide, valid-wide, side-wide, size-wide, kind-wide, mask-wide, MarkWide, NameWide, body-wide, mask-none, mask-many, NoAnswer, AsStaged, PublishRefused, publish-read, publish-given, StageNumbers, PublishNumbers, StageOnly, PublishOnly, NumbersExactlyInC, PlacesExactlyInC, OnlyInC, NumbersOnlyInC, PackOpenNumbers, PackEntryNumbers, PackWriteNumbers, PackOpenOnly, PackEntryOnly, PackWriteOnly}
 
 -- ---- tests, and what fails where one fails
 
@@ -222,6 +227,18 @@ publish-form : (b : List ℕ) (reuse : Bool) (staged : List ℕ) (l : Lent) (sai
 unfolding publishEntry
 publish-form b reuse staged l said = refl
 
+pack-open-form : (b said : List ℕ) → packEntry b said ≡ Entry (leb 1 (length said)) true (packSays b)
+unfolding packEntry
+pack-open-form b said = refl
+
+pack-entry-form : (b : List ℕ) (tiles number : ℕ) (entry : List ℕ) → entryEntry b tiles number entry ≡ Entry (leb entryRoom (length entry)) true (entrySays b tiles number)
+unfolding entryEntry
+pack-entry-form b tiles number entry = refl
+
+pack-write-form : (g : Given) (room : ℕ) (said : List ℕ) → packWriteEntry g room said ≡ Entry (leb 1 (length said)) true (writeSays g room)
+unfolding packWriteEntry
+pack-write-form g room said = refl
+
 -- room for the place comes before all of it
 placed-form : {A : Type 0} (p t u : Bool) (m : Res A) → (require p 5 >>= λ _. Entry t u m) ≡ Entry (p && t) u m
 placed-form true t u m = refl
@@ -351,6 +368,16 @@ publish-table place b reuse staged l said =
 stored-table : (place : List ℕ) (kind v : ℕ) (said : List ℕ) → TableOf (placing place (storedEntry kind v said)) (EntryRefused (Shorter place 1 ⊎ Shorter said 1) NothingWide (StoredRefused kind v))
 stored-table place kind v said = placed-table place (stored-exactly kind v) (long 1 said) no-test (stored-form kind v said)
 
+pack-open-table : (place b said : List ℕ) → TableOf (placing place (packEntry b said)) (EntryRefused (Shorter place 1 ⊎ Shorter said 1) NothingWide (PackRefused b))
+pack-open-table place b said = placed-table place (pack-exactly b) (long 1 said) no-test (pack-open-form b said)
+
+pack-entry-table : (place b : List ℕ) (tiles number : ℕ) (entry : List ℕ) → TableOf (placing place (entryEntry b tiles number entry))
+    (EntryRefused (Shorter place 1 ⊎ Shorter entry entryRoom) NothingWide (EntryOutside b tiles number))
+pack-entry-table place b tiles number entry = placed-table place (entry-exactly b tiles number) (long entryRoom entry) no-test (pack-entry-form b tiles number entry)
+
+pack-write-table : (place : List ℕ) (g : Given) (room : ℕ) (said : List ℕ) → TableOf (placing place (packWriteEntry g room said)) (EntryRefused (Shorter place 1 ⊎ Shorter said 1) NothingWide (WriteRefused g room))
+pack-write-table place g room said = placed-table place (write-exactly g room) (long 1 said) no-test (pack-write-form g room said)
+
 -- ---- each number of each entry, and its place
 
 stage-places : StageNumbers Exactly
@@ -363,6 +390,20 @@ publish-places =
     by-table (λ a. publishEntry (a .0 .now) (a .1 .0) (c-given a .0) (c-given a .1) (c-given a .2)) (λ a. publish-numbered (a .0 .now) (a .1 .0) (c-given a .0) (c-given a .1) (c-given a .2))
     (λ a. publish-table (c-given a .3) (a .0 .now) (a .1 .0) (c-given a .0) (c-given a .1) (c-given a .2)) (λ k a n x p. (p, p .done .why))
 
+pack-open-places : PackOpenNumbers Exactly
+pack-open-places =
+    by-table (λ a. packEntry (a .0 .now) (a .1 .0 .now)) (λ a. pack-numbered (a .0 .now) (a .1 .0 .now)) (λ a. pack-open-table (a .1 .1 .0 .now) (a .0 .now) (a .1 .0 .now)) (λ k a n x p. (p, p .done .why))
+
+pack-entry-places : PackEntryNumbers Exactly
+pack-entry-places =
+    by-table (λ a. entryEntry (a .0 .now) (a .1 .0) (a .1 .1 .0) (a .1 .1 .1 .0 .now)) (λ a. entry-numbered (a .0 .now) (a .1 .0) (a .1 .1 .0) (a .1 .1 .1 .0 .now))
+    (λ a. pack-entry-table (a .1 .1 .1 .1 .0 .now) (a .0 .now) (a .1 .0) (a .1 .1 .0) (a .1 .1 .1 .0 .now)) (λ k a n x p. (p, p .done .why))
+
+pack-write-places : PackWriteNumbers Exactly
+pack-write-places =
+    by-table (λ a. packWriteEntry (c-tiles a) (length (c-written a .0)) (c-written a .1)) (λ a. write-numbered (c-tiles a) (length (c-written a .0)) (c-written a .1))
+    (λ a. pack-write-table (c-written a .2) (c-tiles a) (length (c-written a .0)) (c-written a .1)) (λ k a n x p. (p, p .done .why))
+
 pub places-exactly-in-c : PlacesExactlyInC
 places-exactly-in-c = record {
   read-header = by-table (λ a. headerEntry (a .0 .now) (a .1 .0 .now)) (λ a. header-numbered (a .0 .now) (a .1 .0 .now)) (λ a. header-table (a .1 .1 .0 .now) (a .0 .now) (a .1 .0 .now)) (λ k a n x p. (p, p .done .why));
@@ -373,6 +414,9 @@ places-exactly-in-c = record {
   read = by-table (λ a. readEntry (a .0 .now) (a .1 .0) (c-lent a .0) (c-lent a .1)) (λ a. read-numbered (a .0 .now) (a .1 .0) (c-lent a .0) (c-lent a .1)) (λ a. read-table (c-lent a .2) (a .0 .now) (a .1 .0) (c-lent a .0) (c-lent a .1)) (λ k a n x p. (p, p .done .why));
   stage = stage-places;
   publish = publish-places;
+  pack-open = pack-open-places;
+  pack-entry = pack-entry-places;
+  pack-write = pack-write-places;
   stored = by-table (λ a. storedEntry (a .1 .0) (a .0) (a .1 .1 .0 .now)) (λ a. stored-numbered (a .1 .0) (a .0) (a .1 .1 .0 .now)) (λ a. stored-table (a .1 .1 .1 .0 .now) (a .1 .0) (a .0) (a .1 .1 .0 .now)) (λ k a n x p. (p, p .done .why));
 }
 
@@ -390,6 +434,9 @@ numbers-exactly-in-c = record {
   read = numbers-of (places-exactly-in-c .read);
   stage = numbers-of (places-exactly-in-c .stage);
   publish = numbers-of (places-exactly-in-c .publish);
+  pack-open = numbers-of (places-exactly-in-c .pack-open);
+  pack-entry = numbers-of (places-exactly-in-c .pack-entry);
+  pack-write = numbers-of (places-exactly-in-c .pack-write);
   stored = numbers-of (places-exactly-in-c .stored);
 }
 
@@ -430,6 +477,15 @@ publish-only =
     let l : List ℕ = 0 ∷ 1 ∷ 2 ∷ 3 ∷ 4 ∷ 5 ∷ 6 ∷ 7 ∷ 8 ∷ 9 ∷ 10 ∷ 13 ∷ [] in
     only l publish-places refl refl (λ a w. refl) (λ a. publish-in (In l) refl (λ why. whole-in (In l) refl refl refl refl refl refl refl refl refl refl refl))
 
+pack-open-only : PackOpenOnly
+pack-open-only = let l : List ℕ = 0 ∷ 5 ∷ 12 ∷ [] in only l pack-open-places refl refl (λ a w. absurd w) (λ a. pack-in (In l) refl)
+
+pack-entry-only : PackEntryOnly
+pack-entry-only = let l : List ℕ = 0 ∷ 5 ∷ 12 ∷ [] in only l pack-entry-places refl refl (λ a w. absurd w) (λ a. outside-in (In l) refl)
+
+pack-write-only : PackWriteOnly
+pack-write-only = let l : List ℕ = 0 ∷ 5 ∷ 12 ∷ [] in only l pack-write-places refl refl (λ a w. absurd w) (λ a. write-in (In l) refl refl)
+
 pub numbers-only-in-c : NumbersOnlyInC
 numbers-only-in-c = record {
   read-header = let l : List ℕ = 0 ∷ 1 ∷ 2 ∷ 3 ∷ 4 ∷ 5 ∷ 13 ∷ [] in only l (places-exactly-in-c .read-header) refl refl (λ a w. refl) (λ a why. header-in (In l) refl refl refl refl refl);
@@ -440,5 +496,8 @@ numbers-only-in-c = record {
   read = let l : List ℕ = 0 ∷ 1 ∷ 2 ∷ 3 ∷ 4 ∷ 5 ∷ 6 ∷ 7 ∷ 8 ∷ 9 ∷ 10 ∷ 13 ∷ [] in only l (places-exactly-in-c .read) refl refl (λ a w. refl) (λ a why. whole-in (In l) refl refl refl refl refl refl refl refl refl refl refl);
   stage = stage-only;
   publish = publish-only;
+  pack-open = pack-open-only;
+  pack-entry = pack-entry-only;
+  pack-write = pack-write-only;
   stored = let l : List ℕ = 0 ∷ 5 ∷ 9 ∷ [] in only l (places-exactly-in-c .stored) refl refl (λ a w. absurd w) (λ a why. stored-in (In l) refl);
 }

@@ -21,9 +21,12 @@ use Rattle.lerc.specs.Stage.{StageRead}
 use Rattle.lerc.proofs.Both.{read-refused}
 use Rattle.lerc_c.specs.Records.{whyOf, stagedRoom}
 use Rattle.lerc_c.specs.Entries.{placing, Returned, HeaderDone, RangesDone, StoredDone, PrepareDone, Walking, WalkDone, Filling, FillDone, readRoom, readEntry, maskedEntry, ReadDone, stageEntry, stagedMaskEntry, StageDone, PublishDone}
+use Rattle.lerc_pack.specs.declared.Entry.{Entry}
+use Rattle.lerc_pack_writer.specs.Writing.{Given}
+use Rattle.lerc_c.specs.Packs.{PackOpenDone, PackEntryDone, PackWriteDone}
 use Rattle.lerc_theorems.specs.Refusals.{WholeKeeps}
 use Rattle.lerc_c_theorems.specs.Promises.{c-lent}
-use Rattle.lerc_c_theorems.specs.Refusals.{StageKeeps, PublishKeeps, RefusalsKeepInC}
+use Rattle.lerc_c_theorems.specs.Refusals.{StageKeeps, PublishKeeps, PackOpenKeeps, PackEntryKeeps, PackWriteKeeps, RefusalsKeepInC}
 use Rattle.lerc_theorems.proofs.Refusals.{whole-keeps}
 
 -- a number other than 0 is a refusal's, and a refusal leaves what was there
@@ -141,6 +144,27 @@ publish-left m old (q, e) d = let a = rw (e) at (d .kept) in let b = rw (e) at (
 publish-keeps : PublishKeeps
 publish-keeps k a n x p z = publish-left _ _ (refusal p z _ (p .done .why)) (p .done)
 
+-- ---- packs
+
+open-left : (m : Res ℕ) {w : Refusal} {said said' : List ℕ} → (q : Refusal) × (m ≡ fail q) → PackOpenDone m w said said' → said' ≡ said
+open-left m (q, e) d = rw (e) at (d .said)
+
+entry-left : (m : Res Entry) {w : Refusal} {entry₀ entry₁ : List ℕ} → (q : Refusal) × (m ≡ fail q) → PackEntryDone m w entry₀ entry₁ → entry₁ ≡ entry₀
+entry-left m (q, e) d = rw (e) at (d .entry)
+
+write-left : (g : Given) (m : Res ℕ) {w : Refusal} {pack pack' said said' : List ℕ} → (q : Refusal) × (m ≡ fail q) → PackWriteDone g m w pack pack' said said'
+    → _≡_ {A = List ℕ × List ℕ} (pack', said') (pack, said)
+write-left g m (q, e) d = let a = rw (e) at (d .pack) in let b = rw (e) at (d .said) in rw (a, b)
+
+pack-open-keeps : PackOpenKeeps
+pack-open-keeps k a n x p z = open-left _ (refusal p z _ (p .done .why)) (p .done)
+
+pack-entry-keeps : PackEntryKeeps
+pack-entry-keeps k a n x p z = entry-left _ (refusal p z _ (p .done .why)) (p .done)
+
+pack-write-keeps : PackWriteKeeps
+pack-write-keeps k a n x p z = write-left _ _ (refusal p z _ (p .done .why)) (p .done)
+
 pub refusals-keep-in-c : RefusalsKeepInC
 refusals-keep-in-c = record {
   read-header = λ k a n x p z. header-left _ (refusal p z _ (p .done .why)) (p .done);
@@ -158,5 +182,8 @@ refusals-keep-in-c = record {
       };
   stage = stage-keeps;
   publish = publish-keeps;
+  pack-open = pack-open-keeps;
+  pack-entry = pack-entry-keeps;
+  pack-write = pack-write-keeps;
   stored = λ k a n x p z. stored-left _ (refusal p z _ (p .done .why)) (p .done);
 }

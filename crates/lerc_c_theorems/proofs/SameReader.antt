@@ -39,13 +39,16 @@ use Rattle.lerc.specs.Read.{Lent, readSays, Masked, masked, published, readAfte
 use Rattle.lerc.specs.Stage.{stagedOf, stagedSpare, stagedList, bodyTold, publishSays}
 use Rattle.lerc_c.specs.Records.{whyOf, headerRoom, headerNumbers, rangesRoom, rangesNumbers, stagedRoom, stagedNumbers}
 use Rattle.lerc_c.specs.Entries.{placing, headerEntry, prepareEntry, maskNumbers, rangesEntry, Walking, walkNumbers, walkEntry, Filling, fillNumbers, fillPaints, fillEntry, readRoom, readNumbers, readEntry, maskedEntry, stageEntry, stagedMaskEntry, publishEntry, toldNumbers, publishNumbers, storedEntry}
-use Rattle.lerc_c.proofs.Numbers.{Numbered, header-numbered, prepare-numbered, ranges-numbered, walk-numbered, fill-numbered, read-numbered, stage-numbered, publish-numbered, stored-numbered, zero-accepts}
+use Rattle.lerc_c.proofs.Numbers.{Numbered, header-numbered, prepare-numbered, ranges-numbered, walk-numbered, fill-numbered, read-numbered, stage-numbered, publish-numbered, stored-numbered, pack-numbered, entry-numbered, write-numbered, zero-accepts}
+use Rattle.lerc_pack.specs.Pack.{packSays, entrySays}
+use Rattle.lerc_pack_writer.specs.Writing.{Given, packGiven, writeSays}
+use Rattle.lerc_c.specs.Packs.{packEntry, entryRoom, entryNumbers, entryEntry, packWriteEntry}
 use Rattle.lerc_theorems.specs.Calls.{HeaderCall, PrepareCall, RangesCall, WalkCall, FillCall, ReadCall}
 use Rattle.lerc_theorems.proofs.Calls.{header-call, prepare-call, ranges-call, walk-call, fill-call, read-call}
 use Rattle.lerc_theorems.proofs.Demands.{fail-is, not-refused}
 use Rattle.lerc_c_theorems.specs.Calls.{HoldsHeader, HoldsRanges, HoldsStaged, Told, HasPlace, HeaderInC, PrepareInC, RangesInC, WalkInC, FillInC, ReadInC, StoredInC, StoredCall}
-use Rattle.lerc_c_theorems.specs.SameReader.{Tells, partNumbers, rangesTold, walkedNumbers, wholeNumbers, alone, SameStage, SamePublish, SameReader}
-use Rattle.lerc_c_theorems.proofs.Calls.{Entered, header-done, prepare-done, ranges-done, walk-done, fill-done, read-done, stage-done, publish-done, stage-call, publish-call, stored-done, stored-call}
+use Rattle.lerc_c_theorems.specs.SameReader.{Tells, partNumbers, rangesTold, walkedNumbers, wholeNumbers, alone, SameStage, SamePublish, SamePackOpen, SamePackEntry, SamePackWrite, SameReader}
+use Rattle.lerc_c_theorems.proofs.Calls.{Entered, header-done, prepare-done, ranges-done, walk-done, fill-done, read-done, stage-done, publish-done, stage-call, publish-call, stored-done, stored-call, pack-open-done, pack-entry-done, pack-write-done, pack-open-call, pack-entry-call, pack-write-call}
 
 -- ---- an entry, and the answer that it numbers-tell
 
@@ -147,6 +150,18 @@ pub publish-reads : (b : List ℕ) (reuse : Bool) {staged : List ℕ} {given : S
     → publishEntry b reuse staged l said ≡ publishSays b reuse given l
 unfolding publishEntry
 publish-reads b reuse l said p n = rw (le-leb _ _ (p .long), le-leb 2 (length said) n, p .is)
+
+pack-open-reads : (b said : List ℕ) → 1 ≤ length said → packEntry b said ≡ packSays b
+unfolding packEntry
+pack-open-reads b said l = rw (le-leb 1 (length said) l)
+
+pack-entry-reads : (b : List ℕ) (tiles number : ℕ) (entry : List ℕ) → entryRoom ≤ length entry → entryEntry b tiles number entry ≡ entrySays b tiles number
+unfolding entryEntry
+pack-entry-reads b tiles number entry l = rw (le-leb entryRoom (length entry) l)
+
+pack-write-reads : (g : Given) (room : ℕ) (said : List ℕ) → 1 ≤ length said → packWriteEntry g room said ≡ writeSays g room
+unfolding packWriteEntry
+pack-write-reads g room said l = rw (le-leb 1 (length said) l)
 
 -- ---- the reader's answers, as the entries tell them
 
@@ -291,6 +306,30 @@ stored-same v kind t said₀ said₁ c i l answer d =
     numbers-tell alone ok alone (itself alone) m (placing-numbered (t .place₀) (stored-numbered kind v said₀))
     (stored-call d ∙ sym (placed-entry (t .place₀) (storedEntry kind v said₀) i ∙ stored-reads kind v said₀ l) ∙ unit m) p (p .done .why) (p .done .said)
 
+pack-open-same : SamePackOpen
+pack-open-same b t said₀ said₁ c i l answer d =
+    let p = pack-open-done c in
+    let m = placing (t .place₀) (packEntry b said₀) in
+    numbers-tell alone ok alone (itself alone) m (placing-numbered (t .place₀) (pack-numbered b said₀))
+    (pack-open-call d ∙ sym (placed-entry (t .place₀) (packEntry b said₀) i ∙ pack-open-reads b said₀ l) ∙ unit m) p (p .done .why) (p .done .said)
+
+pack-entry-same : SamePackEntry
+pack-entry-same b tiles number t entry₀ entry₁ c i l answer d =
+    let p = pack-entry-done c in
+    let m = placing (t .place₀) (entryEntry b tiles number entry₀) in
+    numbers-tell entryNumbers ok entryNumbers (itself entryNumbers) m (placing-numbered (t .place₀) (entry-numbered b tiles number entry₀))
+    (pack-entry-call d ∙ sym (placed-entry (t .place₀) (entryEntry b tiles number entry₀) i ∙ pack-entry-reads b tiles number entry₀ l) ∙ unit m) p (p .done .why) (p .done .entry)
+
+pack-write-same : SamePackWrite
+pack-write-same g t pack₀ pack₁ said₀ said₁ c i l answer pack d =
+    let p = pack-write-done c in
+    let q = pack-write-call d in
+    let m = placing (t .place₀) (packWriteEntry g (length pack₀) said₀) in
+    let e : m ≡ writeSays g (length pack₀) = placed-entry (t .place₀) (packWriteEntry g (length pack₀) said₀) i ∙ pack-write-reads g (length pack₀) said₀ l in (
+      numbers-tell alone ok alone (itself alone) m (placing-numbered (t .place₀) (write-numbered g (length pack₀) said₀)) (q .says ∙ sym e ∙ unit m) p (p .done .why) (p .done .said),
+      p .done .pack ∙ ap (λ (x : Res ℕ). after x pack₀ (λ n. over (packGiven g) pack₀)) e ∙ sym (q .out),
+    )
+
 pub same-reader : SameReader
 same-reader = record {
   read-header = header-same;
@@ -301,6 +340,9 @@ same-reader = record {
   read = read-same;
   stage = stage-same;
   publish = publish-same;
+  pack-open = pack-open-same;
+  pack-entry = pack-entry-same;
+  pack-write = pack-write-same;
   stored = stored-same;
   float-ready = λ k j a r q x y p s. p ∙ sym s;
   sum = λ k j a r q x y p s. p ∙ sym s;

@@ -17,6 +17,13 @@ use Rattle.lerc.specs.declared.PublishAnswer.{PublishAnswer}
 use Rattle.lerc.specs.Read.{Lent}
 use Rattle.lerc.proofs.stage.Reads as staging
 use Rattle.lerc.proofs.publish.Reads as publishing
+use Rattle.lerc_pack.specs.declared.PackAnswer.{PackAnswer}
+use Rattle.lerc_pack.specs.declared.EntryAnswer.{EntryAnswer}
+use Rattle.lerc_pack.proofs.open_pack.Reads as open-pack
+use Rattle.lerc_pack.proofs.entry_in.Reads as entry-in
+use Rattle.lerc_pack_writer.specs.declared.WriteAnswer.{WriteAnswer}
+use Rattle.lerc_pack_writer.specs.Writing.{Given}
+use Rattle.lerc_pack_writer.proofs.write_pack.Reads as write-pack
 use Rattle.lerc_c.specs.Records.{headerRoom, headerFrom, rangesRoom, rangesFrom, stagedRoom, stagedFrom}
 use Rattle.lerc_c.proofs.lerc2_read_header.Reads as read-header
 use Rattle.lerc_c.proofs.lerc2_prepare_mask.Reads as prepare-mask
@@ -27,8 +34,11 @@ use Rattle.lerc_c.proofs.lerc2_read.Reads as read
 use Rattle.lerc_c.proofs.lerc2_stage.Reads as stage
 use Rattle.lerc_c.proofs.lerc2_publish.Reads as publish
 use Rattle.lerc_c.proofs.lerc2_stored.Reads as stored
+use Rattle.lerc_c.proofs.lerc2_pack_open.Reads as pack-open
+use Rattle.lerc_c.proofs.lerc2_pack_entry.Reads as pack-entry
+use Rattle.lerc_c.proofs.lerc2_pack_write.Reads as pack-write
 use Rattle.lerc_theorems.specs.Calls.{Call}
-use Rattle.lerc_c_theorems.specs.Promises.{c-lent, c-staged, c-given, c-published}
+use Rattle.lerc_c_theorems.specs.Promises.{c-lent, c-staged, c-given, c-published, c-tiles, c-written}
 
 -- ---- records that are lent
 
@@ -138,3 +148,37 @@ StoredInC v kind t said₀ said₁ =
 -- the reader's own: value, kind; the answer
 abbrev pub StoredCall : ℕ → ℕ → StoredAnswer → Type 0
 StoredCall v kind said = Call {S = ℕ × ℕ} {T = Unit {0}} stored-value.Post (λ a. (a .0, a .1 .0)) (λ r. r) (λ o. tt) (v, kind) said tt
+
+-- ---- packs
+
+-- pack; what is told; what is said
+abbrev pub PackOpenInC : List ℕ → Told → List ℕ → List ℕ → Type 0
+PackOpenInC b t said₀ said₁ =
+    Call {S = List ℕ × List ℕ × List ℕ} {T = List ℕ × List ℕ} pack-open.Post (λ a. (a .0 .now, a .1 .0 .now, a .1 .1 .0 .now)) (λ r. r) (λ o. (o .1 .0 .now, o .1 .1 .0 .now))
+    (b, said₀, t .place₀) (t .number) (said₁, t .place₁)
+
+-- pack, the count of its tiles, the entry's number; what is told; the entry's record
+abbrev pub PackEntryInC : List ℕ → ℕ → ℕ → Told → List ℕ → List ℕ → Type 0
+PackEntryInC b tiles number t entry₀ entry₁ =
+    Call {S = List ℕ × ℕ × ℕ × List ℕ × List ℕ} {T = List ℕ × List ℕ} pack-entry.Post (λ a. (a .0 .now, a .1 .0, a .1 .1 .0, a .1 .1 .1 .0 .now, a .1 .1 .1 .1 .0 .now)) (λ r. r)
+    (λ o. (o .1 .1 .1 .0 .now, o .1 .1 .1 .1 .0 .now)) (b, tiles, number, entry₀, t .place₀) (t .number) (entry₁, t .place₁)
+
+-- tiles; what is told; the pack's slice, and what is said
+abbrev pub PackWriteInC : Given → Told → List ℕ → List ℕ → List ℕ → List ℕ → Type 0
+PackWriteInC g t pack₀ pack₁ said₀ said₁ =
+    Call {S = Given × List ℕ × List ℕ × List ℕ} {T = List ℕ × List ℕ × List ℕ} pack-write.Post (λ a. (c-tiles a, c-written a .0, c-written a .1, c-written a .2)) (λ r. r) c-written
+    (g, pack₀, said₀, t .place₀) (t .number) (pack₁, said₁, t .place₁)
+
+-- the reader's own: pack; the answer
+abbrev pub PackOpenCall : List ℕ → PackAnswer → Type 0
+PackOpenCall b said = Call {T = Unit {0}} open-pack.Post (λ a. a .0 .now) (λ r. r) (λ o. tt) b said tt
+
+-- pack, the count of its tiles, the entry's number; the answer
+abbrev pub PackEntryCall : List ℕ → ℕ → ℕ → EntryAnswer → Type 0
+PackEntryCall b tiles number said = Call {S = List ℕ × ℕ × ℕ} {T = Unit {0}} entry-in.Post (λ a. (a .0 .now, a .1 .0, a .1 .1 .0)) (λ r. r) (λ o. tt) (b, tiles, number) said tt
+
+-- tiles; the answer; the pack's slice
+abbrev pub PackWriteCall : Given → WriteAnswer → List ℕ → List ℕ → Type 0
+PackWriteCall g said pack₀ pack₁ =
+    Call {S = Given × List ℕ} {T = List ℕ} write-pack.Post
+    (λ a. (record { rows = a .0 .now; columns = a .1 .0 .now; lengths = a .1 .1 .0 .now; bodies = a .1 .1 .1 .0 .now }, a .1 .1 .1 .1 .0 .now)) (λ r. r) (λ o. o .1 .1 .1 .1 .0 .now) (g, pack₀) said pack₁

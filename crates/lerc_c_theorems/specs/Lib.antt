@@ -2,6 +2,7 @@ pub mod Promises
 pub mod Refusals
 pub mod Calls
 pub mod SameReader
+pub mod PackTable
 pub mod Numbers
 pub mod DemandTwo
 pub mod DemandThree

@@ -19,6 +19,7 @@ use Rattle.lerc.specs.Read.{Lent, readSays}
 use Rattle.lerc.specs.Stage.{stagedOf}
 use Rattle.lerc_c.specs.Records.{headerRoom, headerAt, rangesRoom, rangesIn, stagedRoom, stagedFrom}
 use Rattle.lerc_c.specs.Entries.{readRoom}
+use Rattle.lerc_c.specs.Packs.{entryRoom}
 use Rattle.lerc_c.proofs.lerc2_read_header.Reads as read-header
 use Rattle.lerc_c.proofs.lerc2_prepare_mask.Reads as prepare-mask
 use Rattle.lerc_c.proofs.lerc2_read_ranges.Reads as read-ranges
@@ -28,10 +29,14 @@ use Rattle.lerc_c.proofs.lerc2_read.Reads as read
 use Rattle.lerc_c.proofs.lerc2_stage.Reads as stage
 use Rattle.lerc_c.proofs.lerc2_publish.Reads as publish
 use Rattle.lerc_c.proofs.lerc2_stored.Reads as stored
+use Rattle.lerc_c.proofs.lerc2_pack_open.Reads as pack-open
+use Rattle.lerc_c.proofs.lerc2_pack_entry.Reads as pack-entry
+use Rattle.lerc_c.proofs.lerc2_pack_write.Reads as pack-write
 use Rattle.lerc_theorems.specs.Numbers.{Exactly, ExactlyNumbered}
 use Rattle.lerc_theorems.specs.BlockTable.{StoredRefused}
 use Rattle.lerc_theorems.specs.Table.{HeaderRefused, PrepareRefused, ReadRangesRefused, WalkRefused, FillRefused, WholeRefused}
-use Rattle.lerc_c_theorems.specs.Promises.{c-lent, c-staged, c-given, c-published}
+use Rattle.lerc_c_theorems.specs.Promises.{c-lent, c-staged, c-given, c-published, c-tiles, c-written}
+use Rattle.lerc_c_theorems.specs.PackTable.{PackRefused, EntryOutside, WriteRefused}
 
 -- ---- the table
 
@@ -112,6 +117,24 @@ PublishNumbers Agree = PromisedInC Agree publish.Post (λ a. c-given a .3) (λ o
     NothingWide
     (PublishRefused (a .0 .now) (a .1 .0) (stagedFrom (c-given a .0)) (c-given a .1)))
 
+abbrev pub PackOpenNumbers : ((Refusal → Type 0) → (Refusal → Type 0) → Type 0) → Type 0
+PackOpenNumbers Agree = PromisedInC Agree pack-open.Post (λ a. a .1 .1 .0 .now) (λ o. o .1 .1 .0 .now) (λ a. EntryRefused
+    (Shorter (a .1 .1 .0 .now) 1 ⊎ Shorter (a .1 .0 .now) 1)
+    NothingWide
+    (PackRefused (a .0 .now)))
+
+abbrev pub PackEntryNumbers : ((Refusal → Type 0) → (Refusal → Type 0) → Type 0) → Type 0
+PackEntryNumbers Agree = PromisedInC Agree pack-entry.Post (λ a. a .1 .1 .1 .1 .0 .now) (λ o. o .1 .1 .1 .1 .0 .now) (λ a. EntryRefused
+    (Shorter (a .1 .1 .1 .1 .0 .now) 1 ⊎ Shorter (a .1 .1 .1 .0 .now) entryRoom)
+    NothingWide
+    (EntryOutside (a .0 .now) (a .1 .0) (a .1 .1 .0)))
+
+abbrev pub PackWriteNumbers : ((Refusal → Type 0) → (Refusal → Type 0) → Type 0) → Type 0
+PackWriteNumbers Agree = PromisedInC Agree pack-write.Post (λ a. c-written a .2) (λ o. c-written o .2) (λ a. EntryRefused
+    (Shorter (c-written a .2) 1 ⊎ Shorter (c-written a .1) 1)
+    NothingWide
+    (WriteRefused (c-tiles a) (length (c-written a .0))))
+
 -- each entry that refuses: its promise, the slice of its place, and its lines of the table
 pub record EachEntry (Agree : (Refusal → Type 0) → (Refusal → Type 0) → Type 0) : Type 0 where
   pub read-header : PromisedInC Agree read-header.Post (λ a. a .1 .1 .0 .now) (λ o. o .1 .1 .0 .now) (λ a. EntryRefused
@@ -144,6 +167,9 @@ pub record EachEntry (Agree : (Refusal → Type 0) → (Refusal → Type 0) → 
       (Shorter (a .1 .1 .1 .0 .now) 1 ⊎ Shorter (a .1 .1 .0 .now) 1)
       NothingWide
       (StoredRefused (a .1 .0) (a .0)))
+  pub pack-open : PackOpenNumbers Agree
+  pub pack-entry : PackEntryNumbers Agree
+  pub pack-write : PackWriteNumbers Agree
 
 -- "given when": each number of each entry, exactly
 abbrev pub NumbersExactlyInC : Type 0
@@ -164,6 +190,16 @@ StageOnly = OnlyInC stage.Post (0 ∷ 1 ∷ 2 ∷ 3 ∷ 4 ∷ 5 ∷ 6 ∷ 7 ∷ 
 abbrev pub PublishOnly : Type 0
 PublishOnly = OnlyInC publish.Post (0 ∷ 1 ∷ 2 ∷ 3 ∷ 4 ∷ 5 ∷ 6 ∷ 7 ∷ 8 ∷ 9 ∷ 10 ∷ 13 ∷ [])
 
+-- 12 is of packs alone
+abbrev pub PackOpenOnly : Type 0
+PackOpenOnly = OnlyInC pack-open.Post (0 ∷ 5 ∷ 12 ∷ [])
+
+abbrev pub PackEntryOnly : Type 0
+PackEntryOnly = OnlyInC pack-entry.Post (0 ∷ 5 ∷ 12 ∷ [])
+
+abbrev pub PackWriteOnly : Type 0
+PackWriteOnly = OnlyInC pack-write.Post (0 ∷ 5 ∷ 12 ∷ [])
+
 pub record NumbersOnlyInC : Type 0 where
   pub read-header : OnlyInC read-header.Post (0 ∷ 1 ∷ 2 ∷ 3 ∷ 4 ∷ 5 ∷ 13 ∷ [])
   pub prepare-mask : OnlyInC prepare-mask.Post (0 ∷ 1 ∷ 3 ∷ 4 ∷ 5 ∷ 6 ∷ [])
@@ -174,3 +210,6 @@ pub record NumbersOnlyInC : Type 0 where
   pub stage : StageOnly
   pub publish : PublishOnly
   pub stored : OnlyInC stored.Post (0 ∷ 5 ∷ 9 ∷ [])
+  pub pack-open : PackOpenOnly
+  pub pack-entry : PackEntryOnly
+  pub pack-write : PackWriteOnly

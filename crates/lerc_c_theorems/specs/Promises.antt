@@ -6,6 +6,7 @@ use mathlib.Core.List.{List}
 use Prim.Native.Nat.{ℕ}
 use denote.Ref.{RefT}
 use Rattle.lerc.specs.Read.{Lent}
+use Rattle.lerc_pack_writer.specs.Writing.{Given}
 use Rattle.lerc_c.proofs.lerc2_read_header.Reads as c-read-header
 use Rattle.lerc_c.proofs.lerc2_prepare_mask.Reads as c-prepare-mask
 use Rattle.lerc_c.proofs.lerc2_read_ranges.Reads as c-read-ranges
@@ -21,6 +22,9 @@ use Rattle.lerc_c.proofs.lerc2_narrow.Reads as c-narrow
 use Rattle.lerc_c.proofs.lerc2_number.Reads as c-number
 use Rattle.lerc_c.proofs.lerc2_checksum.Reads as c-checksum
 use Rattle.lerc_c.proofs.lerc2_stored.Reads as c-stored
+use Rattle.lerc_c.proofs.lerc2_pack_open.Reads as c-pack-open
+use Rattle.lerc_c.proofs.lerc2_pack_entry.Reads as c-pack-entry
+use Rattle.lerc_c.proofs.lerc2_pack_write.Reads as c-pack-write
 use Rattle.lerc_theorems.specs.Promises.{Answers, Writes}
 
 -- the slices that the C interface's whole read is lent, those of what it says and of the place among them; staging is lent the same
@@ -51,6 +55,26 @@ StageFixed = Writes c-stage.Pre c-stage.Post c-staged
 abbrev pub PublishFixed : Type 0
 PublishFixed = Writes c-publish.Pre c-publish.Post c-published
 
+-- the slices that writing a pack is lent: the tiles, then the pack, what is said and the place
+abbrev pub CWrite : Type 0
+CWrite = RefT (List ℕ) × (RefT (List ℕ) × (RefT (List ℕ) × (RefT (List ℕ) × (RefT (List ℕ) × (RefT (List ℕ) × (RefT (List ℕ) × Unit {0}))))))
+
+abbrev pub c-tiles : CWrite → Given
+c-tiles a = record { rows = a .0 .now; columns = a .1 .0 .now; lengths = a .1 .1 .0 .now; bodies = a .1 .1 .1 .0 .now }
+
+-- what it writes: the pack, what it says, the place
+abbrev pub c-written : CWrite → List ℕ × List ℕ × List ℕ
+c-written o = (o .1 .1 .1 .1 .0 .now, o .1 .1 .1 .1 .1 .0 .now, o .1 .1 .1 .1 .1 .1 .0 .now)
+
+abbrev pub PackOpenFixed : Type 0
+PackOpenFixed = Writes {S = List ℕ × List ℕ} c-pack-open.Pre c-pack-open.Post (λ o. (o .1 .0 .now, o .1 .1 .0 .now))
+
+abbrev pub PackEntryFixed : Type 0
+PackEntryFixed = Writes {S = List ℕ × List ℕ} c-pack-entry.Pre c-pack-entry.Post (λ o. (o .1 .1 .1 .0 .now, o .1 .1 .1 .1 .0 .now))
+
+abbrev pub PackWriteFixed : Type 0
+PackWriteFixed = Writes c-pack-write.Pre c-pack-write.Post c-written
+
 -- the entries of the C interface; the last slice of each that can refuse is that of the place
 pub record NoRoomInC : Type 0 where
   pub read-header : Writes {S = List ℕ × List ℕ} c-read-header.Pre c-read-header.Post (λ o. (o .1 .0 .now, o .1 .1 .0 .now))
@@ -68,3 +92,6 @@ pub record NoRoomInC : Type 0 where
   pub number : Answers c-number.Pre c-number.Post
   pub checksum : Answers c-checksum.Pre c-checksum.Post
   pub stored : Writes {S = List ℕ × List ℕ} c-stored.Pre c-stored.Post (λ o. (o .1 .1 .0 .now, o .1 .1 .1 .0 .now))
+  pub pack-open : PackOpenFixed
+  pub pack-entry : PackEntryFixed
+  pub pack-write : PackWriteFixed

@@ -19,7 +19,10 @@ use Rattle.lerc_c.proofs.lerc2_read.Reads as read
 use Rattle.lerc_c.proofs.lerc2_stage.Reads as stage
 use Rattle.lerc_c.proofs.lerc2_publish.Reads as publish
 use Rattle.lerc_c.proofs.lerc2_stored.Reads as stored
-use Rattle.lerc_c_theorems.specs.Promises.{CRead, c-lent, c-staged, c-published}
+use Rattle.lerc_c.proofs.lerc2_pack_open.Reads as pack-open
+use Rattle.lerc_c.proofs.lerc2_pack_entry.Reads as pack-entry
+use Rattle.lerc_c.proofs.lerc2_pack_write.Reads as pack-write
+use Rattle.lerc_c_theorems.specs.Promises.{CRead, c-lent, c-staged, c-published, c-written}
 use Rattle.lerc_theorems.specs.Refusals.{WholeKeeps}
 
 -- a promise by which any number but 0 leaves what was lent: `before` of the inputs is `left` of the outputs
@@ -57,6 +60,15 @@ StageKeeps = (k : _) (a x : CRead) (n : ℕ) → stage.Post k a n x → n ≢ 0 
 abbrev pub PublishKeeps : Type 0
 PublishKeeps = KeepsInC {S = List ℕ × List ℕ × List ℕ} publish.Post (λ a. (c-published a .0, c-published a .1, c-published a .2)) (λ o. (c-published o .0, c-published o .1, c-published o .2))
 
+abbrev pub PackOpenKeeps : Type 0
+PackOpenKeeps = KeepsInC pack-open.Post (λ a. a .1 .0 .now) (λ o. o .1 .0 .now)
+
+abbrev pub PackEntryKeeps : Type 0
+PackEntryKeeps = KeepsInC pack-entry.Post (λ a. a .1 .1 .1 .0 .now) (λ o. o .1 .1 .1 .0 .now)
+
+abbrev pub PackWriteKeeps : Type 0
+PackWriteKeeps = KeepsInC {S = List ℕ × List ℕ} pack-write.Post (λ a. (c-written a .0, c-written a .1)) (λ o. (c-written o .0, c-written o .1))
+
 pub record RefusalsKeepInC : Type 0 where
   pub read-header : KeepsInC read-header.Post (λ a. a .1 .0 .now) (λ o. o .1 .0 .now)
   pub prepare-mask : KeepsInC {S = List ℕ × List ℕ} prepare-mask.Post (λ a. (a .1 .1 .1 .1 .0 .now, a .1 .1 .1 .1 .1 .0 .now)) (λ o. (o .1 .1 .1 .1 .0 .now, o .1 .1 .1 .1 .1 .0 .now))
@@ -67,3 +79,6 @@ pub record RefusalsKeepInC : Type 0 where
   pub stage : StageKeeps
   pub publish : PublishKeeps
   pub stored : KeepsInC stored.Post (λ a. a .1 .1 .0 .now) (λ o. o .1 .1 .0 .now)
+  pub pack-open : PackOpenKeeps
+  pub pack-entry : PackEntryKeeps
+  pub pack-write : PackWriteKeeps

@@ -36,8 +36,14 @@ use Rattle.lerc.specs.declared.StageAnswer.{StageAnswer}
 use Rattle.lerc.specs.declared.PublishAnswer.{PublishAnswer}
 use Rattle.lerc.specs.Read.{Lent, ReadTold, readSaid}
 use Rattle.lerc.specs.Stage.{stageSaid, publishSaid}
+use Rattle.lerc_pack.specs.declared.PackAnswer.{PackAnswer}
+use Rattle.lerc_pack.specs.declared.EntryAnswer.{EntryAnswer}
+use Rattle.lerc_pack.specs.Pack.{packSaid, entrySaid}
+use Rattle.lerc_pack_writer.specs.declared.WriteAnswer.{WriteAnswer}
+use Rattle.lerc_pack_writer.specs.Writing.{Given, writeSaid}
 use Rattle.lerc_c.specs.Records.{whyOf, headerRoom, headerNumbers, rangesRoom, rangesNumbers, stagedRoom, stagedNumbers}
 use Rattle.lerc_c.specs.Entries.{readRoom, toldNumbers}
+use Rattle.lerc_c.specs.Packs.{entryRoom, entryNumbers}
 use Rattle.lerc_c.proofs.lerc2_checksum.Reads as c-checksum
 use Rattle.lerc_c.proofs.lerc2_float_ready.Reads as c-ready
 use Rattle.lerc_c.proofs.lerc2_sum.Reads as c-sum
@@ -45,7 +51,7 @@ use Rattle.lerc_c.proofs.lerc2_scaled.Reads as c-scaled
 use Rattle.lerc_c.proofs.lerc2_narrow.Reads as c-narrow
 use Rattle.lerc_c.proofs.lerc2_number.Reads as c-number
 use Rattle.lerc_theorems.specs.Calls.{HeaderCall, PrepareCall, RangesCall, WalkCall, FillCall, ReadCall}
-use Rattle.lerc_c_theorems.specs.Calls.{HoldsHeader, HoldsRanges, HoldsStaged, Told, HasPlace, HeaderInC, PrepareInC, RangesInC, WalkInC, FillInC, ReadInC, StageInC, PublishInC, StageCall, PublishCall, StoredInC, StoredCall}
+use Rattle.lerc_c_theorems.specs.Calls.{HoldsHeader, HoldsRanges, HoldsStaged, Told, HasPlace, HeaderInC, PrepareInC, RangesInC, WalkInC, FillInC, ReadInC, StageInC, PublishInC, StageCall, PublishCall, StoredInC, StoredCall, PackOpenInC, PackEntryInC, PackWriteInC, PackOpenCall, PackEntryCall, PackWriteCall}
 
 -- What is told, and the record in which an entry says what was answered: `old` before, `new` afterwards. `numbers` are those of an accepted answer.
 pub record Tells {A : Type 0} (answer : Res A) (numbers : A → List ℕ) (t : Told) (old new : List ℕ) : Type 0 where
@@ -103,6 +109,23 @@ SamePublish = (b : List ℕ) (reuse : Bool) (staged : List ℕ) (t : Told) (old 
     → (given : StageAnswer) → HoldsStaged staged given → HasPlace t → 2 ≤ length said₀
     → (answer : PublishAnswer) (kept image : List ℕ) → PublishCall b reuse given answer old kept image → Tells (publishSaid answer) toldNumbers t said₀ said₁ × (kept₁ ≡ kept) × (image₁ ≡ image)
 
+-- ---- packs
+
+-- opening is `lerc_pack::open_pack`
+abbrev pub SamePackOpen : Type 0
+SamePackOpen = (b : List ℕ) (t : Told) (said₀ said₁ : List ℕ) → PackOpenInC b t said₀ said₁ → HasPlace t → 1 ≤ length said₀
+    → (answer : PackAnswer) → PackOpenCall b answer → Tells (packSaid answer) alone t said₀ said₁
+
+-- an entry is `lerc_pack::entry_in`
+abbrev pub SamePackEntry : Type 0
+SamePackEntry = (b : List ℕ) (tiles number : ℕ) (t : Told) (entry₀ entry₁ : List ℕ) → PackEntryInC b tiles number t entry₀ entry₁ → HasPlace t → entryRoom ≤ length entry₀
+    → (answer : EntryAnswer) → PackEntryCall b tiles number answer → Tells (entrySaid answer) entryNumbers t entry₀ entry₁
+
+-- writing is `lerc_pack_writer::write_pack`
+abbrev pub SamePackWrite : Type 0
+SamePackWrite = (g : Given) (t : Told) (pack₀ pack₁ said₀ said₁ : List ℕ) → PackWriteInC g t pack₀ pack₁ said₀ said₁ → HasPlace t → 1 ≤ length said₀
+    → (answer : WriteAnswer) (pack : List ℕ) → PackWriteCall g answer pack₀ pack → Tells (writeSaid answer) alone t said₀ said₁ × (pack₁ ≡ pack)
+
 -- ---- entry by entry
 
 pub record SameReader : Type 0 where
@@ -126,6 +149,9 @@ pub record SameReader : Type 0 where
   pub publish : SamePublish
   pub stored : (v kind : ℕ) (t : Told) (said₀ said₁ : List ℕ) → StoredInC v kind t said₀ said₁ → HasPlace t → 1 ≤ length said₀
       → (answer : StoredAnswer) → StoredCall v kind answer → Tells (storedSaid answer) alone t said₀ said₁
+  pub pack-open : SamePackOpen
+  pub pack-entry : SamePackEntry
+  pub pack-write : SamePackWrite
   -- the arithmetic, and whether a thread's float unit is ready for it
   pub float-ready : SameAnswer c-ready.Post float-ready.Post
   pub sum : SameAnswer c-sum.Post plus.Post

@@ -11,6 +11,7 @@ use Rattle.lerc_overflow.specs.Changes.{Changes}
 use Rattle.lerc_places.specs.Unplaced.{Unplaced}
 use Rattle.lerc_summed.specs.Summed.{Summed}
 use Rattle.lerc_staged.specs.Staged.{StagedClaims}
+use Rattle.lerc_pack_theorems.specs.Packs.{PackClaims}
 use Rattle.lerc_contracts.specs.Upstream.{Upstream}
 use Rattle.lerc_program.proofs.Example.{Computed}
 use Rattle.lerc_claims.specs.Arithmetic.{Arithmetic}
@@ -35,6 +36,8 @@ pub record Claims : Type 0 where
   pub summed : Summed
   -- "one after the other they equal the old read": stage and publish, what each refuses and leaves, and fills between them
   pub staged : StagedClaims
+  -- "A field is many tiles": packs and contents, one to one; what is refused, handed out and written
+  pub packs : PackClaims
   -- upstream's contracts, clause by clause
   pub upstream : Upstream
   -- the program's text

@@ -6,7 +6,7 @@ use mathlib.Core.List.{List}
 use lib.ListN.{length, take, drop}
 use lib.Dec.{leb, ltb, eqb}
 use Rattle.lerc_words.specs.declared.Refusal.{Refusal}
-use Rattle.lerc_words.specs.Res.{Res, ok, fail, _>>=_, refuse, require, little}
+use Rattle.lerc_words.specs.Res.{Res, ok, fail, _>>=_, refuse, require, accepts, little}
 use Rattle.lerc_checksum.specs.Checksum.{checksum}
 use Rattle.lerc_numeric.specs.Numeric.{negative, finite, mag, less}
 use Rattle.lerc_header.specs.declared.Header.{Header}
@@ -111,6 +111,10 @@ headerSays b = do
   _ ← held (headerOf b) (length b)
   _ ← require (checksumRight b (headerOf b .size)) 13
   ok (headerOf b)
+
+-- a blob whose header is accepted, says this kind and depth, and declares all of the bytes
+unfoldable pub isTile : List ℕ → ℕ → ℕ → Bool
+isTile b kind depth = accepts (headerSays b) && eqb kind (headerOf b .kind) && eqb depth (headerOf b .depth) && eqb (length b) (headerOf b .size)
 
 -- a header with the sizes that follow from it
 pub record Opened : Type 0 where

@@ -1,15 +1,12 @@
 // The header of a blob: its fields, the rules it is held to, and the sizes that follow from it.
 ghost use mathlib.Core.Path.{_≡_};
-ghost use Prim.Native.Nat.{ℕ, _+_, _<_, _≤_};
+ghost use Prim.Native.Nat.{ℕ, _+_, _*_, _<_, _≤_};
 ghost use lib.ListN.{length};
 ghost use Rattle.lerc_words.specs.Res.{little};
 ghost use Rattle.lerc_header.specs.Shape as Sizes;
 ghost use Rattle.lerc_header.specs.Header as Rules;
 ghost use Rattle.lerc_header.specs.Limits.{sideways, sideLimit};
-use lerc_numeric::is_finite;
-use lerc_numeric::less;
 use lerc_words::Refusal;
-use lerc_words::peek;
 
 // The most depths an image may have, and so the length of every array by depth.
 pub const DEPTHS: usize = 64;
@@ -26,9 +23,15 @@ const SIDE: u32 = 16;
 
 const SIZE: u32 = 16_777_216;
 
-const KEY: u64 = 0x2032_6372_654C;
+// The key, and above it the first two bytes of the version: eight bytes are compared at once.
+const KEY: u64 = 0x4_2032_6372_654C;
 
 const VERSION: u32 = 4;
+
+// The bits of -0.0, the least with a sign, and of infinity, the least without one that are not finite.
+const SIGN: u64 = 0x8000_0000_0000_0000;
+
+const INFINITE: u64 = 0x7FF0_0000_0000_0000;
 
 pub struct Header {
     pub rows: u32,
@@ -124,26 +127,42 @@ fn error_right(e: u64) -> bool
     e < 0x7FE0_0000_0000_0000
 }
 
-// both finite, the maximum not less than the minimum
+// both finite, the maximum not less than the minimum: by their signs, since bits without one rise with the number
 pub fn pair_right(low: u64, high: u64) -> bool
     ensures { λ r. ⌜ r ≡ Rules.pairRight low high ⌝ }
 {
-    is_finite(low) & is_finite(high) & !less(high, low)
+    if low < SIGN {
+        if high < INFINITE {
+            return low <= high;
+        }
+        return (low == 0) & (high == SIGN);
+    }
+    if SIGN + INFINITE <= low {
+        return false;
+    }
+    if high < INFINITE {
+        return true;
+    }
+    (SIGN <= high) & (high <= low)
 }
 
-// The fields have 32 bits, so that no product or sum of two wraps in 64.
+// The fields have 32 bits, so that no product or sum of two wraps in 64. The pair, which branches, is judged last.
 fn fields_right(h: Header) -> bool
     ensures { λ r. ⌜ r ≡ Rules.fieldsRight h ⌝ }
 {
-    (0 < h.rows)
+    let right = (0 < h.rows)
         & (0 < h.columns)
         & (0 < h.depth)
         & (0 < h.side)
         & (h.valid as u64 <= h.rows as u64 * h.columns as u64)
         & (h.kind <= 7)
         & error_right(h.error)
-        & pair_right(h.min, h.max)
-        & (HEADER as u64 + h.mask as u64 <= h.size as u64)
+        & (HEADER as u64 + h.mask as u64 <= h.size as u64);
+    if right {
+        pair_right(h.min, h.max)
+    } else {
+        false
+    }
 }
 
 // The three factors are judged before their product, which would wrap.
@@ -211,20 +230,38 @@ impl Header {
     }
 }
 
-// the four bytes at `at`
+// four bytes, the first the lowest
+fn four(a: u8, b: u8, c: u8, d: u8) -> u32
+    ensures { λ r. ⌜ r ≡ a + 256 * (b + 256 * (c + 256 * d)) ⌝ }
+{
+    a as u32 + 256 * (b as u32 + 256 * (c as u32 + 256 * (d as u32)))
+}
+
+// the four bytes at `at`, which are there
 fn quad(b: &[u8], at: usize) -> u32
+    requires { ⌜ at + 4 ≤ length (now b) ⌝ }
     ensures { λ r. ⌜ r ≡ little 4 (now (b .entry)) at ⌝ }
 {
-    (peek(b, at) % 0x1_0000_0000) as u32
+    four(b[at], b[at + 1], b[at + 2], b[at + 3])
+}
+
+// and the eight
+fn eight(b: &[u8], at: usize) -> u64
+    requires { ⌜ at + 8 ≤ length (now b) ⌝ }
+    ensures { λ r. ⌜ r ≡ little 8 (now (b .entry)) at ⌝ }
+{
+    quad(b, at) as u64 + 0x1_0000_0000 * (quad(b, at + 4) as u64)
 }
 
 fn key_right(b: &[u8]) -> bool
+    requires { ⌜ Rules.headerBytes ≤ length (now b) ⌝ }
     ensures { λ r. ⌜ r ≡ Rules.keyRight (now (b .entry)) ⌝ }
 {
-    (peek(b, 0) % 0x1_0000_0000_0000 == KEY) & (quad(b, 6) == VERSION)
+    (eight(b, 0) == KEY) & (quad(b, 6) == VERSION)
 }
 
 fn fields(b: &[u8]) -> Header
+    requires { ⌜ Rules.headerBytes ≤ length (now b) ⌝ }
     ensures { λ r. ⌜ r ≡ Rules.headerOf (now (b .entry)) ⌝ }
 {
     Header {
@@ -235,9 +272,9 @@ fn fields(b: &[u8]) -> Header
         side: quad(b, 30),
         size: quad(b, 34),
         kind: quad(b, 38),
-        error: peek(b, 42),
-        min: peek(b, 50),
-        max: peek(b, 58),
+        error: eight(b, 42),
+        min: eight(b, 50),
+        max: eight(b, 58),
         mask: quad(b, 66),
     }
 }
@@ -280,4 +317,29 @@ pub fn read_header(blob: &[u8]) -> HeaderAnswer
         return HeaderAnswer::Refused(opened.refusal());
     };
     HeaderAnswer::Read(header)
+}
+
+// Whether the header of a blob is accepted, says this kind and depth, and declares all of the bytes.
+// Sizes that follow are not measured, and no header is handed out: so a pack of many tiles is judged in few steps.
+pub fn is_tile(blob: &[u8], kind: u32, depth: u32) -> bool
+    ensures { λ r. ⌜ r ≡ Rules.isTile (now (blob .entry)) kind depth ⌝ }
+{
+    if blob.len() < HEADER {
+        return false;
+    }
+    let h = fields(blob);
+    let said = (kind == h.kind) & (depth == h.depth) & (blob.len() == h.size as usize);
+    if !said {
+        return false;
+    }
+    if !key_right(blob) {
+        return false;
+    }
+    if !within_ceilings(h) {
+        return false;
+    }
+    if !fields_right(h) {
+        return false;
+    }
+    checksum_right(blob, blob.len())
 }

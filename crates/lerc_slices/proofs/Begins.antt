@@ -136,7 +136,7 @@ over-begins front s e = ap (λ (l : List ℕ). l ++ drop (length front) s) (sym 
 
 -- ---- in two parts
 
-both-ways : (a b : Bool) → (a ≡ true → b ≡ true) → (b ≡ true → a ≡ true) → a ≡ b
+pub both-ways : (a b : Bool) → (a ≡ true → b ≡ true) → (b ≡ true → a ≡ true) → a ≡ b
 both-ways true b f g = sym (f refl)
 both-ways false true f g = g refl
 both-ways false false f g = refl

@@ -2,6 +2,7 @@
 
 use crate::raw;
 use crate::refusal::Refusal;
+use std::fmt;
 
 /// What a sample is.
 #[derive(Clone, Copy, Debug, PartialEq, Eq, Hash)]
@@ -42,6 +43,22 @@ impl Kind {
         let bits = number.to_bits();
         Refusal::judge(|place| raw::stored(bits, self as u32, &mut said, place))?;
         Ok(said[0])
+    }
+}
+
+/// Its name, as Rust has it: `u16`, `f32`.
+impl fmt::Display for Kind {
+    fn fmt(&self, f: &mut fmt::Formatter) -> fmt::Result {
+        f.pad(match self {
+            Kind::I8 => "i8",
+            Kind::U8 => "u8",
+            Kind::I16 => "i16",
+            Kind::U16 => "u16",
+            Kind::I32 => "i32",
+            Kind::U32 => "u32",
+            Kind::F32 => "f32",
+            Kind::F64 => "f64",
+        })
     }
 }
 

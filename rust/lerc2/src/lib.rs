@@ -1,5 +1,5 @@
-//! A reader of one Lerc2 version 4 blob whose every function is proved to meet
-//! its contract, called through its C interface.
+//! A reader of Lerc2 version 4 blobs, alone or many in one pack, whose every
+//! function is proved to meet its contract, called through its C interface.
 //!
 //! [`read`] reads a whole blob: it is [`stage`], which checks all of it, and
 //! [`publish`], which writes it, one after the other. Who looks at the image
@@ -10,6 +10,10 @@
 //! Every function takes any bytes and any slices. How long the slices must be,
 //! a header tells: [`Header::mask_length`], [`Header::blocks`],
 //! [`Header::cells`]; longer is fine.
+//!
+//! A [`Pack`] is a field of tiles in one file, each of them a blob:
+//! [`Pack::open`] judges it as a whole, and its tiles are read as any other
+//! blobs. [`pack_tiles`] and [`write_pack`] make one.
 //!
 //! A [`Refusal`] has a number and a place in the blob, "refused 8 at 74"; it
 //! leaves every lent slice as it was, except that [`read`] and [`stage`] leave
@@ -52,6 +56,7 @@
 mod arithmetic;
 mod header;
 mod mask;
+mod pack;
 mod ranges;
 mod refusal;
 mod stage;
@@ -64,6 +69,7 @@ pub mod raw;
 pub use arithmetic::{float_ready, narrow, scaled, sum};
 pub use header::{checksum, read_header, Header, Kind};
 pub use mask::{is_valid, prepare_mask, Mask};
+pub use pack::{pack_length, pack_tiles, write_pack, Entry, Pack, Tile, Tiles, MOST_TILES};
 pub use ranges::{read_ranges, Ranges, MOST_DEPTH};
 pub use refusal::{Refusal, Why};
 pub use stage::{publish, stage, BodyKind, Published, Staged, StagedMask};

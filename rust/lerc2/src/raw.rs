@@ -7,11 +7,11 @@
 //! written in every outcome: the place of the refusal, or 0. The rest stays.
 //!
 //! Records are slices of 64-bit numbers: a header 11, ranges 130, a staged
-//! answer 16, what an entry says 1, 2 or 13. A record that is too short is
-//! refused 5, then a number that its field cannot hold 3, both before anything
-//! else but the place, and both at place 0; a staged answer with such a number is
-//! one that staging did not give, which [`publish`] refuses 3 after all else.
-//! After a refusal the records are as they were.
+//! answer 16, an entry of a pack 6, what a function says 1, 2 or 13. A record
+//! that is too short is refused 5, then a number that its field cannot hold 3,
+//! both before anything else but the place, and both at place 0; a staged answer
+//! with such a number is one that staging did not give, which [`publish`] refuses
+//! 3 after all else. After a refusal the records are as they were.
 //!
 //! All `unsafe` of this crate is here. Each call hands over the pointer and
 //! the length of a slice that lives through it; slices that are written do not
@@ -41,6 +41,13 @@ pub const STAGED: usize = 16;
 /// Numbers that [`publish`] says: the body's end, and how many words were
 /// written.
 pub const PUBLISH: usize = 2;
+/// Numbers that [`pack_open`] says: how many tiles.
+pub const PACK_OPEN: usize = 1;
+/// Numbers of a pack's entry: row, column, kind, depth, where the blob begins,
+/// its length.
+pub const PACK_ENTRY: usize = 6;
+/// Numbers that [`pack_write`] says: the pack's length.
+pub const PACK_WRITE: usize = 1;
 /// Numbers of a place.
 pub const PLACE: usize = 1;
 
@@ -162,6 +169,40 @@ mod c {
             list_n: usize,
             image: *mut u64,
             image_n: usize,
+            said: *mut u64,
+            said_n: usize,
+            place: *mut u64,
+            place_n: usize,
+        ) -> u32;
+        pub fn lerc2_pack_open(
+            pack: *const u8,
+            n: usize,
+            said: *mut u64,
+            said_n: usize,
+            place: *mut u64,
+            place_n: usize,
+        ) -> u32;
+        pub fn lerc2_pack_entry(
+            pack: *const u8,
+            n: usize,
+            tiles: usize,
+            number: usize,
+            entry: *mut u64,
+            entry_n: usize,
+            place: *mut u64,
+            place_n: usize,
+        ) -> u32;
+        pub fn lerc2_pack_write(
+            rows: *const u16,
+            rows_n: usize,
+            columns: *const u16,
+            columns_n: usize,
+            lengths: *const usize,
+            lengths_n: usize,
+            bodies: *const u8,
+            bodies_n: usize,
+            pack: *mut u8,
+            pack_n: usize,
             said: *mut u64,
             said_n: usize,
             place: *mut u64,
@@ -405,6 +446,74 @@ pub fn publish(
             list.len(),
             image.as_mut_ptr(),
             image.len(),
+            said.as_mut_ptr(),
+            said.len(),
+            place.as_mut_ptr(),
+            place.len(),
+        )
+    }
+}
+
+/// Whether these bytes are a pack, and of how many tiles.
+pub fn pack_open(pack: &[u8], said: &mut [u64], place: &mut [u64]) -> u32 {
+    unsafe {
+        c::lerc2_pack_open(
+            pack.as_ptr(),
+            pack.len(),
+            said.as_mut_ptr(),
+            said.len(),
+            place.as_mut_ptr(),
+            place.len(),
+        )
+    }
+}
+
+/// The entry of this number, of a pack of so many tiles, into its record. Any
+/// bytes and any count are answered, with what the entry's bytes say.
+pub fn pack_entry(
+    pack: &[u8],
+    tiles: usize,
+    number: usize,
+    entry: &mut [u64],
+    place: &mut [u64],
+) -> u32 {
+    unsafe {
+        c::lerc2_pack_entry(
+            pack.as_ptr(),
+            pack.len(),
+            tiles,
+            number,
+            entry.as_mut_ptr(),
+            entry.len(),
+            place.as_mut_ptr(),
+            place.len(),
+        )
+    }
+}
+
+/// Writes a pack: one row, column and length for each tile, and the blobs end
+/// to end.
+pub fn pack_write(
+    rows: &[u16],
+    columns: &[u16],
+    lengths: &[usize],
+    bodies: &[u8],
+    pack: &mut [u8],
+    said: &mut [u64],
+    place: &mut [u64],
+) -> u32 {
+    unsafe {
+        c::lerc2_pack_write(
+            rows.as_ptr(),
+            rows.len(),
+            columns.as_ptr(),
+            columns.len(),
+            lengths.as_ptr(),
+            lengths.len(),
+            bodies.as_ptr(),
+            bodies.len(),
+            pack.as_mut_ptr(),
+            pack.len(),
             said.as_mut_ptr(),
             said.len(),
             place.as_mut_ptr(),

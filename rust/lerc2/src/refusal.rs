@@ -32,7 +32,7 @@ pub struct Refusal {
     pub place: usize,
 }
 
-/// Why a call was refused. Each has one number: 1 to 11, and 13.
+/// Why a call was refused. Each has one number, 1 to 13.
 #[derive(Clone, Copy, Debug, PartialEq, Eq, Hash)]
 pub enum Why {
     /// 1: a field, number or packed run passes the declared size, or the blob
@@ -59,13 +59,16 @@ pub enum Why {
     NotBlocks = 10,
     /// 11: the block number is at or above the count.
     NoSuchBlock = 11,
+    /// 12: a pack breaks a rule, or has no such tile; or the tiles that are given
+    /// make no pack.
+    WrongPack = 12,
     /// 13: the checksum is not that of the blob's bytes.
     WrongChecksum = 13,
 }
 
 impl Why {
     /// All of them, in the order of their numbers.
-    pub const ALL: [Why; 12] = [
+    pub const ALL: [Why; 13] = [
         Why::PassesSize,
         Why::WrongKey,
         Why::WrongField,
@@ -77,6 +80,7 @@ impl Why {
         Why::DoesNotFit,
         Why::NotBlocks,
         Why::NoSuchBlock,
+        Why::WrongPack,
         Why::WrongChecksum,
     ];
 
@@ -104,6 +108,7 @@ impl fmt::Display for Why {
             Why::DoesNotFit => "a value does not fit its integer kind",
             Why::NotBlocks => "the body is not in blocks",
             Why::NoSuchBlock => "there is no block of this number",
+            Why::WrongPack => "the pack breaks a rule or has no such tile",
             Why::WrongChecksum => "the checksum is not that of the bytes",
         })
     }
@@ -160,6 +165,10 @@ impl Refusal {
             }
             (Why::NotBlocks, at) => format!("the sweep or mode byte at {at}"),
             (Why::NoSuchBlock, _) => "the number that was asked for".into(),
+            (Why::WrongPack, _) => "the 8 bytes in front, the entries behind them and each blob's \
+                 header and checksum; or the number that was asked for; or, of tiles that \
+                 were to be written, their order and lengths"
+                .into(),
             (Why::WrongChecksum, _) => {
                 "the checksum at 10 and the bytes from 14 up to the size: any may be damaged".into()
             }
@@ -208,7 +217,7 @@ mod tests {
     #[test]
     fn numbers_and_back() {
         assert_eq!(returning(0, 0), Ok(()));
-        for number in (1..=11).chain([13]) {
+        for number in 1..=13 {
             let refusal = returning(number, 74).unwrap_err();
             assert_eq!((refusal.number(), refusal.place), (number, 74));
             assert_eq!(refusal.why.number(), number);
@@ -263,7 +272,7 @@ mod tests {
     fn sentences_differ() {
         let told = |place: usize| Why::ALL.map(|why| Refusal { why, place }.where_to_look());
         let both: HashSet<String> = told(0).into_iter().chain(told(74)).collect();
-        // Those without a place of their own, 2, 3, 4, 5, 11 and 13, are told once.
-        assert_eq!(both.len(), 2 * Why::ALL.len() - 6);
+        // Those without a place of their own, 2, 3, 4, 5, 11, 12 and 13, are told once.
+        assert_eq!(both.len(), 2 * Why::ALL.len() - 7);
     }
 }

@@ -9,7 +9,7 @@ type Declared = BTreeMap<String, Vec<String>>;
 fn as_in_the_header_file() {
     let c = of_c(include_str!("../../../include/lerc2.h"));
     let rust = of_rust(include_str!("../src/raw.rs"));
-    assert_eq!(c.len(), 15);
+    assert_eq!(c.len(), 18);
     assert_eq!(c, rust);
 }
 
@@ -58,6 +58,7 @@ fn c_type(parameter: &str) -> String {
 fn c_word(word: &str) -> String {
     match word {
         "uint8_t" => "u8",
+        "uint16_t" => "u16",
         "uint32_t" => "u32",
         "uint64_t" => "u64",
         "size_t" => "usize",

@@ -386,7 +386,7 @@ struct Lent {
 
 type Entry = fn(&[u8], &mut Lent, &mut [u64]) -> u32;
 
-/// The entries that can refuse.
+/// The entries that can refuse; `tests/pack.rs` has those for packs.
 const ENTRIES: [(&str, Entry); 9] = [
     ("read_header", |blob, lent, place| {
         raw::read_header(blob, &mut lent.said, place)

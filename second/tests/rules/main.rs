@@ -9,6 +9,7 @@ mod checksum;
 mod given;
 mod inflate;
 mod lent;
+mod pack;
 mod places;
 mod program;
 mod proved_cases;

@@ -16,9 +16,9 @@ returns c =
       size .before .quad5 .ensures,
       size .quad6 .ensures,
       c .before .before .before .before .quad7 .ensures,
-      c .before .before .before .peek .ensures,
-      c .before .before .peek2 .ensures,
-      c .before .peek3 .ensures,
+      c .before .before .before .eight .ensures,
+      c .before .before .eight2 .ensures,
+      c .before .eight3 .ensures,
       c .quad8 .ensures,
     )
 

@@ -1,0 +1,39 @@
+use mathlib.Core.Path.{_≡_, sym}
+use mathlib.Core.Bool.{true, false, _&&_, _||_}
+use denote.Ref.{now}
+use lib.ListN.{length}
+use lib.Dec.{ltb, eqb}
+use borrow.Author.Tests.{not-true, not-false}
+use Rattle.lerc_pack.specs.Pack.{countOf, headRight, openedSays}
+use borrow.Author.Needs.{needs}
+use Rattle.lerc_pack.proofs.pack_answer.Statement.{statement}
+use Rattle.lerc_pack.proofs.pack_answer.Tie as tie
+
+-- src/lib.rt:102:17
+head-right-requires : tie.Need-head-right-requires
+head-right-requires c κs = search needs
+
+-- src/lib.rt:103:21
+count-of-requires : tie.Need-count-of-requires
+count-of-requires c κs = search needs
+
+-- src/lib.rt:106:9
+returns : tie.Need-returns
+unfolding openedSays
+returns c =
+    let a = c .before .before .before .before .args in
+    let test : (headRight (now (a .pack)) && eqb (a .count) (countOf (now (a .pack))) && (ltb 0 (a .count) || eqb (length (now (a .pack))) 8)) ≡ false =
+    rw (sym (c .before .before .head-right .ensures), sym (c .before .count-of .ensures)) (not-true _ (c .if1 .taken)) in
+    rw (test)
+
+-- src/lib.rt:99:1
+returns-2 : tie.Need-returns-2
+unfolding openedSays
+returns-2 c =
+    let a = c .before .before .before .before .args in
+    let test : (headRight (now (a .pack)) && eqb (a .count) (countOf (now (a .pack))) && (ltb 0 (a .count) || eqb (length (now (a .pack))) 8)) ≡ true =
+    rw (sym (c .before .before .head-right .ensures), sym (c .before .count-of .ensures)) (not-false _ (c .if1 .left)) in
+    rw (test)
+
+pub pack-answer-spec : {M : Type 1} → statement M
+pack-answer-spec = tie.close (tie.spec head-right-requires count-of-requires returns returns-2)

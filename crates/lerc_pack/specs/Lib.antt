@@ -1,0 +1,3 @@
+pub mod Contents
+pub mod Pack
+pub mod Parts

@@ -1,0 +1,27 @@
+use borrow.Author.Needs.{needs}
+use Prim.Native.Nat.{_≤_, _-_}
+use mathlib.Core.Path.{_≡_}
+use lib.ListN.{length}
+use Rattle.lerc_pack_cases.proofs.lines.Statement.{statement}
+use Rattle.lerc_pack_cases.proofs.lines.Tie as tie
+
+abbrev Inv-loop : tie.InvT-loop
+Inv-loop fd name cases slice₀ same₀ i₀ slice same i = (i ≤ cases) × (length slice ≡ length slice₀)
+
+abbrev μ-loop : tie.MeasureT-loop
+μ-loop fd name cases slice₀ same₀ i₀ slice same i = cases - i
+
+pub lines-spec : {M : Type 1} → statement M
+lines-spec =
+    tie.close
+    (tie.spec
+    Inv-loop
+    μ-loop
+    (λ c. search needs)
+    (λ c κs. search needs)
+    (λ c κs. search needs)
+    (λ c. search needs)
+    (λ c. search needs)
+    (λ c. search needs)
+    (λ c. search needs)
+    (λ c. search needs))

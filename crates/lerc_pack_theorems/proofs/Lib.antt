@@ -1,0 +1,12 @@
+pub mod Digits
+pub mod Entries
+pub mod Alike
+pub mod Opened
+pub mod Written
+pub mod Reread
+pub mod OneToOne
+pub mod Writer
+pub mod Refused
+pub mod Calls
+pub mod Witness
+pub mod Packs

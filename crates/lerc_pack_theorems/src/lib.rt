@@ -1,0 +1,1 @@
+// What packs promise together, in calls; there is no code here.
