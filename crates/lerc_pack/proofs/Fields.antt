@@ -1,20 +1,19 @@
 -- Fields of a pack out of eight bytes at a time.
 -- Assumes nothing.
-use mathlib.Core.Path.{_≡_, _∙_, sym, ap, refl}
+use mathlib.Core.Path.{_≡_, _∙_, ap, refl}
 use mathlib.Core.Bool.{Bool, true, false, _&&_}
 use mathlib.Core.List.{List}
-use Prim.Native.Nat.{ℕ, suc, _+_, _*_, _/_, _%_, _^_, _≤_, _<_}
+use Prim.Native.Nat.{ℕ, _+_, _*_, _/_, _%_, _^_, _≤_, _<_}
 use native.Mathlib.Omega.{arith}
 use native.Mathlib.Nat.{add-zero}
 use lib.ListN.{length, getD, take, drop}
 use lib.Seq.{getD-take, getD-drop}
-use lib.Dec.{leb, eqb}
+use lib.Dec.{eqb}
 use Rattle.lerc_words.specs.Res.{little}
 use borrow.Author.Tests.{eqb-true, eq-eqb}
 use Rattle.lerc_words.proofs.Little.{Bytes, little-low, little-high, little-same, little-split, little-lt}
 use Rattle.lerc_words.proofs.Binding.{and-is}
 use Rattle.lerc_slices.proofs.Begins.{both-ways}
-use Rattle.lerc_pack.specs.declared.Entry.{Entry}
 use Rattle.lerc_pack.specs.Contents.{entryPlace}
 use Rattle.lerc_pack.specs.Pack.{entryPart, entryOf, entryAt, zerosRight}
 

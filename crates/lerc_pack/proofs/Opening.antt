@@ -1,24 +1,24 @@
 -- One pass over the entries, with the keys that may follow, says what the rules of a pack say.
 -- Assumes nothing.
-use mathlib.Core.Path.{_≡_, _∙_, sym, ap, refl}
+use mathlib.Core.Path.{_≡_, _∙_, sym, refl}
 use mathlib.Core.Bool.{Bool, true, false, _&&_}
 use mathlib.Core.List.{List}
-use Prim.Native.Nat.{ℕ, zero, suc, _+_, _-_, _*_, _≤_, _<_, min}
+use Prim.Native.Nat.{ℕ, zero, suc, _+_, _-_, _≤_, _<_, min}
 use native.Mathlib.Omega.{arith}
 use lib.ListN.{length, take, drop, length-take, length-drop}
 use lib.Dec.{leb, ltb, eqb}
 use borrow.Author.Tests.{ltb-true, leb-true, eqb-true, le-leb, eq-eqb}
-use Rattle.lerc_words.specs.Res.{Res, ok, fail, _>>=_, require, refuse, little}
+use Rattle.lerc_words.specs.Res.{ok, fail, _>>=_, require, refuse, little}
 use Rattle.lerc_words.specs.Lists.{allTo}
 use Rattle.lerc_words.proofs.Little.{Bytes}
 use Rattle.lerc_words.proofs.Binding.{and-is, bind-is, require-is, ok-is}
-use Rattle.lerc_words.proofs.Tables.{all-each, all-true, all-fails}
+use Rattle.lerc_words.proofs.Tables.{all-each, all-true}
 use Rattle.lerc_slices.proofs.Begins.{both-ways}
 use Rattle.lerc_header.proofs.Kept.{header-held, held-kept}
 use Rattle.lerc_pack.specs.declared.Entry.{Entry}
 use Rattle.lerc_pack.specs.Contents.{Tile, tileLimit, depthMost, entryPlace, bodyEnd, bodyPlace, risesAt, matches, tilesRight}
 use Rattle.lerc_pack.specs.Pack.{countOf, headRight, entryPart, entryAt, zerosRight, bodyOf, tileOf, packSays, entrySays}
-use Rattle.lerc_pack.specs.Parts.{keyOf, leastKey, keyAt, entryRight, entryMatched, entriesRight}
+use Rattle.lerc_pack.specs.Parts.{leastKey, keyAt, entryRight, entryMatched, entriesRight}
 use Rattle.lerc_pack.proofs.Fields.{row-fits, column-fits}
 use Rattle.lerc_pack.proofs.Rules.{Matched, TileKept, TilesKept, matched-is, matched-right, tiles-is, tiles-right}
 use Rattle.lerc_pack.proofs.Order.{rises-is}

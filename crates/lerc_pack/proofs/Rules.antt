@@ -3,7 +3,7 @@
 use mathlib.Core.Path.{_≡_, _∙_, ap, refl}
 use mathlib.Core.Bool.{Bool, true}
 use mathlib.Core.List.{List}
-use Prim.Native.Nat.{ℕ, zero, suc, _+_, _-_, _*_, _≤_, _<_}
+use Prim.Native.Nat.{ℕ, suc, _+_, _-_, _≤_, _<_}
 use native.Mathlib.Omega.{arith}
 use lib.ListN.{length}
 use borrow.Author.Tests.{ltb-true, leb-true, eqb-true, lt-ltb, le-leb, eq-eqb}
@@ -18,7 +18,7 @@ use Rattle.lerc_header.specs.Limits.{sizeLimit}
 use Rattle.lerc_header.specs.Header.{headerOf, headerSays}
 use Rattle.lerc_header.proofs.Kept.{header-held, held-kept}
 use Rattle.lerc_pack.specs.declared.Entry.{Entry}
-use Rattle.lerc_pack.specs.Contents.{Tile, entryPlace, bodyEnd, bodyPlace, risesAt, matches, tileRight, tilesRight}
+use Rattle.lerc_pack.specs.Contents.{Tile, entryPlace, bodyPlace, risesAt, matches, tileRight, tilesRight}
 use Rattle.lerc_pack.proofs.Joined.{starts-total}
 
 -- ---- a blob that an entry matches

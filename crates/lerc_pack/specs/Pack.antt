@@ -1,6 +1,6 @@
 -- The pack reader: which bytes are a pack, and what its tiles are. "A breach is new refusal 12."
 -- Assumes nothing.
-use Prim.Native.Nat.{ℕ, suc, _+_, _*_}
+use Prim.Native.Nat.{ℕ, suc, _+_}
 use mathlib.Core.Bool.{Bool, _&&_, _||_}
 use mathlib.Core.List.{List, []}
 use lib.ListN.{length, take, drop}

@@ -1,7 +1,7 @@
 -- Tiles whose entries fit their bytes; and that only the first n of a pack's tiles count.
 -- Assumes nothing.
 use mathlib.Core.Path.{_≡_, ap, refl}
-use Prim.Native.Nat.{ℕ, zero, suc, _+_, _*_, _≤_, _<_}
+use Prim.Native.Nat.{ℕ, zero, suc, _*_, _≤_, _<_}
 use native.Mathlib.Omega.{arith}
 use Rattle.lerc_words.specs.Lists.{total}
 use Rattle.lerc_words.proofs.Tables.{all-same}

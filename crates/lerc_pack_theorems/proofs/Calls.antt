@@ -1,10 +1,8 @@
 -- What the promises of the pack's functions say of a call.
 -- Assumes nothing.
-use mathlib.Core.Path.{_≡_, _∙_, sym, ap, refl}
+use mathlib.Core.Path.{_≡_}
 use mathlib.Core.List.{List}
 use Prim.Native.Nat.{ℕ}
-use Rattle.lerc_words.specs.declared.Refusal.{Refusal}
-use Rattle.lerc_words.specs.Res.{ok, fail}
 use Rattle.lerc_pack.specs.declared.Entry.{Entry}
 use Rattle.lerc_pack.specs.declared.PackAnswer.{PackAnswer}
 use Rattle.lerc_pack.specs.declared.PackAnswer.the-variants as pack-answer

@@ -2,19 +2,17 @@
 -- Assumes nothing.
 use Prim.Native.Nat.{ℕ, zero, suc, _+_, _-_, _≤_, _<_}
 use mathlib.Core.Path.{_≡_, _∙_, sym, ap, refl, subst}
-use mathlib.Core.Logic.{_↔_}
 use mathlib.Core.Bool.{Bool, true, false, _&&_, _||_}
-use mathlib.Core.List.{List, [], _∷_, _++_}
+use mathlib.Core.List.{List, [], _∷_}
 use native.Mathlib.Omega.{arith}
 use native.Mathlib.Nat.{zero-add}
-use lib.ListN.{length, getD, take, drop, length-append, length-drop, length-take}
-use lib.Seq.{take-append-seam, take-at, drop-length, getD-append-add, getD-drop}
+use lib.ListN.{length, getD, take, drop, length-append, length-drop}
+use lib.Seq.{take-append-seam, getD-append-add, getD-drop}
 use lib.Dec.{leb, ltb, eqb}
 use borrow.Author.Tests.{lt-ltb, le-leb, eq-eqb, eqb-true}
 use Rattle.lerc_words.specs.declared.Refusal.{Refusal}
-use Rattle.lerc_words.specs.Res.{Res, ok, fail, _>>=_, require, refuse, little}
+use Rattle.lerc_words.specs.Res.{Res, ok, fail, _>>=_, require, refuse}
 use Rattle.lerc_words.specs.Lists.{over, allTo}
-use Rattle.lerc_words.proofs.Binding.{ok-is}
 use Rattle.lerc_words.proofs.Little.{Bytes}
 use Rattle.lerc_words.proofs.Tables.{getD-tabulate, length-tabulate}
 use Rattle.lerc_header.specs.Header.{headerOf}
@@ -22,7 +20,7 @@ use Rattle.lerc_image.specs.Paint.{among}
 use Rattle.lerc_pack.specs.declared.PackAnswer.the-variants as pack-answer
 use Rattle.lerc_pack.specs.declared.EntryAnswer.the-variants as entry-answer
 use Rattle.lerc_pack.specs.Contents.{Tile, entryPlace, bodyPlace, joined, tilesRight}
-use Rattle.lerc_pack.specs.Pack.{countOf, headRight, entryAt, bodyOf, tileOf, contents, packSays, packSaid, countSaid, countIn, openedSays, entrySays, entrySaid, bodySays, bodySaid, startSaid}
+use Rattle.lerc_pack.specs.Pack.{countOf, headRight, entryAt, bodyOf, tileOf, contents, packSays, packSaid, countSaid, openedSays, entrySays, entrySaid, bodySays, bodySaid}
 use Rattle.lerc_pack.proofs.Joined.{joined-same}
 use Rattle.lerc_pack_writer.specs.declared.WriteAnswer.the-variants as write-answer
 use Rattle.lerc_pack_writer.specs.declared.WriteAnswer.{WriteAnswer}
@@ -33,11 +31,11 @@ use Rattle.lerc_theorems.specs.Writes.{AlikeFrom}
 use Rattle.lerc_theorems.proofs.Headers.{header-exactly}
 use Rattle.lerc_theorems.proofs.Given.{body-in}
 use Rattle.lerc_staged.proofs.InTwo.{stage-refuses}
-use Rattle.lerc_pack_theorems.specs.Table.{PackRefused, pack-wrong, EntryRefused, number-past, entry-past, body-past, WriteRefused, given-wrong, no-room}
+use Rattle.lerc_pack_theorems.specs.Table.{EntryRefused, number-past, entry-past, body-past, no-room}
 use Rattle.lerc_pack_theorems.specs.Packs as claimed
 use Rattle.lerc_pack_theorems.specs.Packs.{PackClaims}
 use Rattle.lerc_pack_theorems.proofs.Calls.{open-call, entry-call, body-call, write-call, pack-same, entry-same, write-same}
-use Rattle.lerc_pack_theorems.proofs.Opened.{Opened, pack-opened, opened-pack, pack-refused, body-inside}
+use Rattle.lerc_pack_theorems.proofs.Opened.{Opened, pack-opened, pack-refused, body-inside}
 use Rattle.lerc_pack_theorems.proofs.OneToOne as one
 use Rattle.lerc_pack_theorems.proofs.Writer.{given-says, given-contents, given-length, write-taken, write-again}
 use Rattle.lerc_pack_theorems.proofs.Witness.{computed}

@@ -2,33 +2,30 @@
 -- Assumes nothing.
 use Prim.Native.Nat.{ℕ, zero, suc, _+_, _-_, _≤_, _<_, min}
 use mathlib.Core.Path.{_≡_, _∙_, sym, ap, refl, subst}
-use mathlib.Core.Logic.{_↔_, _≢_}
+use mathlib.Core.Logic.{_↔_}
 use mathlib.Core.Bool.{Bool, true, false, _&&_}
 use mathlib.Core.List.{List}
 use native.Mathlib.Omega.{arith}
 use lib.ListN.{length, getD, length-take, length-drop}
 use lib.Dec.{leb, ltb, eqb}
-use borrow.Author.Tests.{ltb-true, ltb-false, leb-true, leb-false, eqb-true, eqb-false, lt-ltb, le-ltb, le-leb, lt-leb}
+use borrow.Author.Tests.{ltb-false, leb-true, leb-false, eqb-true, eqb-false, lt-ltb, le-ltb, le-leb, lt-leb}
 use Rattle.lerc_words.specs.declared.Refusal.{Refusal}
 use Rattle.lerc_words.specs.Res.{Res, ok, fail, _>>=_, require, refuse, little}
 use Rattle.lerc_words.specs.Lists.{allTo}
 use Rattle.lerc_words.proofs.Little.{Bytes}
-use Rattle.lerc_words.proofs.Binding.{ok-is, bind-is, require-is}
+use Rattle.lerc_words.proofs.Binding.{ok-is}
 use Rattle.lerc_words.proofs.Counts.{total-le}
 use Rattle.lerc_words.proofs.Tables.{all-suc, all-none}
-use Rattle.lerc_slices.specs.Slices.{acceptsWith}
 use Rattle.lerc_header.specs.declared.Header.{Header}
-use Rattle.lerc_header.specs.Header.{headerOf, headerSays}
-use Rattle.lerc_header.proofs.Kept.{header-held}
-use Rattle.lerc_pack.specs.Contents.{version, tileLimit, depthMost, entryPlace, bodyEnd, bodyPlace, before, risesAt, matches, tileRight, tilesRight}
+use Rattle.lerc_header.specs.Header.{headerSays}
+use Rattle.lerc_pack.specs.Contents.{version, tileLimit, depthMost, entryPlace, bodyEnd, bodyPlace, risesAt, matches, tileRight, tilesRight}
 use Rattle.lerc_pack.specs.Pack.{countOf, headRight, entryPart, entryAt, zerosRight, bodyOf, tileOf, packSays, entrySays}
 use Rattle.lerc_pack.proofs.Fields.{row-fits, column-fits}
 use Rattle.lerc_pack.proofs.Order.{rises-is}
-use Rattle.lerc_pack_writer.specs.Writing.{Given, bodyStart, blobGiven, tileGiven, givenRight, addsUp, packLength, writeSays}
+use Rattle.lerc_pack_writer.specs.Writing.{Given, bodyStart, blobGiven, tileGiven, givenRight, packLength, writeSays}
 use Rattle.lerc_pack.specs.Parts.{leastKey}
 use Rattle.lerc_pack_writer.specs.Parts.{isWhole, givenKey, givenTile, givenTiles}
-use Rattle.lerc_pack_writer.proofs.Passes.{start-more}
-use Rattle.lerc_pack_writer.proofs.Judging.{Twos, alike-is, long-given, write-wrong, write-is}
+use Rattle.lerc_pack_writer.proofs.Judging.{Twos, long-given, write-wrong, write-is}
 use Rattle.lerc_pack_theorems.specs.Table.{PackWrong, short, other-version, no-zeros, too-many, cut-short, no-zeros-at, too-deep, apart, unordered, past-end, header-refused, other-kind, other-depth, other-length, other-end, PackRefused, pack-wrong, EntryRefused, number-past, entry-past, body-past, GivenWrong, columns-differ, lengths-differ, given-many, no-sum, given-unordered, given-refused, given-length, WriteRefused, given-wrong, no-room}
 use Rattle.lerc_pack_theorems.proofs.Opened.{Opened, pack-opened, pack-refused, body-inside}
 use Rattle.lerc_pack_theorems.proofs.Writer.{Taken, write-taken}

@@ -1,6 +1,5 @@
 -- Calls of the pack's functions: what is lent, what is answered and what is left, in any outcome that the promise allows. Slices hold what their types hold.
 -- Assumes nothing.
-use mathlib.Core.Path.{_≡_}
 use mathlib.Core.List.{List}
 use Prim.Native.Nat.{ℕ}
 use denote.Ref.{RefT}

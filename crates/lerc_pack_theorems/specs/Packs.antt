@@ -20,8 +20,8 @@ use Rattle.lerc_pack.specs.declared.PackAnswer.{PackAnswer}
 use Rattle.lerc_pack.specs.declared.PackAnswer.the-variants as pack-answer
 use Rattle.lerc_pack.specs.declared.EntryAnswer.{EntryAnswer}
 use Rattle.lerc_pack.specs.declared.EntryAnswer.the-variants as entry-answer
-use Rattle.lerc_pack.specs.Contents.{Tile, tileLimit, entryPlace, contentsRight, joined, packBytes}
-use Rattle.lerc_pack.specs.Pack.{countOf, entryAt, bodyOf, tileOf, contents, packSays, countIn, openedSays, entrySays, bodySays, behind}
+use Rattle.lerc_pack.specs.Contents.{Tile, entryPlace, contentsRight, joined, packBytes}
+use Rattle.lerc_pack.specs.Pack.{countOf, entryAt, tileOf, contents, packSays, countIn, openedSays, bodySays, behind}
 use Rattle.lerc_pack.proofs.PackAnswer.refusal.Reads as pack-refusal
 use Rattle.lerc_pack.proofs.EntryAnswer.refusal.Reads as entry-refusal
 use Rattle.lerc_pack.proofs.open_pack.Reads as open-pack
@@ -41,7 +41,7 @@ use Rattle.lerc_theorems.specs.Promises.{Fixed, Answers, Writes}
 use Rattle.lerc_theorems.specs.Table.{HeaderRefused}
 use Rattle.lerc_theorems.specs.Writes.{AlikeFrom}
 use Rattle.lerc_staged.specs.Calls.{StageCall}
-use Rattle.lerc_pack_theorems.specs.Table.{PackWrong, PackRefused, EntryRefused, WriteRefused}
+use Rattle.lerc_pack_theorems.specs.Table.{PackRefused, EntryRefused, WriteRefused}
 use Rattle.lerc_pack_theorems.specs.Witness.{Computed}
 use Rattle.lerc_pack_theorems.specs.Calls.{OpenCall, EntryCall, BodyCall, WriteCall}
 

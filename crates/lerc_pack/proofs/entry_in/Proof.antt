@@ -1,6 +1,6 @@
-use mathlib.Core.Path.{_≡_, _∙_, sym, ap}
+use mathlib.Core.Path.{_∙_, sym, ap}
 use mathlib.Core.Bool.{true, false}
-use Prim.Native.Nat.{suc, _+_, _<_, _≤_}
+use Prim.Native.Nat.{_<_, _≤_}
 use denote.Ref.{now}
 use native.Mathlib.Omega.{arith}
 use lib.ListN.{length}
@@ -8,32 +8,24 @@ use lib.Dec.{leb}
 use borrow.Author.Tests.{not-true, not-false, lt-ltb, le-ltb, le-leb, lt-leb, leb-true}
 use Rattle.lerc_words.proofs.Little.{Bytes}
 use Rattle.lerc_pack.specs.declared.Entry.{Entry}
-use Rattle.lerc_pack.specs.Contents.{entryPlace, bodyEnd}
+use Rattle.lerc_pack.specs.Contents.{bodyEnd}
 use Rattle.lerc_pack.specs.Pack.{entryAt, entrySays}
 use Rattle.lerc_pack.proofs.Fields.{start-fits, length-fits}
 use borrow.Author.Needs.{needs}
 use Rattle.lerc_pack.proofs.entry_in.Statement.{statement}
 use Rattle.lerc_pack.proofs.entry_in.Tie as tie
 
--- src/lib.rt:114:9
 returns : tie.Need-returns
 unfolding entrySays
 returns c = rw (le-ltb _ _ (c .if1 .taken))
 
--- src/lib.rt:116:9
-holds-entry-requires : tie.Need-holds-entry-requires
-holds-entry-requires c κs = search needs
-
--- src/lib.rt:117:9
 returns-2 : tie.Need-returns-2
 unfolding entrySays
 returns-2 c = rw (lt-ltb _ _ (c .before .before .if1 .left), sym (c .before .holds-entry .ensures) ∙ not-true _ (c .if2 .taken))
 
--- src/lib.rt:119:9
 entry-at-requires : tie.Need-entry-at-requires
 entry-at-requires c κs = leb-true _ _ (sym (c .before .holds-entry .ensures) ∙ not-false _ (c .if2 .left))
 
--- src/lib.rt:120:21
 add-if3 : tie.Need-add-if3
 add-if3 c =
     let a = c .before .before .before .before .before .before .args in
@@ -42,7 +34,6 @@ add-if3 c =
     let long = ap (λ (e : Entry). e .length) (c .before .entry-at .ensures) in
     omega (arith, start, long, start-fits (now (a .pack)) bytes (a .i), length-fits (now (a .pack)) bytes (a .i))
 
--- src/lib.rt:121:9
 returns-3 : tie.Need-returns-3
 unfolding entrySays
 returns-3 c =
@@ -50,7 +41,6 @@ returns-3 c =
     let past : length (now (t .before .before .before .before .before .args .pack)) < bodyEnd (entryAt (now (t .before .before .before .before .before .args .pack)) (t .before .before .before .before .before .args .i)) = rw (t .entry-at .ensures) at (c .if3 .taken) in
     rw (lt-ltb _ _ (t .before .before .before .if1 .left), sym (t .before .before .holds-entry .ensures) ∙ not-false _ (t .before .if2 .left), lt-leb _ _ past)
 
--- src/lib.rt:110:1
 returns-4 : tie.Need-returns-4
 unfolding entrySays
 returns-4 c =
@@ -61,4 +51,4 @@ returns-4 c =
 pub entry-in-spec : {M : Type 1} → statement M
 entry-in-spec =
     tie.close
-    (tie.spec returns holds-entry-requires returns-2 entry-at-requires add-if3 returns-3 returns-4)
+    (tie.spec returns (λ c κs. search needs) returns-2 entry-at-requires add-if3 returns-3 returns-4)

@@ -11,28 +11,17 @@ use borrow.Author.Needs.{needs}
 use Rattle.lerc_pack.proofs.open_pack.Statement.{statement}
 use Rattle.lerc_pack.proofs.open_pack.Tie as tie
 
--- src/lib.rt:77:9
-head-right-requires : tie.Need-head-right-requires
-head-right-requires c κs = search needs
-
--- src/lib.rt:78:9
 returns : tie.Need-returns
 returns c =
     let b = now (c .before .before .before .args .pack) in
     sym (head-wrong b (sym (c .before .head-right .ensures) ∙ not-true _ (c .if1 .taken)))
 
--- src/lib.rt:80:9
-count-of-requires : tie.Need-count-of-requires
-count-of-requires c κs = search needs
-
--- src/lib.rt:81:9
 entries-right-requires : tie.Need-entries-right-requires
 entries-right-requires c κs =
     let b = now (c .before .before .before .before .args .pack) in
     let head : headRight b ≡ true = sym (c .before .before .head-right .ensures) ∙ not-false _ (c .before .if1 .left) in
     rw (c .count-of .ensures) (few-tiles b head)
 
--- src/lib.rt:82:9
 returns-2 : tie.Need-returns-2
 returns-2 c =
     let t = c .before .before .before in
@@ -42,7 +31,6 @@ returns-2 c =
     let entries : entriesRight b (countOf b) ≡ false = ap (entriesRight b) (sym (c .before .before .count-of .ensures)) ∙ sym (c .before .entries-right .ensures) ∙ not-true _ (c .if2 .taken) in
     rw (head-right b bytes head, entries)
 
--- src/lib.rt:74:1
 returns-3 : tie.Need-returns-3
 returns-3 c =
     let t = c .before .before .before in
@@ -56,9 +44,9 @@ pub open-pack-spec : {M : Type 1} → statement M
 open-pack-spec =
     tie.close
     (tie.spec
-    head-right-requires
+    (λ c κs. search needs)
     returns
-    count-of-requires
+    (λ c κs. search needs)
     entries-right-requires
     returns-2
     returns-3)

@@ -9,15 +9,6 @@ use borrow.Author.Needs.{needs}
 use Rattle.lerc_pack.proofs.pack_answer.Statement.{statement}
 use Rattle.lerc_pack.proofs.pack_answer.Tie as tie
 
--- src/lib.rt:102:17
-head-right-requires : tie.Need-head-right-requires
-head-right-requires c κs = search needs
-
--- src/lib.rt:103:21
-count-of-requires : tie.Need-count-of-requires
-count-of-requires c κs = search needs
-
--- src/lib.rt:106:9
 returns : tie.Need-returns
 unfolding openedSays
 returns c =
@@ -26,7 +17,6 @@ returns c =
     rw (sym (c .before .before .head-right .ensures), sym (c .before .count-of .ensures)) (not-true _ (c .if1 .taken)) in
     rw (test)
 
--- src/lib.rt:99:1
 returns-2 : tie.Need-returns-2
 unfolding openedSays
 returns-2 c =
@@ -36,4 +26,4 @@ returns-2 c =
     rw (test)
 
 pub pack-answer-spec : {M : Type 1} → statement M
-pack-answer-spec = tie.close (tie.spec head-right-requires count-of-requires returns returns-2)
+pack-answer-spec = tie.close (tie.spec (λ c κs. search needs) (λ c κs. search needs) returns returns-2)

@@ -25,60 +25,42 @@ twos c = record { rows = λ i. omega (arith, c .before .before .before .before .
 tiles : (c : tie.Else2) → givenTiles (lent (c .before .before)) ≡ true
 tiles c = sym (c .before .tiles-right .ensures) ∙ not-false _ (c .if2 .left)
 
--- src/lib.rt:154:9
 returns : tie.Need-returns
 unfolding givenRight
 returns c = refused-written _ _ _ (write-wrong _ _ (not-true _ (c .if1 .taken)))
 
--- src/lib.rt:156:9
 tiles-right-requires : tie.Need-tiles-right-requires
 tiles-right-requires c κs =
     let a = alike-is _ (right c) in
     (a .columns, a .lengths)
 
--- src/lib.rt:157:9
 returns-2 : tie.Need-returns-2
 returns-2 c = refused-written _ _ _ (write-is _ _ (twos (c .before .before)) (right (c .before .before)) ∙ rw (sym (c .before .tiles-right .ensures) ∙ not-true _ (c .if2 .taken)))
 
--- src/lib.rt:159:31
 mul-table : tie.Need-mul-table
 mul-table c = omega (arith, alike-is _ (right (c .before .before)) .few)
 
--- src/lib.rt:159:17
 add-table : tie.Need-add-table
 add-table c = omega (arith, alike-is _ (right (c .before .before)) .few)
 
--- src/lib.rt:161:9
 returns-3 : tie.Need-returns-3
 returns-3 c =
     let past : length (now (c .before .before .before .before .before .before .before .before .before .args .out)) < packLength (lent (c .before .before .before)) = omega (arith, c .if3 .taken) in
     refused-written _ _ _ (write-is _ _ (twos (c .before .before .before)) (right (c .before .before .before)) ∙ rw (tiles (c .before), lt-leb _ _ past))
 
--- src/lib.rt:163:8
-sub-if4 : tie.Need-sub-if4
-sub-if4 c = search needs
-
--- src/lib.rt:164:9
 returns-4 : tie.Need-returns-4
 returns-4 c =
     let past : length (now (c .before .before .before .before .before .before .before .before .before .before .args .out)) < packLength (lent (c .before .before .before .before)) = omega (arith, c .if4 .taken, c .before .if3 .left) in
     refused-written _ _ _ (write-is _ _ (twos (c .before .before .before .before)) (right (c .before .before .before .before)) ∙ rw (tiles (c .before .before), lt-leb _ _ past))
 
--- src/lib.rt:166:5
 put-pack-requires : tie.Need-put-pack-requires
 put-pack-requires c κs =
     let fits : packLength (lent (c .before .before .before .before .before)) ≤ length (now (c .before .before .before .before .before .before .before .before .before .before .before .args .out)) = omega (arith, c .before .if4 .left, c .before .before .if3 .left) in
     record { judged = judged _ (right (c .before .before .before .before .before)) (tiles (c .before .before .before)); fits = fits }
 
--- src/lib.rt:167:26
 add-t11 : tie.Need-add-t11
 add-t11 c = omega (arith, c .before .before .before .before .if4 .left, c .before .before .before .before .before .if3 .left)
 
--- src/lib.rt:142:1
-same-length : tie.Need-same-length
-same-length c = search needs
-
--- src/lib.rt:142:1
 returns-5 : tie.Need-returns-5
 returns-5 c =
     let fits : packLength (lent (c .before .before .before .before .before .before .before .before)) ≤ length (now (c .before .before .before .before .before .before .before .before .before .before .before .before .before .before .args .out)) = omega (arith, c .before .before .before .before .if4 .left, c .before .before .before .before .before .if3 .left) in
@@ -94,9 +76,9 @@ write-pack-spec =
     mul-table
     add-table
     returns-3
-    sub-if4
+    (λ c. search needs)
     returns-4
     put-pack-requires
     add-t11
-    same-length
+    (λ c. search needs)
     returns-5)

@@ -1,6 +1,6 @@
-use mathlib.Core.Path.{_≡_, _∙_, sym, ap, refl}
-use mathlib.Core.Bool.{true, false, _&&_}
-use Prim.Native.Nat.{suc, _+_, _-_, _<_, _≤_}
+use mathlib.Core.Path.{_≡_, _∙_, sym, ap}
+use mathlib.Core.Bool.{true, false}
+use Prim.Native.Nat.{_-_}
 use denote.Ref.{now}
 use native.Mathlib.Omega.{arith}
 use lib.ListN.{length}
@@ -8,9 +8,7 @@ use borrow.Author.Needs.{needs}
 use borrow.Author.Tests.{not-true, not-false}
 use Rattle.lerc_words.proofs.Little.{Bytes}
 use Rattle.lerc_pack.specs.declared.Entry.{Entry}
-use Rattle.lerc_pack.specs.Contents.{entryPlace, bodyEnd, matches}
-use Rattle.lerc_pack.specs.Pack.{entryAt, bodyOf}
-use Rattle.lerc_pack.specs.Parts.{entryRight, entryMatched}
+use Rattle.lerc_pack.specs.Parts.{entryRight}
 use Rattle.lerc_pack.proofs.Fields.{start-fits, length-fits}
 use Rattle.lerc_pack.proofs.Opening.{entry-is}
 use Rattle.lerc_pack.proofs.Passes.{entry-test, matched-no, Passed, passed-none, passed-wrong, passed-more, passed-all}
@@ -23,31 +21,21 @@ Inv-loop pack count at₀ least₀ i₀ at least i = Passed pack count i at leas
 abbrev μ-loop : tie.MeasureT-loop
 μ-loop pack count at₀ least₀ i₀ at least i = count - i
 
--- src/table.rt:111:25
 mul-at : tie.Need-mul-at Inv-loop μ-loop
 mul-at c = omega (arith, c .before .pre .0)
 
--- src/table.rt:111:18
 add-at : tie.Need-add-at Inv-loop μ-loop
 add-at c = omega (arith, c .before .pre .0)
 
--- src/table.rt:114:5
 loop-holds : tie.Need-loop-holds Inv-loop μ-loop
 loop-holds c = passed-none _ _
 
--- src/table.rt:115:13
 entry-at-requires : tie.Need-entry-at-requires Inv-loop μ-loop
 entry-at-requires c κs = omega (arith, c .loop-test .taken, c .before .before .before .pre .1)
 
--- src/table.rt:116:21
 zeros-right-requires : tie.Need-zeros-right-requires Inv-loop μ-loop
 zeros-right-requires c κs = omega (arith, c .before .loop-test .taken, c .before .before .before .before .pre .1)
 
--- src/table.rt:119:25
-key-requires : tie.Need-key-requires Inv-loop μ-loop
-key-requires c κs = search needs
-
--- src/table.rt:120:16
 add-right : tie.Need-add-right Inv-loop μ-loop
 add-right c =
     let t = c .before .before .before .before .before in
@@ -58,7 +46,6 @@ add-right c =
     let long = ap (λ (e : Entry). e .length) (t .entry-at .ensures) in
     omega (arith, start, long, start-fits b bytes i, length-fits b bytes i)
 
--- src/table.rt:122:13
 returns : tie.Need-returns Inv-loop μ-loop
 returns c =
     let t = c .before .before .before .before .before .before in
@@ -75,13 +62,11 @@ right c =
     let test = entry-test _ _ (l .i) _ _ _ _ _ (t .entry-at .ensures) (c .before .before .before .before .before .zeros-right .ensures) (c .before .before .key .ensures) (l .inv .next) (l .inv .key) in
     sym test ∙ not-false _ (c .if1 .left)
 
--- src/table.rt:124:13
 matched-requires : tie.Need-matched-requires Inv-loop μ-loop
 matched-requires c κs =
     let e = c .before .before .before .before .before .before .entry-at .ensures in
     rw (e) (entry-is _ _ _ (right c) .inside)
 
--- src/table.rt:125:13
 returns-2 : tie.Need-returns-2 Inv-loop μ-loop
 returns-2 c =
     let t = c .before .before in
@@ -89,7 +74,6 @@ returns-2 c =
     let same = rw (s .entry-at .ensures) at (c .before .matched .ensures) in
     sym (passed-wrong _ _ (s .before .before .loop .inv) (s .before .loop-test .taken) (rw (right t) (sym same ∙ not-true _ (c .if2 .taken))))
 
--- src/table.rt:127:14
 add-at-2 : tie.Need-add-at-2 Inv-loop μ-loop
 add-at-2 c =
     let t = c .before .before .before in
@@ -101,23 +85,15 @@ add-at-2 c =
     let long = ap (λ (e : Entry). e .length) (s .entry-at .ensures) in
     omega (arith, start, long, start-fits b bytes i, length-fits b bytes i)
 
--- src/table.rt:128:17
-key-requires-2 : tie.Need-key-requires-2 Inv-loop μ-loop
-key-requires-2 c κs = search needs
-
--- src/table.rt:128:17
 add-least : tie.Need-add-least Inv-loop μ-loop
 add-least c = omega (arith, c .key2 .ensures)
 
--- src/table.rt:129:9
 add-i : tie.Need-add-i Inv-loop μ-loop
 add-i c = omega arith
 
--- src/table.rt:114:5
 loop-less : tie.Need-loop-less Inv-loop μ-loop
 loop-less c = omega arith
 
--- src/table.rt:114:5
 loop-again : tie.Need-loop-again Inv-loop μ-loop
 loop-again c =
     let t = c .before .before .before .before in
@@ -126,7 +102,6 @@ loop-again c =
     rw (s .entry-at .ensures, c .key2 .ensures, s .entry-at .ensures)
     (passed-more _ _ (s .before .before .loop .inv) (s .before .loop-test .taken) (rw (right t) (sym same ∙ not-false _ (c .before .before .if2 .left))))
 
--- src/table.rt:107:1
 returns-3 : tie.Need-returns-3 Inv-loop μ-loop
 returns-3 c = passed-all _ _ (c .before .loop .inv) (c .loop-test .left)
 
@@ -141,13 +116,13 @@ entries-right-spec =
     loop-holds
     entry-at-requires
     zeros-right-requires
-    key-requires
+    (λ c κs. search needs)
     add-right
     returns
     matched-requires
     returns-2
     add-at-2
-    key-requires-2
+    (λ c κs. search needs)
     add-least
     add-i
     loop-less

@@ -11,29 +11,18 @@ use borrow.Author.Needs.{needs}
 use Rattle.lerc_pack.proofs.table.head_right.Statement.{statement}
 use Rattle.lerc_pack.proofs.table.head_right.Tie as tie
 
--- src/table.rt:35:9
-count-of-requires : tie.Need-count-of-requires
-count-of-requires c κs = search needs
-
--- src/table.rt:37:12
-peek-requires : tie.Need-peek-requires
-peek-requires c κs = search needs
-
--- src/table.rt:39:19
 mul-result : tie.Need-mul-result
 mul-result c =
     let s = now (c .before .before .before .args .pack) in
     let few : countOf s < 4294967296 = little-lt 4 s 4 (λ i. omega (arith, c .before .before .shared-slice-known .given i)) in
     omega (arith, c .before .count-of .ensures, few)
 
--- src/table.rt:39:12
 add-result : tie.Need-add-result
 add-result c =
     let s = now (c .before .before .before .args .pack) in
     let few : countOf s < 4294967296 = little-lt 4 s 4 (λ i. omega (arith, c .before .before .shared-slice-known .given i)) in
     omega (arith, c .before .count-of .ensures, few)
 
--- src/table.rt:32:1
 returns : tie.Need-returns
 unfolding headRight
 returns c =
@@ -43,4 +32,4 @@ returns c =
 
 pub head-right-spec : {M : Type 1} → statement M
 head-right-spec =
-    tie.close (tie.spec count-of-requires peek-requires mul-result add-result returns)
+    tie.close (tie.spec (λ c κs. search needs) (λ c κs. search needs) mul-result add-result returns)

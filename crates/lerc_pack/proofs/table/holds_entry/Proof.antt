@@ -7,13 +7,11 @@ use Rattle.lerc_pack.proofs.Order.{holds-is}
 use Rattle.lerc_pack.proofs.table.holds_entry.Statement.{statement}
 use Rattle.lerc_pack.proofs.table.holds_entry.Tie as tie
 
--- src/table.rt:54:9
 returns : tie.Need-returns
 returns c =
     let h : c .before .args .len < entryPlace (suc (c .before .args .i)) = omega (arith, c .if1 .taken) in
     sym (lt-leb _ _ h)
 
--- src/table.rt:50:1
 returns-2 : tie.Need-returns-2
 returns-2 c = holds-is (c .before .args .len) (c .before .args .i) (c .if1 .left)
 

@@ -14,53 +14,45 @@ Inv-loop rows columns lengths bodies out₀ n at₀ i₀ out at i = Putting (rec
 abbrev μ-loop : tie.MeasureT-loop
 μ-loop rows columns lengths bodies out₀ n at₀ i₀ out at i = n - i
 
--- src/writer.rt:124:5
 loop-holds : tie.Need-loop-holds Inv-loop μ-loop
 loop-holds c = putting-none _ _
 
--- src/writer.rt:125:22
 mul-length : tie.Need-mul-length Inv-loop μ-loop
 mul-length c =
     let j = c .before .before .before .before .before .before .before .pre .judged in
     let l = c .before .loop in
     omega (arith, j .few, j .lengths, j .columns, c .before .before .before .before .before .before .before .pre .fits, putting-length _ (l .inv) (c .before .before .before .before .before .before .before .pre .fits), c .loop-test .taken)
 
--- src/writer.rt:125:22
 shared-slice-read-length : tie.Need-shared-slice-read-length Inv-loop μ-loop
 shared-slice-read-length c =
     let j = c .before .before .before .before .before .before .before .before .pre .judged in
     let l = c .before .before .loop in
     omega (arith, j .few, j .lengths, j .columns, c .before .before .before .before .before .before .before .before .pre .fits, putting-length _ (l .inv) (c .before .before .before .before .before .before .before .before .pre .fits), c .before .loop-test .taken)
 
--- src/writer.rt:127:18
 mul-t14 : tie.Need-mul-t14 Inv-loop μ-loop
 mul-t14 c =
     let j = c .before .before .before .before .before .before .before .before .pre .judged in
     let l = c .before .before .loop in
     omega (arith, j .few, j .lengths, j .columns, c .before .before .before .before .before .before .before .before .pre .fits, putting-length _ (l .inv) (c .before .before .before .before .before .before .before .before .pre .fits), c .before .loop-test .taken)
 
--- src/writer.rt:127:18
 shared-slice-read-t18 : tie.Need-shared-slice-read-t18 Inv-loop μ-loop
 shared-slice-read-t18 c =
     let j = c .before .before .before .before .before .before .before .before .before .pre .judged in
     let l = c .before .before .before .loop in
     omega (arith, j .few, j .lengths, j .columns, c .before .before .before .before .before .before .before .before .before .pre .fits, putting-length _ (l .inv) (c .before .before .before .before .before .before .before .before .before .pre .fits), c .before .before .loop-test .taken)
 
--- src/writer.rt:128:21
 mul-t16 : tie.Need-mul-t16 Inv-loop μ-loop
 mul-t16 c =
     let j = c .before .before .before .before .before .before .before .before .before .pre .judged in
     let l = c .before .before .before .loop in
     omega (arith, j .few, j .lengths, j .columns, c .before .before .before .before .before .before .before .before .before .pre .fits, putting-length _ (l .inv) (c .before .before .before .before .before .before .before .before .before .pre .fits), c .before .before .loop-test .taken)
 
--- src/writer.rt:128:21
 shared-slice-read-t20 : tie.Need-shared-slice-read-t20 Inv-loop μ-loop
 shared-slice-read-t20 c =
     let j = c .before .before .before .before .before .before .before .before .before .before .pre .judged in
     let l = c .before .before .before .before .loop in
     omega (arith, j .few, j .lengths, j .columns, c .before .before .before .before .before .before .before .before .before .before .pre .fits, putting-length _ (l .inv) (c .before .before .before .before .before .before .before .before .before .before .pre .fits), c .before .before .before .loop-test .taken)
 
--- src/writer.rt:129:32
 add-quad : tie.Need-add-quad Inv-loop μ-loop
 add-quad c =
     let j = c .before .before .before .before .before .before .before .before .before .before .pre .judged in
@@ -68,11 +60,6 @@ add-quad c =
     let room = room-at _ (l .i) (l .at) j (c .before .before .before .loop-test .taken) (l .inv .next) in
     omega (arith, j .few, j .lengths, j .columns, j .small, c .before .before .before .before .before .before .before .before .before .before .pre .fits, putting-length _ (l .inv) (c .before .before .before .before .before .before .before .before .before .before .pre .fits), room .0, room .1)
 
--- src/writer.rt:129:19
-quad-requires : tie.Need-quad-requires Inv-loop μ-loop
-quad-requires c κs = search needs
-
--- src/writer.rt:130:33
 add-quad-2 : tie.Need-add-quad-2 Inv-loop μ-loop
 add-quad-2 c =
     let j = c .before .before .before .before .before .before .before .before .before .before .before .pre .judged in
@@ -80,25 +67,18 @@ add-quad-2 c =
     let room = room-at _ (l .i) (l .at) j (c .before .before .before .before .loop-test .taken) (l .inv .next) in
     omega (arith, j .few, j .lengths, j .columns, j .small, c .before .before .before .before .before .before .before .before .before .before .before .pre .fits, putting-length _ (l .inv) (c .before .before .before .before .before .before .before .before .before .before .before .pre .fits), room .0, room .1)
 
--- src/writer.rt:130:20
-quad-requires-2 : tie.Need-quad-requires-2 Inv-loop μ-loop
-quad-requires-2 c κs = search needs
-
--- src/writer.rt:131:27
 mul-t25 : tie.Need-mul-t25 Inv-loop μ-loop
 mul-t25 c =
     let j = c .before .before .before .before .before .before .before .before .before .before .before .before .pre .judged in
     let l = c .before .before .before .before .before .before .loop in
     omega (arith, j .few, j .lengths, j .columns, c .before .before .before .before .before .before .before .before .before .before .before .before .pre .fits, putting-length _ (l .inv) (c .before .before .before .before .before .before .before .before .before .before .before .before .pre .fits), c .before .before .before .before .before .loop-test .taken)
 
--- src/writer.rt:131:20
 add-t26 : tie.Need-add-t26 Inv-loop μ-loop
 add-t26 c =
     let j = c .before .before .before .before .before .before .before .before .before .before .before .before .pre .judged in
     let l = c .before .before .before .before .before .before .loop in
     omega (arith, j .few, j .lengths, j .columns, c .before .before .before .before .before .before .before .before .before .before .before .before .pre .fits, putting-length _ (l .inv) (c .before .before .before .before .before .before .before .before .before .before .before .before .pre .fits), c .before .before .before .before .before .loop-test .taken)
 
--- src/writer.rt:131:20
 add-t27 : tie.Need-add-t27 Inv-loop μ-loop
 add-t27 c =
     let j = c .before .before .before .before .before .before .before .before .before .before .before .before .pre .judged in
@@ -106,36 +86,24 @@ add-t27 c =
     let room = room-at _ (l .i) (l .at) j (c .before .before .before .before .before .loop-test .taken) (l .inv .next) in
     omega (arith, j .few, j .lengths, j .columns, j .small, c .before .before .before .before .before .before .before .before .before .before .before .before .pre .fits, putting-length _ (l .inv) (c .before .before .before .before .before .before .before .before .before .before .before .before .pre .fits), room .0, room .1)
 
--- src/writer.rt:134:21
 mul-place : tie.Need-mul-place Inv-loop μ-loop
 mul-place c =
     let j = c .before .before .before .before .before .before .before .before .before .before .before .before .pre .judged in
     let l = c .before .before .before .before .before .before .loop in
     omega (arith, j .few, j .lengths, j .columns, c .before .before .before .before .before .before .before .before .before .before .before .before .pre .fits, putting-length _ (l .inv) (c .before .before .before .before .before .before .before .before .before .before .before .before .pre .fits), c .before .before .before .before .before .loop-test .taken)
 
--- src/writer.rt:135:19
 add-end : tie.Need-add-end Inv-loop μ-loop
 add-end c =
     let j = c .before .before .before .before .before .before .before .before .before .before .before .before .pre .judged in
     let l = c .before .before .before .before .before .before .loop in
     omega (arith, j .few, j .lengths, j .columns, c .before .before .before .before .before .before .before .before .before .before .before .before .pre .fits, putting-length _ (l .inv) (c .before .before .before .before .before .before .before .before .before .before .before .before .pre .fits), c .before .before .before .before .before .loop-test .taken)
 
--- src/writer.rt:136:26
-sub-put-entry : tie.Need-sub-put-entry Inv-loop μ-loop
-sub-put-entry c = search needs
-
--- src/writer.rt:136:26
-part-put-entry-start : tie.Need-part-put-entry-start Inv-loop μ-loop
-part-put-entry-start c = search needs
-
--- src/writer.rt:136:26
 part-put-entry-end : tie.Need-part-put-entry-end Inv-loop μ-loop
 part-put-entry-end c =
     let j = c .before .before .before .before .before .before .before .before .before .before .before .before .pre .judged in
     let l = c .before .before .before .before .before .before .loop in
     omega (arith, j .few, j .lengths, j .columns, c .before .before .before .before .before .before .before .before .before .before .before .before .pre .fits, putting-length _ (l .inv) (c .before .before .before .before .before .before .before .before .before .before .before .before .pre .fits), c .before .before .before .before .before .loop-test .taken)
 
--- src/writer.rt:136:9
 put-entry-requires : tie.Need-put-entry-requires Inv-loop μ-loop
 put-entry-requires c κs =
     let s = c .before .before .before .before .before .before .before .before .before .before .before .before .before in
@@ -145,7 +113,6 @@ put-entry-requires c κs =
     let deep = ap (λ (e : Entry). e .depth) (entry-made _ (l .i) (l .at) _ _ j t (l .inv .next) (c .before .before .quad .ensures) (c .before .quad2 .ensures)) in
     (simp (length-take, length-drop) (omega (arith, s .pre .fits, putting-length _ (l .inv) (s .pre .fits), t)), omega (arith, deep, j .deep (l .i) t))
 
--- src/writer.rt:137:9
 add-at : tie.Need-add-at Inv-loop μ-loop
 add-at c =
     let j = c .before .before .before .before .before .before .before .before .before .before .before .before .before .before .before .before .pre .judged in
@@ -153,15 +120,6 @@ add-at c =
     let room = room-at _ (l .i) (l .at) j (c .before .before .before .before .before .before .before .before .before .loop-test .taken) (l .inv .next) in
     omega (arith, j .few, j .lengths, j .columns, j .small, c .before .before .before .before .before .before .before .before .before .before .before .before .before .before .before .before .pre .fits, putting-length _ (l .inv) (c .before .before .before .before .before .before .before .before .before .before .before .before .before .before .before .before .pre .fits), room .0, room .1)
 
--- src/writer.rt:138:9
-add-i : tie.Need-add-i Inv-loop μ-loop
-add-i c = search needs
-
--- src/writer.rt:124:5
-loop-less : tie.Need-loop-less Inv-loop μ-loop
-loop-less c = search needs
-
--- src/writer.rt:124:5
 loop-again : tie.Need-loop-again Inv-loop μ-loop
 loop-again c =
     let j = c .before .before .before .before .before .before .before .before .before .before .before .before .before .before .before .before .pre .judged in
@@ -169,11 +127,9 @@ loop-again c =
     let made = entry-made _ (l .i) (l .at) _ _ j (c .before .before .before .before .before .before .before .before .before .loop-test .taken) (l .inv .next) (c .before .before .before .before .before .quad .ensures) (c .before .before .before .before .quad2 .ensures) in
     putting-more _ _ _ (l .inv) (c .before .before .before .before .before .before .before .before .before .loop-test .taken) made (c .before .before .put-entry .ensures)
 
--- src/writer.rt:117:1
 same-length : tie.Need-same-length Inv-loop μ-loop
 same-length c = putting-length _ (c .before .loop .inv) (c .before .before .before .before .before .before .before .pre .fits)
 
--- src/writer.rt:117:1
 returns : tie.Need-returns Inv-loop μ-loop
 returns c = putting-all _ (c .before .loop .inv) (c .loop-test .left) (c .before .before .before .before .before .before .before .pre .fits)
 
@@ -191,21 +147,21 @@ put-entries-spec =
     mul-t16
     shared-slice-read-t20
     add-quad
-    quad-requires
+    (λ c κs. search needs)
     add-quad-2
-    quad-requires-2
+    (λ c κs. search needs)
     mul-t25
     add-t26
     add-t27
     mul-place
     add-end
-    sub-put-entry
-    part-put-entry-start
+    (λ c. search needs)
+    (λ c. search needs)
     part-put-entry-end
     put-entry-requires
     add-at
-    add-i
-    loop-less
+    (λ c. search needs)
+    (λ c. search needs)
     loop-again
     same-length
     returns)
