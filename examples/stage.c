@@ -32,7 +32,7 @@ static void step(const char *name, uint32_t refused) {
 
 /* by the answer alone: the tile is not changed yet */
 static void print_staged(void) {
-    static const char *const bodies[] = {"empty", "constant", "raw", "in blocks"};
+    static const char *const bodies[] = {"empty", "constant", "raw", "in blocks", "a Huffman image"};
     printf("width %" PRIu64 " height %" PRIu64 " depth %" PRIu64 " kind %" PRIu64 " valid %" PRIu64 "\n",
            staged[LERC2_COLUMNS], staged[LERC2_ROWS], staged[LERC2_DEPTH], staged[LERC2_KIND], staged[LERC2_VALID]);
     printf("body %s\n", bodies[staged[LERC2_STAGED_BODY]]);

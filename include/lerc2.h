@@ -12,9 +12,9 @@
  *    5  a slice is too short: place, kept mask, spare mask, mask, image, list, pack, or a record
  *    6  mask section wrong, or a mask would be reused that must not be or has another count of valid pixels
  *    7  a range number not finite, or a maximum less than its minimum
- *    8  block, sweep or mode byte wrong
+ *    8  block, sweep or mode byte wrong; of a Huffman image the table, or bits that begin no code
  *    9  a value does not fit its integer kind
- *   10  walk on a body not in blocks; mode byte 1 or 2
+ *   10  walk on a body not in blocks
  *   11  block number at or above the count
  *   12  a pack breaks a rule, or does not have the entry that is asked for; or the tiles that are given make no pack
  *   13  the checksum is not that of the blob's bytes from 14 up to its size
@@ -27,18 +27,20 @@
  *    1  inside a block: its flag byte, or where that should be (in a fill the listed start as given, however far out)
  *       sweep or mode byte missing: where it should be
  *       raw body: the first byte of the first word that is not whole within the size
+ *       Huffman image: its mode byte
  *       the ranges do not fit: their first byte
  *       blob shorter than its size or than 70 bytes: 0
  *    6  66, the header's count of mask bytes
  *    7  the first byte of the first wrong number, depth by depth: of the minimum where it is not finite, else of the
  *       maximum, which is not finite or less than the minimum; 0 in a walk and a fill, whose ranges are given by value
- *    8  inside a block: its flag byte; else the wrong sweep or mode byte
+ *    8  inside a block: its flag byte; of a Huffman image: its mode byte; else the wrong sweep or mode byte
  *    9  inside a block: its flag byte; else (a constant body, lerc2_stored) 0
- *   10  the sweep byte of a raw body in a walk; the mode byte; 0 for a walk on an empty or constant body
+ *   10  the sweep byte of a raw body, the mode byte of a Huffman image, 0 for an empty or constant body
  *    2, 3 (of an answer, spare or list too), 4, 5, 11, 12, 13: 0
  * Inside a block are its check bits, offset, counts, raw words and values. The ranges begin at 70 + mask bytes: all
  * minima, then all maxima, each of the kind's size. Behind them comes the sweep byte, and where it is 0, of kinds 0 and 1
- * with error 0.5, the mode byte; a walk looks for them where its ranges say that the body begins.
+ * with error 0.5, the mode byte: 0 for blocks, 1 or 2 for a Huffman image. A walk looks for them where its ranges say that
+ * the body begins.
  *
  * Slices. Each is a pointer and a count of elements (not bytes). The pointer must not be null, also where the count is
  * 0; it must be aligned for its type and point to that many initialised elements. What is written (no `const`) must not
@@ -123,14 +125,14 @@ enum {
 enum {
     LERC2_STAGED_BLOCKS = LERC2_HEADER,
     LERC2_STAGED_END,
-    LERC2_STAGED_BODY,   /* LERC2_EMPTY, LERC2_CONSTANT, LERC2_RAW or LERC2_BLOCKS */
+    LERC2_STAGED_BODY,   /* LERC2_EMPTY, LERC2_CONSTANT, LERC2_RAW, LERC2_BLOCKS or LERC2_HUFFMAN */
     LERC2_STAGED_MASK,   /* LERC2_KEPT or LERC2_SPARE */
     LERC2_STAGED_LENGTH, /* of the mask, in bytes */
     LERC2_STAGED         /* how many numbers */
 };
 
-/* what a body is: of no valid pixel, of one value for each depth, of words, or in blocks */
-enum { LERC2_EMPTY, LERC2_CONSTANT, LERC2_RAW, LERC2_BLOCKS };
+/* what a body is: of no valid pixel, of one value for each depth, of words, in blocks, or a Huffman image of bytes */
+enum { LERC2_EMPTY, LERC2_CONSTANT, LERC2_RAW, LERC2_BLOCKS, LERC2_HUFFMAN };
 
 /* which slice holds the mask in force: what lerc2_prepare_mask says first, and a staged answer among other things */
 enum { LERC2_KEPT = 1, LERC2_SPARE = 2 };
@@ -170,8 +172,8 @@ uint32_t lerc2_read_header(const uint8_t *blob, size_t blob_count, uint64_t *hea
 /* A whole blob: lerc2_stage and lerc2_publish, one after the other, and nothing else. `kept` is the mask of the blob
  * before, and is used for a blob without one where reuse is true.
  * Refuses 5 (place under 1), 5 (said under 13), then the header's 1, 2, 3, 4, 1, 13; 5 (kept, spare, list or image too
- * short); 6 (mask); 1, 7 (ranges); 9 (constant body); 1, 8, 10 (sweep and mode byte); 1 (raw body); 1, 8, 9 (block by
- * block).
+ * short); 6 (mask); 1, 7 (ranges); 9 (constant body); 1, 8 (sweep and mode byte); 1 (raw body); 1, 8, 9 (block by block);
+ * 1, 8 (Huffman image).
  * Accepted: said[0 .. 10] is the header, said[11] the count of blocks (0 for a body without blocks), said[12] where the
  *   body ends. The valid cells of the image hold their words. The first mask bytes of kept are the mask in force, and
  *   so are those of spare unless the kept mask was reused. list[0 .. blocks - 1] is where each block begins.
@@ -187,8 +189,8 @@ uint32_t lerc2_read(const uint8_t *blob, size_t blob_count, bool reuse, uint8_t 
 /* All of the checking of a whole read: the new mask is left in the spare, the starts of the blocks in the list. Image
  * and kept are not written; the image is lent for its room alone, and its words are not looked at.
  * Refuses 5 (place under 1), 5 (staged under 16), then as lerc2_read: the header's 1, 2, 3, 4, 1, 13; 5 (kept, spare,
- * list or image too short); 6 (mask); 1, 7 (ranges); 9 (constant body); 1, 8, 10 (sweep and mode byte); 1 (raw body);
- * 1, 8, 9 (block by block).
+ * list or image too short); 6 (mask); 1, 7 (ranges); 9 (constant body); 1, 8 (sweep and mode byte); 1 (raw body); 1, 8, 9
+ * (block by block); 1, 8 (Huffman image).
  * Accepted: staged[0 .. 10] is the header, staged[11] the count of blocks (0 for a body without blocks), staged[12] where
  *   the body ends, staged[13] what the body is, staged[14] which slice holds the mask in force, staged[15] its length. The
  *   first staged[15] bytes of spare are the new mask where staged[14] is LERC2_SPARE, else spare is as it was.
@@ -204,11 +206,12 @@ uint32_t lerc2_stage(const uint8_t *blob, size_t blob_count, bool reuse, const u
  * holds.
  * Refuses 5 (place under 1), 5 (staged under 16, said under 2), then what lerc2_stage refuses of these inputs, with its
  * place: the header's 1, 2, 3, 4, 1, 13; 5 (kept, spare, list or image too short); 6 (mask); 1, 7 (ranges); 9 (constant
- * body); 1, 8, 10 (sweep and mode byte); 1 (raw body); 1, 8, 9 (block by block); last 3, where staged[0 .. 15] is not the
- * answer that lerc2_stage gives for these inputs, or the first mask bytes of spare are not the new mask, or
- * list[0 .. blocks - 1] is not where the blocks begin. Not looked at are the spare behind the mask, and all of it where
- * the kept mask is reused; the list behind the blocks, and all of it for a body without blocks. A kept mask that was
- * changed since, with its count still right, is published by, where the answer and the starts are the same.
+ * body); 1, 8 (sweep and mode byte); 1 (raw body); 1, 8, 9 (block by block); 1, 8 (Huffman image); last 3, where
+ * staged[0 .. 15] is not the answer that lerc2_stage gives for these inputs, or the first mask bytes of spare are not
+ * the new mask, or list[0 .. blocks - 1] is not where the blocks begin. Not looked at are the spare behind the mask, and
+ * all of it where the kept mask is reused; the list behind the blocks, and all of it for a body without blocks. A kept
+ * mask that was changed since, with its count still right, is published by, where the answer and the starts are the
+ * same.
  * Accepted: said[0] is where the body ends, said[1] how many words were written: valid pixels times depth. The valid
  *   cells of the image hold their words, and the first mask bytes of kept are the mask in force, so that image, kept and
  *   end are those of lerc2_read. place[0] is 0. The same call once more is accepted and changes nothing more, and so is

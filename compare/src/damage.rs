@@ -1,5 +1,7 @@
 //! Damage to blobs and to records.
 
+use crate::checksum;
+use crate::codes;
 use crate::random::Random;
 use lerc2::raw;
 
@@ -99,6 +101,7 @@ pub fn blob(random: &mut Random, blob: &mut Vec<u8>) {
                 blob.remove(at);
             }
             7 => blob.insert(at, random.byte()),
+            8 if random.once_in(2) && table(random, blob).is_some() => {}
             8 => field(random, blob),
             _ => cut(random, blob),
         }
@@ -126,6 +129,23 @@ fn field(random: &mut Random, blob: &mut [u8]) {
         u32::from_le_bytes(there).wrapping_add(by)
     };
     put(blob, at, &limit.to_le_bytes());
+}
+
+/// An integer in front of Huffman codes at or past a limit, or beside what it
+/// is. None if the blob has no such codes.
+fn table(random: &mut Random, blob: &mut [u8]) -> Option<()> {
+    let header = second::read_header(&checksum::mended(blob)).ok()?;
+    let ranges = second::read_ranges(blob, &header).ok()?;
+    let mode = codes::mode_at(blob, &header, ranges.place)?;
+    let at = mode + 1 + 4 * random.below(4);
+    let there = blob.get(at..at + 4)?.try_into().ok()?;
+    let number = match random.below(3) {
+        0 => random.pick(&LIMITS) as u32,
+        1 => random.pick(&[1, 2, 255, 256, 257, 511, 512]),
+        _ => u32::from_le_bytes(there).wrapping_add(random.pick(&[1, u32::MAX])),
+    };
+    put(blob, at, &number.to_le_bytes());
+    Some(())
 }
 
 /// Cuts the slice, and once in two the declared size with it, so that the body

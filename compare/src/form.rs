@@ -2,6 +2,7 @@
 //! forms with one thing wrong.
 
 use crate::checksum;
+use crate::huffman::{self, Broken, BROKEN};
 use crate::random::Random;
 use second::{is_finite, less, number, word_size};
 
@@ -35,6 +36,9 @@ pub struct Form {
     pub mask: Vec<u8>,
     /// Where the blocks begin.
     pub starts: Vec<usize>,
+    /// What a body of Huffman codes stands for, whatever is wrong with it: 0
+    /// where a pixel is not valid. Other bodies have none.
+    pub cells: Vec<u64>,
 }
 
 impl Form {
@@ -83,7 +87,8 @@ pub enum Fault {
     ConstantTooLarge,
     Sweep,
     SweepMissing,
-    ModeUnread,
+    /// Blocks where the mode byte says codes.
+    ModeTurned,
     ModeWrong,
     ModeMissing,
     CheckBits,
@@ -98,6 +103,8 @@ pub enum Fault {
     /// At a block's first bytes.
     BlockCut,
     Cut,
+    /// Of a body of Huffman codes.
+    Codes(Broken),
 }
 
 const FAULTS: [Fault; 29] = [
@@ -116,7 +123,7 @@ const FAULTS: [Fault; 29] = [
     Fault::ConstantTooLarge,
     Fault::Sweep,
     Fault::SweepMissing,
-    Fault::ModeUnread,
+    Fault::ModeTurned,
     Fault::ModeWrong,
     Fault::ModeMissing,
     Fault::CheckBits,
@@ -136,7 +143,7 @@ impl Fault {
     fn is_of_mode(self) -> bool {
         matches!(
             self,
-            Fault::ModeUnread | Fault::ModeWrong | Fault::ModeMissing
+            Fault::ModeTurned | Fault::ModeWrong | Fault::ModeMissing
         )
     }
 
@@ -144,7 +151,11 @@ impl Fault {
     fn is_of_end(self) -> bool {
         matches!(
             self,
-            Fault::RangesCut | Fault::SweepMissing | Fault::ModeMissing | Fault::BlockCut
+            Fault::RangesCut
+                | Fault::SweepMissing
+                | Fault::ModeMissing
+                | Fault::BlockCut
+                | Fault::Codes(Broken::Cut(_))
         )
     }
 }
@@ -170,6 +181,8 @@ pub enum Body {
     ConstantByRanges,
     Raw,
     Blocks,
+    /// Of kinds 0 and 1 alone.
+    Huffman,
 }
 
 /// What is wanted of a form.
@@ -190,6 +203,34 @@ pub struct Wanted {
 
 impl Wanted {
     pub fn any(random: &mut Random, esri: bool) -> Wanted {
+        let wanted = Wanted::without_codes(random, esri);
+        let is_of_bytes = wanted.kind < 2 && wanted.body == Body::Blocks;
+        // About a fifth of all forms of bytes.
+        if is_of_bytes && !wanted.fault.is_of_mode() && random.below(5) < 2 {
+            wanted.in_codes(random)
+        } else {
+            wanted
+        }
+    }
+
+    /// The same image as Huffman codes.
+    pub fn in_codes(self, random: &mut Random) -> Wanted {
+        let fault = match random.below(10) {
+            _ if self.esri => Fault::None,
+            0..=3 => Fault::Codes(random.pick(&BROKEN)),
+            // What was wrong with mask, ranges or sweep byte still is.
+            4 => self.fault,
+            _ => Fault::None,
+        };
+        let body = Body::Huffman;
+        Wanted {
+            body,
+            fault,
+            ..self
+        }
+    }
+
+    fn without_codes(random: &mut Random, esri: bool) -> Wanted {
         let (rows, columns, depth) = geometry(random);
         let side = match random.below(4) {
             0 => 8,
@@ -256,7 +297,7 @@ impl Wanted {
             kind,
             body: Body::Blocks,
             huge: true,
-            ..Wanted::any(random, esri)
+            ..Wanted::without_codes(random, esri)
         }
     }
 
@@ -269,7 +310,7 @@ impl Wanted {
             depth: random.pick(&[1, 1, 1, 2]),
             side: 8,
             body: Body::Blocks,
-            ..Wanted::any(random, esri)
+            ..Wanted::without_codes(random, esri)
         }
     }
 }
@@ -367,6 +408,7 @@ impl<'a> Maker<'a> {
                 slack: Vec::new(),
                 mask,
                 starts: Vec::new(),
+                cells: Vec::new(),
             },
         }
     }
@@ -455,14 +497,43 @@ impl<'a> Maker<'a> {
             if self.has(Fault::ModeMissing) {
                 return;
             }
+            if self.wanted.body == Body::Huffman {
+                self.put_codes();
+                return;
+            }
             let mode = match self.wanted.fault {
-                Fault::ModeUnread => self.random.pick(&[1, 2]),
+                Fault::ModeTurned => self.random.pick(&[1, 2]),
                 Fault::ModeWrong => self.random.pick(&[3, 4, 128, 255]),
                 _ => 0,
             };
             self.form.after.push(mode);
         }
         self.put_blocks();
+    }
+
+    /// The mode byte and all that is behind it.
+    fn put_codes(&mut self) {
+        let Wanted {
+            columns,
+            depth,
+            kind,
+            esri,
+            ..
+        } = self.wanted;
+        let image = huffman::Image {
+            columns,
+            depth,
+            kind,
+            pixels: &self.pixels,
+            esri,
+        };
+        let broken = match self.wanted.fault {
+            Fault::Codes(broken) => Some(broken),
+            _ => None,
+        };
+        let made = huffman::made(self.random, &image, broken);
+        self.form.after.extend(made.bytes);
+        self.form.cells = made.cells;
     }
 
     fn has_mode(&self) -> bool {
@@ -898,7 +969,7 @@ fn any_pixels(random: &mut Random, wanted: &Wanted) -> Vec<bool> {
 /// An error that a header may have.
 fn any_error(random: &mut Random, wanted: &Wanted) -> u64 {
     let usual = [0.5, 0.5, 1.0, 2.0, 0.3, 1.5, 10.0, 0.01, 0.001, 0.1, 0.25];
-    if wanted.fault.is_of_mode() {
+    if wanted.fault.is_of_mode() || wanted.body == Body::Huffman {
         return 0.5f64.to_bits();
     }
     if wanted.huge {

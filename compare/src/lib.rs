@@ -8,12 +8,14 @@ pub mod arithmetic;
 pub mod block_paths;
 pub mod case;
 pub mod checksum;
+pub mod codes;
 pub mod counted;
 pub mod damage;
 #[cfg(feature = "esri")]
 pub mod esri;
 pub mod folder;
 pub mod form;
+pub mod huffman;
 mod lent;
 pub mod operands;
 pub mod packs;

@@ -4,6 +4,7 @@
 
 use crate::block_paths::{block_paths, Block};
 use crate::case::{After, Case, Op};
+use crate::codes::{mode_at, Table};
 use crate::counted::pixels;
 use crate::sides::{header_of, ranges_of};
 use crate::table::grouped;
@@ -48,10 +49,21 @@ pub enum Path {
     ConstantMasked,
     Empty,
     Blocks,
+    DifferencesFull,
+    DifferencesMasked,
+    ValuesFull,
+    ValuesMasked,
+    Longest8,
+    Longest12,
+    Longest32,
+    OneCode,
+    Complete,
+    WithGaps,
+    GoesRound,
 }
 
 /// All of them in order, with their names.
-pub const PATHS: [(Path, &str); 35] = [
+pub const PATHS: [(Path, &str); 46] = [
     (Path::UsualHead, "block: usual head"),
     (Path::HeadAtEnd, "block: usual head, under 11 bytes left"),
     (Path::WideNumber, "block: number of counts in 2 or 4 bytes"),
@@ -93,6 +105,20 @@ pub const PATHS: [(Path, &str); 35] = [
     (Path::ConstantMasked, "body: constant, masked"),
     (Path::Empty, "body: empty"),
     (Path::Blocks, "body: blocks"),
+    (Path::DifferencesFull, "body: Huffman, differences, full"),
+    (
+        Path::DifferencesMasked,
+        "body: Huffman, differences, masked",
+    ),
+    (Path::ValuesFull, "body: Huffman, values, full"),
+    (Path::ValuesMasked, "body: Huffman, values, masked"),
+    (Path::Longest8, "codes: the longest at most 8 bits"),
+    (Path::Longest12, "codes: the longest 9 to 12 bits"),
+    (Path::Longest32, "codes: the longest 13 bits and more"),
+    (Path::OneCode, "codes: one alone"),
+    (Path::Complete, "codes: any bits begin with one"),
+    (Path::WithGaps, "codes: some bits begin with none"),
+    (Path::GoesRound, "codes: the range goes round"),
 ];
 
 impl Path {
@@ -149,6 +175,11 @@ impl Counts {
             return;
         }
         let ranges = second::read_ranges(blob, &header).expect("it was read");
+        let mode = mode_at(blob, &header, ranges.place).filter(|_| !ranges.constant);
+        if let Some(mode) = mode {
+            self.add_codes(blob, &header, mode);
+            return;
+        }
         self.add(body_path(&header, &ranges, starts));
         let depths = header.depth as usize;
         for (block, &start) in starts.iter().enumerate() {
@@ -157,6 +188,36 @@ impl Counts {
             }
             let maximum = ranges.max[block % depths];
             self.add_block(blob, start, &header, maximum);
+        }
+    }
+}
+
+impl Counts {
+    /// A Huffman body whose mode byte is at a place.
+    fn add_codes(&mut self, blob: &[u8], header: &Header, mode: usize) {
+        let full = header.valid as usize == header.pixels();
+        self.add(match (blob[mode], full) {
+            (1, true) => Path::DifferencesFull,
+            (1, false) => Path::DifferencesMasked,
+            (_, true) => Path::ValuesFull,
+            (_, false) => Path::ValuesMasked,
+        });
+        let bytes = &blob[..header.size as usize];
+        let table = Table::new(bytes, mode).expect("it was read");
+        self.add(match table.longest() {
+            0..=8 => Path::Longest8,
+            9..=12 => Path::Longest12,
+            _ => Path::Longest32,
+        });
+        if table.coded().count() == 1 {
+            self.add(Path::OneCode);
+        }
+        self.add(match table.is_complete() {
+            true => Path::Complete,
+            false => Path::WithGaps,
+        });
+        if table.first + table.codes.len() > table.size {
+            self.add(Path::GoesRound);
         }
     }
 }

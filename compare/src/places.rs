@@ -35,7 +35,22 @@ pub enum Site {
     SweepRaw,
     ModeMissing,
     ModeWrong,
-    ModeUnread,
+    ModeCodes,
+    IntegersMissing,
+    TableVersion,
+    TableSize,
+    TableFirst,
+    TableEnd,
+    LengthsMissing,
+    LengthsWrong,
+    LengthsNumber,
+    LengthTooLong,
+    NoLength,
+    CodesMissing,
+    CodeBegins,
+    SymbolUnknown,
+    SymbolMissing,
+    LastWordMissing,
     WordMissing,
     WordCut,
     RangesGiven,
@@ -98,7 +113,7 @@ const BODY: &[Op] = &[Op::Walk, Op::Read, Op::Stage, Op::Publish];
 const BLOCK: &[Op] = &[Op::Walk, Op::Fill, Op::Read, Op::Stage, Op::Publish];
 
 /// All of them in order, with their names and the operations that have them.
-pub const SITES: [(Site, &str, &[Op]); 58] = [
+pub const SITES: [(Site, &str, &[Op]); 73] = [
     (Site::FlagMissing, "flag byte: missing (1)", BLOCK),
     (
         Site::FlagFar,
@@ -159,7 +174,54 @@ pub const SITES: [(Site, &str, &[Op]); 58] = [
     (Site::SweepRaw, "sweep byte: raw (10)", &[Op::Walk]),
     (Site::ModeMissing, "mode byte: missing (1)", BODY),
     (Site::ModeWrong, "mode byte: wrong (8)", BODY),
-    (Site::ModeUnread, "mode byte: 1 or 2 (10)", BODY),
+    (Site::ModeCodes, "mode byte: 1 or 2 (10)", &[Op::Walk]),
+    (
+        Site::IntegersMissing,
+        "mode byte: integers of the table missing (1)",
+        WHOLE,
+    ),
+    (Site::TableVersion, "mode byte: version (8)", WHOLE),
+    (Site::TableSize, "mode byte: size (8)", WHOLE),
+    (Site::TableFirst, "mode byte: first symbol (8)", WHOLE),
+    (Site::TableEnd, "mode byte: end of the symbols (8)", WHOLE),
+    (
+        Site::LengthsMissing,
+        "mode byte: lengths missing (1)",
+        WHOLE,
+    ),
+    (
+        Site::LengthsWrong,
+        "mode byte: lengths are no counts (8)",
+        WHOLE,
+    ),
+    (
+        Site::LengthsNumber,
+        "mode byte: number of lengths (8)",
+        WHOLE,
+    ),
+    (
+        Site::LengthTooLong,
+        "mode byte: a length above 32 (8)",
+        WHOLE,
+    ),
+    (Site::NoLength, "mode byte: all lengths 0 (8)", WHOLE),
+    (Site::CodesMissing, "mode byte: codes missing (1)", WHOLE),
+    (
+        Site::CodeBegins,
+        "mode byte: a code begins another (8)",
+        WHOLE,
+    ),
+    (Site::SymbolUnknown, "mode byte: unknown code (8)", WHOLE),
+    (
+        Site::SymbolMissing,
+        "mode byte: a symbol's word missing (1)",
+        WHOLE,
+    ),
+    (
+        Site::LastWordMissing,
+        "mode byte: the last word missing (1)",
+        WHOLE,
+    ),
     (
         Site::WordMissing,
         "raw word: nothing of it is there (1)",

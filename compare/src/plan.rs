@@ -3,6 +3,7 @@
 
 use crate::case::{each_part, Case, Element, Op, Part, Visit};
 use crate::checksum;
+use crate::codes;
 use crate::damage;
 use crate::form::{any_form, form, Body, Fault, Form, Wanted};
 use crate::publishing::publishes;
@@ -52,6 +53,13 @@ impl Blob {
             mask: form.mask.clone(),
             starts: form.starts.clone(),
         }
+    }
+
+    /// The mode byte's place, if the body is in Huffman codes.
+    pub fn mode_at(&self) -> Option<usize> {
+        let [place, constant, ..] = self.ranges;
+        let mode = codes::mode_at(&self.bytes, &self.header, place as usize);
+        mode.filter(|_| constant == 0)
     }
 }
 
@@ -103,8 +111,8 @@ pub fn calls(random: &mut Random, out: &mut Vec<Case>) {
     if random.once_in(100) {
         rooms(random, &blob, out);
     }
-    if random.once_in(16) && is_raw(&blob) {
-        raw_cuts(random, &blob, out);
+    if random.once_in(16) && is_raw(&blob) || random.once_in(6) && blob.mode_at().is_some() {
+        body_cuts(random, &blob, out);
     }
 }
 
@@ -331,9 +339,9 @@ fn is_raw(blob: &Blob) -> bool {
     constant == 0 && blob.bytes.get(place as usize) == Some(&1)
 }
 
-/// Whole reads of a raw body whose declared size ends at every byte, in a large
-/// one at some in a row, and as many stagings or publishes.
-fn raw_cuts(random: &mut Random, blob: &Blob, out: &mut Vec<Case>) {
+/// Whole reads of a raw body or of one in codes whose declared size ends at every
+/// byte, in a large one at some in a row, and as many stagings or publishes.
+fn body_cuts(random: &mut Random, blob: &Blob, out: &mut Vec<Case>) {
     const MOST: usize = 48;
     let size = blob.bytes.len().min(blob.header.size as usize);
     let mut sizes = blob.ranges[0] as usize..size;
@@ -584,13 +592,14 @@ pub fn large(random: &mut Random, out: &mut Vec<Case>) {
         (1024, 1024, 1),
     ];
     let (rows, columns, depth) = random.pick(&shapes);
+    let kind = random.below(8) as u32;
     let wanted = Wanted {
         rows,
         columns,
         depth,
         side: random.pick(&[8, 16]),
-        kind: random.below(8) as u32,
-        body: random.pick(&[Body::ConstantByHeader, Body::Raw, Body::Blocks]),
+        kind,
+        body: large_body(random, kind),
         fault: Fault::None,
         esri: false,
         huge: false,
@@ -605,4 +614,13 @@ pub fn large(random: &mut Random, out: &mut Vec<Case>) {
         op: Op::Both,
         ..exact(random, &blob, Op::Read)
     });
+}
+
+fn large_body(random: &mut Random, kind: u32) -> Body {
+    match random.below(3) {
+        0 => Body::ConstantByHeader,
+        1 => Body::Raw,
+        _ if kind < 2 && random.once_in(2) => Body::Huffman,
+        _ => Body::Blocks,
+    }
 }

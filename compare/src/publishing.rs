@@ -85,20 +85,18 @@ fn publish(random: &mut Random, after: &After) -> Case {
     }
 }
 
-/// As if a blob in blocks had been accepted, with the mask and the starts that
-/// it was made with.
+/// As if a blob in blocks or in codes had been accepted, with the mask and the
+/// starts that it was made with.
 fn claimed(left: Case, blob: &Blob) -> Case {
     let h = &blob.header;
     let mut case = left;
+    let (blocks, body) = match blob.mode_at() {
+        Some(_) => (0, 4),
+        None => (h.blocks() as u64, 3),
+    };
     let numbers = [
         &record(h)[..],
-        &[
-            h.blocks() as u64,
-            h.size.into(),
-            3,
-            2,
-            h.mask_length() as u64,
-        ],
+        &[blocks, h.size.into(), body, 2, h.mask_length() as u64],
     ]
     .concat();
     for (to, number) in case.staged.iter_mut().zip(numbers) {
@@ -186,6 +184,10 @@ impl Maker<'_> {
         self.base.staged[13] == 3 && self.base.list.len() >= self.blocks()
     }
 
+    fn is_in_codes(&self) -> bool {
+        self.base.staged[13] == 4
+    }
+
     fn is_reused(&self) -> bool {
         self.accepted && self.base.staged[14] == 1
     }
@@ -244,7 +246,7 @@ impl Maker<'_> {
                 self.random.pick(&far)
             }
             11 | 12 | 15 => beside,
-            13 => (there + 1 + self.random.below(3) as u64) % 4,
+            13 => (there + 1 + self.random.below(4) as u64) % 5,
             14 => 3 - there,
             _ => beside & u64::from(u32::MAX),
         };
@@ -262,7 +264,7 @@ impl Maker<'_> {
         let there = staged[at];
         let far = [there | 1 << 32, there | 1 << 63, u64::MAX, 1 << 32];
         staged[at] = match (at, self.random.below(3)) {
-            (13, 0) => self.random.pick(&[4, 5, 256]),
+            (13, 0) => self.random.pick(&[5, 6, 256]),
             (14, 0) => self.random.pick(&[0, 3, 4, 257]),
             _ => self.random.pick(&far),
         };
@@ -417,6 +419,7 @@ impl Maker<'_> {
         let end = self.end().min(case.blob.len());
         let starts = self.base.list.get(..blocks).unwrap_or(&[]);
         let start = match starts {
+            [] if self.is_in_codes() => self.piece_of_codes(end),
             [] => end.saturating_sub(1),
             _ => self.random.pick(starts),
         };
@@ -433,6 +436,18 @@ impl Maker<'_> {
                 checksum::mend(&mut case.blob);
             }
             _ => self.change_blob(&mut case.blob),
+        }
+    }
+
+    /// In the integers of a table, or anywhere behind them.
+    fn piece_of_codes(&mut self, end: usize) -> usize {
+        let header = second::read_header(&self.base.blob).ok();
+        let ranges = header.and_then(|h| second::read_ranges(&self.base.blob, &h).ok());
+        let table = ranges.map_or(70, |ranges| ranges.place + 2);
+        let last = end.saturating_sub(1).max(table);
+        match self.random.below(3) {
+            0 => table + self.random.below(16),
+            _ => self.random.between(table, last),
         }
     }
 

@@ -359,11 +359,12 @@ pub(crate) fn ranges_of(record: &[u64]) -> Result<Ranges, Refusal> {
 }
 
 /// Bodies by their numbers in a staged answer.
-const BODIES: [BodyKind; 4] = [
+const BODIES: [BodyKind; 5] = [
     BodyKind::Empty,
     BodyKind::Constant,
     BodyKind::Raw,
     BodyKind::Blocks,
+    BodyKind::Huffman,
 ];
 
 /// Numbers that are no answer are as good as a refused one: staging did not
@@ -394,7 +395,7 @@ pub(crate) fn staged_record(staged: &Staged) -> [u64; raw::STAGED] {
     numbers[..raw::HEADER].copy_from_slice(&record(&staged.header));
     numbers[11] = staged.blocks as u64;
     numbers[12] = staged.end as u64;
-    numbers[13] = body.expect("one of the four") as u64;
+    numbers[13] = body.expect("one of the five") as u64;
     numbers[14] = mask;
     numbers[15] = length as u64;
     numbers

@@ -2,6 +2,7 @@
 
 use crate::case::{After, Case, Op};
 use crate::checksum::{self, Wrong};
+use crate::codes;
 use crate::counted::{offset_at, pixels};
 use crate::form::OFFSET_KINDS;
 use crate::places::Site;
@@ -300,9 +301,17 @@ impl Refused<'_> {
         match (self.number, self.bytes.get(self.place)) {
             (1, None) => Some(Site::ModeMissing),
             (8, Some(3..)) => Some(Site::ModeWrong),
-            (10, Some(1 | 2)) => Some(Site::ModeUnread),
+            (10, Some(1 | 2)) if self.case.op == Op::Walk => Some(Site::ModeCodes),
+            (1 | 8, Some(1 | 2)) if self.case.op != Op::Walk => self.codes(),
             _ => None,
         }
+    }
+
+    /// Of a Huffman body, whose symbols are as many as its valid cells.
+    fn codes(&self) -> Option<Site> {
+        let symbols = self.header.valid as usize * self.header.depth as usize;
+        let (site, number) = codes::wrong(self.bytes, self.place, symbols).err()?;
+        (number == self.number).then_some(site)
     }
 
     /// Of words from `first` on, all of which are whole before the place.

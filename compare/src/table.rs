@@ -1,6 +1,7 @@
 //! Counts by operation and answer.
 
 use crate::case::Op;
+use crate::codes::mode_at;
 
 /// Numbers of the columns: accepted, then the refusals that there are.
 const ANSWERS: [u32; 13] = [0, 1, 2, 3, 4, 5, 6, 7, 8, 9, 10, 11, 13];
@@ -55,7 +56,7 @@ impl Table {
 
 /// Accepted whole reads by kind and body.
 #[derive(Clone, Default)]
-pub struct Bodies([[u64; 4]; 8]);
+pub struct Bodies([[u64; 5]; 8]);
 
 impl Bodies {
     /// Counts an accepted whole read, given what it said.
@@ -63,10 +64,13 @@ impl Bodies {
         let Ok(header) = second::read_header(blob) else {
             return;
         };
-        let constant = second::read_ranges(blob, &header).is_ok_and(|ranges| ranges.constant);
+        let ranges = second::read_ranges(blob, &header);
+        let constant = ranges.is_ok_and(|ranges| ranges.constant);
+        let in_codes = ranges.is_ok_and(|r| mode_at(blob, &header, r.place).is_some());
         let body = match said[lerc2::raw::HEADER] {
             0 if header.valid == 0 => 0,
             0 if constant => 1,
+            0 if in_codes => 4,
             0 => 2,
             _ => 3,
         };
@@ -74,8 +78,8 @@ impl Bodies {
     }
 
     pub fn text(&self) -> String {
-        let mut text =
-            String::from("| kind | empty | constant | raw | blocks |\n|---|---|---|---|---|\n");
+        let mut text = String::from("| kind | empty | constant | raw | blocks | Huffman |\n");
+        text += "|---|---|---|---|---|---|\n";
         for (kind, row) in self.0.iter().enumerate() {
             let counts = row.map(grouped).join(" | ");
             text += &format!("| {kind} | {counts} |\n");

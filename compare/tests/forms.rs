@@ -6,7 +6,8 @@ use common::sum_by_count;
 use compare::case::Op;
 use compare::checksum::{by_words, put_odd, truth, wrong, Wrong};
 use compare::counted::{counted, Counted};
-use compare::form::{any_form, form, Body, Fault, Wanted, OFFSET_KINDS};
+use compare::form::{any_form, form, Body, Fault, Form, Wanted, OFFSET_KINDS};
+use compare::huffman::{Broken, BROKEN};
 use compare::plan;
 use compare::random::Random;
 use std::collections::{HashMap, HashSet};
@@ -251,4 +252,176 @@ fn every_wrong_checksum_comes_up() {
         assert!(sorts_of(Some(sort)) > 20, "{sorts:?}");
     }
     assert!(sorts_of(None) > 16_000, "{sorts:?}");
+}
+
+/// The cells that a blob is read to, if it is accepted; 7 where nothing is
+/// written.
+fn cells_of(bytes: &[u8]) -> Result<Vec<u64>, second::Refusal> {
+    let header = second::read_header(bytes)?;
+    let (mut kept, mut spare) = (vec![0; header.mask_length()], vec![0; header.mask_length()]);
+    let (mut list, mut image) = (vec![0; header.blocks()], vec![7; header.cells()]);
+    second::read(bytes, false, &mut kept, &mut spare, &mut list, &mut image)?;
+    for (cell, word) in image.iter_mut().enumerate() {
+        if !second::is_valid(&kept, cell / header.depth as usize) {
+            // It must not have been written.
+            assert_eq!(std::mem::take(word), 7);
+        }
+    }
+    Ok(image)
+}
+
+fn in_codes(random: &mut Random, fault: Fault) -> (Wanted, Form) {
+    let base = Wanted {
+        kind: random.below(2) as u32,
+        ..Wanted::any(random, false)
+    };
+    let wanted = Wanted {
+        fault,
+        ..base.in_codes(random)
+    };
+    (wanted, form(random, wanted))
+}
+
+/// What is made of codes without a fault is read to the cells that were meant.
+#[test]
+fn codes_are_read_to_their_cells() {
+    let mut random = Random::new(12);
+    let (mut modes, mut cells) = ([0; 3], 0);
+    for _ in 0..20_000 {
+        let (wanted, form) = in_codes(&mut random, Fault::None);
+        let found = cells_of(&form.bytes()).unwrap_or_else(|refusal| {
+            panic!("{refusal}: {wanted:?}");
+        });
+        // An image without a valid pixel, or of one value, has no codes.
+        if form.cells.is_empty() || form.fields.valid == 0 {
+            continue;
+        }
+        assert_eq!(found, form.cells, "{wanted:?}");
+        let mode = 2 * wanted.depth + 1;
+        modes[usize::from(form.after[mode])] += 1;
+        cells += found.len();
+    }
+    assert!(modes[1] > 8_000 && modes[2] > 8_000, "{modes:?}");
+    assert!(cells > 1_000_000, "{cells}");
+}
+
+/// Where the mode byte of a form of bytes is, if it is looked at.
+fn mode_of(form: &Form) -> Option<usize> {
+    let is_read = !form.cells.is_empty() && form.fields.valid > 0;
+    is_read.then(|| 70 + form.section.len() + 2 * form.fields.depth as usize + 1)
+}
+
+/// Codes with one thing wrong are refused for it, at the mode byte.
+#[test]
+fn broken_codes_are_refused() {
+    let mut random = Random::new(13);
+    for broken in BROKEN {
+        let number = match broken {
+            Broken::Cut(_) => 1,
+            _ => 8,
+        };
+        let mut found = 0;
+        for _ in 0..500 {
+            let (wanted, form) = in_codes(&mut random, Fault::Codes(broken));
+            let Some(place) = mode_of(&form) else {
+                continue;
+            };
+            let refusal = second::Refusal { number, place };
+            assert_eq!(cells_of(&form.bytes()), Err(refusal), "{wanted:?}");
+            found += 1;
+        }
+        assert!(found > 300, "{broken:?}: {found}");
+    }
+}
+
+/// What the tables of codes were.
+#[derive(Default)]
+struct Tables {
+    sizes: HashSet<u32>,
+    firsts: HashSet<u32>,
+    /// Whether all symbols of the size are there, and whether it goes round.
+    ranges: HashSet<(bool, bool)>,
+    heads: HashSet<u8>,
+    longest: HashSet<u32>,
+    /// Lengths of codes that are alone.
+    singles: HashSet<u32>,
+}
+
+impl Tables {
+    fn add(&mut self, bytes: &[u8], mode: usize) {
+        let integer = |nth: usize| {
+            let at = mode + 1 + 4 * nth;
+            u32::from_le_bytes(bytes[at..at + 4].try_into().unwrap())
+        };
+        let (size, first, end) = (integer(1), integer(2), integer(3));
+        self.sizes.insert(size);
+        self.firsts.insert(first);
+        self.ranges.insert((end - first == size, end > size));
+        self.heads.insert(bytes[mode + 17]);
+        let mut lengths = [0; second::MOST_COUNTS];
+        let (n, _) = second::packed_counts(bytes, mode + 17, &mut lengths).unwrap();
+        let coded = lengths[..n].iter().filter(|&&length| length > 0);
+        let longest = *coded.clone().max().unwrap();
+        self.longest.insert(longest);
+        if coded.count() == 1 {
+            self.singles.insert(longest);
+        }
+    }
+}
+
+#[test]
+fn every_form_of_codes_comes_up() {
+    let mut random = Random::new(14);
+    let mut tables = Tables::default();
+    for _ in 0..20_000 {
+        let (_, form) = in_codes(&mut random, Fault::None);
+        if let Some(mode) = mode_of(&form) {
+            tables.add(&form.bytes(), mode);
+        }
+    }
+    assert_eq!((tables.sizes.len(), tables.firsts.len()), (256, 256));
+    assert_eq!(tables.ranges.len(), 4);
+    assert_eq!((tables.longest.len(), tables.singles.len()), (32, 32));
+    // Three widths of the number; one bit is the least that a length has.
+    assert_eq!(tables.heads.len(), 3 * (31 + 31));
+}
+
+/// About one in five forms of bytes, and more than half of them right.
+#[test]
+fn codes_come_up_often_enough() {
+    let mut random = Random::new(15);
+    let (mut of_bytes, mut in_codes, mut accepted) = (0, 0, 0);
+    for _ in 0..20_000 {
+        let form = any_form(&mut random, false);
+        of_bytes += usize::from(form.fields.kind < 2);
+        if mode_of(&form).is_some() {
+            in_codes += 1;
+            accepted += usize::from(cells_of(&form.bytes()).is_ok());
+        }
+    }
+    let share = 100 * in_codes / of_bytes;
+    assert!((17..=23).contains(&share), "{share} in 100");
+    assert!(2 * accepted > in_codes, "{accepted} of {in_codes}");
+}
+
+/// An image of as many cells as there may be, below the ceiling of the size.
+#[test]
+fn the_largest_images_in_codes() {
+    let mut random = Random::new(16);
+    for (rows, columns, depth) in [(2048, 2048, 1), (256, 256, 64)] {
+        let wanted = Wanted {
+            rows,
+            columns,
+            depth,
+            kind: 0,
+            body: Body::Huffman,
+            fault: Fault::None,
+            ..Wanted::any(&mut random, false)
+        };
+        let form = form(&mut random, wanted);
+        assert!(form.size() <= 16_777_216);
+        if mode_of(&form).is_some() {
+            assert_eq!(cells_of(&form.bytes()).as_ref(), Ok(&form.cells));
+        }
+    }
 }

@@ -75,6 +75,7 @@ impl Image {
             slack: vec![0; 20],
             mask: Vec::new(),
             starts: Vec::new(),
+            cells: Vec::new(),
         }
         .bytes()
     }
@@ -470,6 +471,57 @@ fn bodies() -> Vec<Known> {
     ]
 }
 
+/// A body of codes: mode, integers behind the version, lengths of four bits each,
+/// words of codes and symbols.
+fn in_codes(mode: u8, range: [u32; 3], lengths: &[u64], words: &[u32]) -> Vec<u8> {
+    let counts = [vec![0x84, lengths.len() as u8], packed(lengths, 4)].concat();
+    let [size, first, end] = range;
+    let integers = [2, size, first, end].map(u32::to_le_bytes).concat();
+    let words = Vec::from_iter(words.iter().flat_map(|word| word.to_le_bytes()));
+    [vec![0, 1, 0, mode], integers, counts, words].concat()
+}
+
+fn codes() -> Vec<Known> {
+    use Path::*;
+    // Codes 0 and 1; codes 1 and many 0; the code 0 alone.
+    let two = |mode| in_codes(mode, [9, 3, 5], &[1, 1], &[1 << 30, 0, 0]);
+    let long = |length| in_codes(2, [9, 3, 5], &[1, length], &[1 << 31, 1 << 31, 0]);
+    let one = |end| in_codes(1, [3, 2, end], &[1, 0, 0][..end as usize - 2], &[0; 3]);
+    let known: [(&str, u8, Vec<u8>, &[Path]); 10] = [
+        ("", 192, two(1), &[DifferencesFull, Longest8, Complete]),
+        ("", 192, two(2), &[ValuesFull, Longest8, Complete]),
+        ("", 64, two(1), &[DifferencesMasked, Longest8, Complete]),
+        ("", 64, two(2), &[ValuesMasked, Longest8, Complete]),
+        ("8 bits", 128, long(8), &[ValuesMasked, Longest8, WithGaps]),
+        ("9 bits", 128, long(9), &[ValuesMasked, Longest12, WithGaps]),
+        ("12", 128, long(12), &[ValuesMasked, Longest12, WithGaps]),
+        ("13", 128, long(13), &[ValuesMasked, Longest32, WithGaps]),
+        (
+            "one code, up to the size",
+            192,
+            one(3),
+            &[DifferencesFull, Longest8, OneCode, WithGaps],
+        ),
+        (
+            "round",
+            192,
+            one(4),
+            &[DifferencesFull, Longest8, OneCode, WithGaps, GoesRound],
+        ),
+    ];
+    let blob = |mask, after| Image {
+        kind: 1,
+        // No mask if both pixels are valid.
+        mask: Vec::from_iter((mask != 192).then_some(mask)),
+        after,
+        ..pair()
+    };
+    known
+        .into_iter()
+        .map(|(name, mask, after, paths)| (name, blob(mask, after).blob(), paths.to_vec()))
+        .collect()
+}
+
 fn all() -> Vec<Known> {
     let mut all = heads();
     all.extend(widths());
@@ -483,6 +535,7 @@ fn all() -> Vec<Known> {
     all.push(depths());
     all.push(no_counts());
     all.extend(bodies());
+    all.extend(codes());
     all
 }
 
@@ -664,8 +717,11 @@ fn a_run_comes_upon_every_path() {
     for (path, name) in PATHS {
         let (reads, fills) = (paths.reads.of(path), paths.fills.of(path));
         let publishes = paths.publishes.of(path);
-        assert!(reads >= 300, "{name}: {reads}");
-        assert!(publishes >= 300, "{name}: {publishes}");
+        // Few images are in codes, and they have no blocks and tiles.
+        let in_codes = path as usize > Path::Blocks as usize;
+        let least = if in_codes { 50 } else { 300 };
+        assert!(reads >= least, "{name}: {reads}");
+        assert!(publishes >= least, "{name}: {publishes}");
         assert!(fills >= 20 || path.is_body(), "{name}: {fills}");
     }
 }

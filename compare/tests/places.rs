@@ -74,6 +74,7 @@ impl Image {
             slack: vec![0; 20],
             mask: Vec::new(),
             starts: Vec::new(),
+            cells: Vec::new(),
         }
     }
 
@@ -320,10 +321,13 @@ fn sweep_and_mode() {
             (SweepWrong, row(&[10, 12, 2]).call(op), 8, 72),
             (ModeMissing, with_mode(&[10, 12, 0]).call(op), 1, 73),
             (ModeWrong, with_mode(&[10, 12, 0, 3]).call(op), 8, 73),
-            (ModeUnread, with_mode(&[10, 12, 0, 1]).call(op), 10, 73),
             // Behind it is a block.
             (FlagMissing, with_mode(&[10, 12, 0, 0]).call(op), 1, 74),
         ]);
+    }
+    for mode in [1, 2] {
+        let codes = with_mode(&[10, 12, 0, mode]).call(Op::Walk);
+        held(vec![(ModeCodes, codes, 10, 73)]);
     }
     let raw = row(&[10, 12, 1]).call(Op::Walk);
     held(vec![(SweepRaw, raw.clone(), 10, 72)]);
@@ -338,6 +342,87 @@ fn sweep_and_mode() {
         (SweepFar, body_at(u64::MAX), 1, u64::MAX),
         (SweepWrong, body_at(0), 8, 0),
     ]);
+}
+
+/// Three symbols in codes 0, 10 and 11; integers, lengths, codes and symbols may
+/// be others.
+fn in_codes(integers: &[u32], lengths: &[u8], codes: &[u32], symbols: &[u32]) -> Image {
+    let words = |words: &[u32]| Vec::from_iter(words.iter().flat_map(|w| w.to_le_bytes()));
+    let behind = [
+        words(integers),
+        lengths.to_vec(),
+        words(codes),
+        words(symbols),
+    ];
+    let after = [vec![10, 12, 0, 2], behind.concat()].concat();
+    Image {
+        error: 0.5,
+        ..row(&after)
+    }
+}
+
+const TABLE: [u32; 4] = [4, 256, 10, 13];
+const LENGTHS: [u8; 3] = [0x82, 3, 0x29];
+const WORD: u32 = 0x5800_0000;
+
+fn whole_codes() -> Image {
+    in_codes(&TABLE, &LENGTHS, &[WORD], &[WORD, 0])
+}
+
+fn wrong_tables() -> Vec<(Site, Image, u32)> {
+    use Site::*;
+    let integers = |integers: &[u32]| in_codes(integers, &[], &[], &[]);
+    let counts = |lengths: &[u8]| in_codes(&TABLE, lengths, &[], &[]);
+    vec![
+        (IntegersMissing, integers(&[]), 1),
+        (IntegersMissing, integers(&[4, 256, 10]), 1),
+        (TableVersion, integers(&[1]), 8),
+        (TableSize, integers(&[2, 257]), 8),
+        (TableFirst, integers(&[u32::MAX, 0, 0]), 8),
+        (TableFirst, integers(&[2, 256, 256]), 8),
+        (TableEnd, integers(&[2, 256, 10, 10]), 8),
+        (TableEnd, integers(&[2, 256, 10, 267]), 8),
+        (LengthsMissing, integers(&[2, 256, 10, 266]), 1),
+        (LengthsMissing, counts(&LENGTHS[..2]), 1),
+        (LengthsWrong, counts(&[0xC2, 3, 0x29]), 8),
+        (LengthsNumber, counts(&[0x82, 2, 0x29]), 8),
+        (LengthTooLong, counts(&[0x88, 3, 1, 33, 2]), 8),
+        (NoLength, counts(&[0x80, 3]), 8),
+        (CodesMissing, counts(&LENGTHS), 1),
+    ]
+}
+
+fn wrong_codes() -> Vec<(Site, Image, u32)> {
+    use Site::*;
+    let of = |codes: u32, symbols: &[u32]| in_codes(&TABLE, &LENGTHS, &[codes], symbols);
+    let cut = |by: usize| {
+        let mut image = whole_codes();
+        image.after.truncate(image.after.len() - by);
+        image
+    };
+    // The code 10 alone is known, and 0 begins none.
+    let one = |symbols: u32| in_codes(&[4, 1, 0, 1], &[0x82, 1, 2], &[1 << 31], &[symbols]);
+    vec![
+        (CodeBegins, of(0, &[]), 8),
+        (CodeBegins, of(0x7800_0000, &[]), 8),
+        (SymbolMissing, of(WORD, &[]), 1),
+        (SymbolMissing, cut(5), 1),
+        (SymbolUnknown, one(0), 8),
+        (SymbolUnknown, one(0xA000_0000), 8),
+        (SymbolUnknown, one(0xB800_0000), 8),
+        (LastWordMissing, cut(4), 1),
+        (LastWordMissing, cut(1), 1),
+    ]
+}
+
+#[test]
+fn codes() {
+    for op in WHOLE {
+        held(vec![(Site::Accepted, whole_codes().call(op), 0, 0)]);
+        for (site, image, number) in [wrong_tables(), wrong_codes()].concat() {
+            held(vec![(site, image.call(op), number, 73)]);
+        }
+    }
 }
 
 #[test]
@@ -417,7 +502,7 @@ fn no_place() {
         (ShortRecord, Op::Publish, |case| case.said.truncate(1), 5),
         (NotStaged, Op::Publish, |case| case.staged[12] += 1, 3),
         (NotStaged, Op::Publish, |case| case.staged[0] |= 1 << 32, 3),
-        (NotStaged, Op::Publish, |case| case.staged[13] = 4, 3),
+        (NotStaged, Op::Publish, |case| case.staged[13] = 5, 3),
         (NotStaged, Op::Publish, |case| case.spare[0] ^= 1, 3),
         (NotStaged, Op::Publish, |case| case.list[0] += 1, 3),
         (Accepted, Op::Publish, |case| case.kept[0] = 0, 0),

@@ -3,6 +3,7 @@
 use crate::block::{read_block, read_raw_words};
 use crate::bytes::byte;
 use crate::header::{held, read_header, Header, HEADER_BYTES};
+use crate::huffman::read_huffman;
 use crate::mask::{is_valid, mask_in_force, Mask};
 use crate::numbers::{stored, word_size};
 use crate::ranges::{check_ranges, ranges_of, Ranges};
@@ -13,10 +14,11 @@ use crate::tile::{Tile, MOST_PIXELS};
 const ERROR_OF_MODES: u64 = 0x3FE0_0000_0000_0000;
 
 /// The bodies with bytes of their own, and where the first word or block
-/// begins.
+/// begins; of Huffman codes it is the mode byte.
 pub(crate) enum Body {
     Raw(usize),
     Blocks(usize),
+    Huffman(usize),
 }
 
 /// Checks every block, then writes the list of block starts. Gives how many
@@ -37,8 +39,10 @@ pub fn walk(
         // There is no byte that says so.
         return Err(Refusal::of(NOT_BLOCKS));
     }
-    let Body::Blocks(at) = body_at(bytes, ranges.place, header)? else {
-        return Err(Refusal::at(NOT_BLOCKS, ranges.place));
+    let at = match body_at(bytes, ranges.place, header)? {
+        Body::Blocks(at) => at,
+        Body::Raw(_) => return Err(Refusal::at(NOT_BLOCKS, ranges.place)),
+        Body::Huffman(mode) => return Err(Refusal::at(NOT_BLOCKS, mode)),
     };
     let (starts, end) = check_blocks(bytes, header, ranges, mask, at)?;
     list[..starts.len()].copy_from_slice(&starts);
@@ -132,6 +136,10 @@ pub(crate) fn read_body(
             list[..starts.len()].copy_from_slice(&starts);
             Ok((starts.len(), end))
         }
+        Body::Huffman(at) => {
+            let end = write_huffman(bytes, at, header, mask, image)?;
+            Ok((0, end))
+        }
     }
 }
 
@@ -150,7 +158,7 @@ pub(crate) fn body_at(bytes: &[u8], place: usize, header: &Header) -> Result<Bod
     }
     match byte(bytes, at)? {
         0 => Ok(Body::Blocks(at + 1)),
-        1 | 2 => Err(Refusal::at(NOT_BLOCKS, at)),
+        1 | 2 => Ok(Body::Huffman(at)),
         _ => Err(Refusal::at(WRONG_BLOCK, at)),
     }
 }
@@ -233,6 +241,24 @@ fn write_raw(
     for (nth, pixel) in valid.enumerate() {
         let cells = &mut image[pixel * depths..][..depths];
         read_raw_words(bytes, at + nth * pixel_bytes, header.kind, cells)?;
+    }
+    Ok(end)
+}
+
+fn write_huffman(
+    bytes: &[u8],
+    at: usize,
+    header: &Header,
+    mask: &[u8],
+    image: &mut [u64],
+) -> Result<usize, Refusal> {
+    let depths = header.depth as usize;
+    // All symbols are read before a cell is written.
+    let (samples, end) = read_huffman(bytes, at, header, mask)?;
+    for (cell, sample) in samples.into_iter().enumerate() {
+        if is_valid(mask, cell / depths) {
+            image[cell] = sample.into();
+        }
     }
     Ok(end)
 }

@@ -18,6 +18,7 @@ mod bytes;
 mod checksum;
 pub mod exact;
 mod header;
+mod huffman;
 mod mask;
 mod numbers;
 mod pack;

@@ -57,11 +57,12 @@ pub const NO_ROOM: u32 = 5;
 pub const WRONG_MASK: u32 = 6;
 /// A range number is not finite, or the maximum is less than the minimum.
 pub const WRONG_RANGE: u32 = 7;
-/// A block, sweep or mode byte is wrong.
+/// A block, sweep or mode byte is wrong, or a table of codes, or no code is
+/// what stands where one should be.
 pub const WRONG_BLOCK: u32 = 8;
 /// A value does not fit its integer kind.
 pub const DOES_NOT_FIT: u32 = 9;
-/// Walk on a body not in blocks, or a mode that is not read here.
+/// Walk on a body not in blocks.
 pub const NOT_BLOCKS: u32 = 10;
 /// The block number is at or above the count.
 pub const NO_SUCH_BLOCK: u32 = 11;

@@ -2,6 +2,7 @@
 
 use crate::body::{body_at, check_blocks, constant_words, raw_end, read_body, Body};
 use crate::header::{read_header, Header, HEADER_BYTES};
+use crate::huffman::read_huffman;
 use crate::mask::{mask_in_force, Mask};
 use crate::ranges::ranges_of;
 use crate::refusal::{Refusal, NO_ROOM, WRONG_FIELD};
@@ -12,6 +13,7 @@ pub enum BodyKind {
     Constant,
     Raw,
     Blocks,
+    Huffman,
 }
 
 /// What an accepted blob is: `blocks` is 0 for a body without blocks, `end` is
@@ -144,6 +146,10 @@ fn check_body(bytes: &[u8], header: &Header, mask: &[u8]) -> Result<Checked, Ref
                 starts,
                 end,
             })
+        }
+        Body::Huffman(at) => {
+            let (_, end) = read_huffman(bytes, at, header, mask)?;
+            Ok(without_blocks(BodyKind::Huffman, end))
         }
     }
 }

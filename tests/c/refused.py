@@ -71,9 +71,23 @@ def front_bytes():
         for tail, number in ((b'', 1), (b'\x02', 8), (b'\xFF\0\0', 8)):
             blob = made(b'\x0A\x0C' + tail, valid=valid, mask=mask)
             yield both('sweep byte %s' % tail.hex(), blob, 'walk', number, sweep_at(blob))
-        for tail, number in ((b'', 1), (b'\x01', 10), (b'\x02', 10), (b'\x03', 8)):
+        for tail, number in ((b'', 1), (b'\x03', 8), (b'\xFF', 8)):
             blob = made(b'\x0A\x0C\0' + tail, valid=valid, mask=mask, error=0.5)
             yield both('mode byte %s' % tail.hex(), blob, 'walk', number, mode_at(blob))
+
+
+def images():
+    """Huffman images: a walk refuses each, right or wrong, at the mode byte, where a whole read refuses the wrong ones"""
+    # symbols 10, 11 and 12 have the codes 0, 10 and 11; the run 10, 11, 12 is 0 10 11 too
+    table, symbols = bytes.fromhex('02000000 0D000000 0A000000 0D000000 820329 00000058'), bytes.fromhex('00000058 00000000')
+    rows = (('right', table + symbols, None), ('no table', b'', 1), ('version 1', b'\1' + table[1:] + symbols, 8),
+            ('size 257', table[:4] + b'\1\1' + table[6:] + symbols, 8), ('a code begins another', table[:-1] + b'\x48' + symbols, 8),
+            ('a table that is cut', table[:-1], 1), ('no symbols', table, 1), ('no word behind them', table + symbols[:-1], 1),
+            ('unknown bits', table[:12] + b'\x0C\0\0\0\x82\x02\x09\0\0\0\x40' + symbols, 8))
+    for name, image, number in rows:
+        for mode in (1, 2):
+            blob = made(b'\x0A\x0C\0' + bytes([mode]) + image, error=0.5)
+            yield 'Huffman %d, %s' % (mode, name), blob, line(number, mode_at(blob)) if number else None, 'walk ' + line(10, mode_at(blob))
 
 
 def blocks():
@@ -106,7 +120,7 @@ def other_bodies():
 
 def cases():
     """name, blob, the line of `read` or None where it accepts, the last line of `blocks`, that of `stage`"""
-    rows = [*headers(), *checksums(), *masks(), *ranges(), *front_bytes(), *blocks(), *other_bodies()]
+    rows = [*headers(), *checksums(), *masks(), *ranges(), *front_bytes(), *images(), *blocks(), *other_bodies()]
     return [with_stage(*row) for row in rows]
 
 

@@ -8,7 +8,7 @@
 #include <stdio.h>
 #include <string.h>
 
-enum { LONGEST = 100, MARK = 7, MASK = 4, STARTS = 4, CELLS = 18 };
+enum { LONGEST = 120, MARK = 7, MASK = 4, STARTS = 4, CELLS = 18 };
 
 /* the bits of some doubles */
 #define HALF 0x3FE0000000000000
@@ -38,7 +38,7 @@ struct row {
     uint32_t columns, valid;
     uint64_t least, greatest;
     size_t mask, body;
-    uint8_t bytes[20]; /* the mask section and what comes behind it */
+    uint8_t bytes[48]; /* the mask section and what comes behind it */
     uint32_t number;
     uint64_t place, end, kind, blocks, in_force, length;
     uint8_t bits[2];
@@ -55,6 +55,14 @@ static const struct row rows[] = {
      {0x60}, {74}, {0, 11, 12}},
     {"a raw body", false, 3, 2, TEN, TWELVE, 5, 5, {1, 0, 0xA0, 0, 0x80, 10, 12, 1, 11, 12}, 0, 0, 80, LERC2_RAW, 0,
      LERC2_SPARE, 1, {0xA0}, {0}, {11, 0, 12}},
+    /* no prediction: symbols 10, 11, 12 have the codes 0, 10, 11, and these are the bits too; a word follows them */
+    {"a Huffman image", true, 3, 3, TEN, TWELVE, 0, 35,
+     {10, 12, 0, 2, 2, 0, 0, 0, 13, 0, 0, 0, 10, 0, 0, 0, 13, 0, 0, 0, 0x82, 3, 0x29, 0, 0, 0, 0x58, 0, 0, 0, 0x58, 1, 2, 3, 4},
+     0, 0, 105, LERC2_HUFFMAN, 0, LERC2_SPARE, 1, {0xFF}, {0}, {10, 11, 12}},
+    /* symbols 1 and 11 have the codes 0 and 1; the bits 1, 0 say 11, and 1 more than the last value, behind a hole */
+    {"a Huffman image, by differences", false, 3, 2, TEN, TWELVE, 5, 36,
+     {1, 0, 0xA0, 0, 0x80, 10, 12, 0, 1, 2, 0, 0, 0, 13, 0, 0, 0, 1, 0, 0, 0, 12, 0, 0, 0, 0x81, 11, 1, 4, 0, 0, 0, 0x40,
+      0, 0, 0, 0x80, 0, 0, 0, 0}, 0, 0, 111, LERC2_HUFFMAN, 0, LERC2_SPARE, 1, {0xA0}, {0}, {11, 0, 12}},
     {"a constant body", false, 10, 10, TEN, TEN, 0, 0, {0}, 0, 0, 70, LERC2_CONSTANT, 0, LERC2_SPARE, 2, {0xFF, 0xFF}, {0},
      {10, 10, 10, 10, 10, 10, 10, 10, 10, 10}},
     {"an empty body", true, 10, 0, TEN, TEN, 0, 0, {0}, 0, 0, 70, LERC2_EMPTY, 0, LERC2_SPARE, 2, {0, 0}, {0}, {0}},
@@ -70,8 +78,17 @@ static const struct row rows[] = {
      {0}, {0}},
     {"another sweep byte", false, 16, 9, TEN, TWELVE, 6, 3, {2, 0, 0xFF, 0x80, 0, 0x80, 10, 12, 2}, 8, 78, 0, 0, 0,
      LERC2_SPARE, 2, {0xFF, 0x80}, {0}, {0}},
-    {"another mode", false, 16, 9, TEN, TWELVE, 6, 4, {2, 0, 0xFF, 0x80, 0, 0x80, 10, 12, 0, 1}, 10, 79, 0, 0, 0,
-     LERC2_SPARE, 2, {0xFF, 0x80}, {0}, {0}},
+    {"another mode", false, 16, 9, TEN, TWELVE, 6, 4, {2, 0, 0xFF, 0x80, 0, 0x80, 10, 12, 0, 3}, 8, 79, 0, 0, 0, LERC2_SPARE,
+     2, {0xFF, 0x80}, {0}, {0}},
+    {"no table", false, 16, 9, TEN, TWELVE, 6, 4, {2, 0, 0xFF, 0x80, 0, 0x80, 10, 12, 0, 1}, 1, 79, 0, 0, 0, LERC2_SPARE, 2,
+     {0xFF, 0x80}, {0}, {0}},
+    /* of 10 and 11 with the codes 0 and 10: the bits 11 begin none */
+    {"an unknown code", true, 3, 3, TEN, TWELVE, 0, 35,
+     {10, 12, 0, 2, 2, 0, 0, 0, 13, 0, 0, 0, 10, 0, 0, 0, 12, 0, 0, 0, 0x82, 2, 9, 0, 0, 0, 0x40, 0, 0, 0, 0x58, 1, 2, 3, 4}, 8,
+     73, 0, 0, 0, LERC2_SPARE, 1, {0xFF}, {0}, {0}},
+    {"the word behind the symbols cut", true, 3, 3, TEN, TWELVE, 0, 34,
+     {10, 12, 0, 2, 2, 0, 0, 0, 13, 0, 0, 0, 10, 0, 0, 0, 13, 0, 0, 0, 0x82, 3, 0x29, 0, 0, 0, 0x58, 0, 0, 0, 0x58, 1, 2, 3}, 1,
+     73, 0, 0, 0, LERC2_SPARE, 1, {0xFF}, {0}, {0}},
     {"raw words cut", false, 3, 2, TEN, TWELVE, 5, 4, {1, 0, 0xA0, 0, 0x80, 10, 12, 1, 11}, 1, 79, 0, 0, 0, LERC2_SPARE, 1,
      {0xA0}, {0}, {0}},
     {"a wrong block", false, 16, 9, TEN, TWELVE, 6, 8, {2, 0, 0xFF, 0x80, 0, 0x80, 10, 12, 0, 0, 3, 10, 3, 11}, 8, 82, 0, 0,

@@ -19,6 +19,7 @@ NAN, INF = float('nan'), float('inf')
 
 # the sentence of a place that offsets.py has not
 VALUE = '0 for ranges by value'
+CODED = 'a word or run past the size 1, .. at the mode byte\'s place'
 # of a call that no rule refuses
 RIGHT = 'no rule is broken'
 # of a call that has a header by value, and a blob whose checksum is false
@@ -353,10 +354,13 @@ def sweeps():
 def modes():
     for name, named in (('kind 1', dict(kind=1, depth=1)), ('kind 0, depth 3', dict(kind=0, depth=3)),
                         ('kind 1, depth 2, behind a mask', dict(kind=1, depth=2, **MASKED))):
-        for what, piece, number in (('no mode byte', '', 1), ('mode byte 1', '01', 10), ('mode byte 2', '02', 10), ('mode byte 3', '03', 8),
-                                    ('mode byte 255', 'FF', 8)):
+        for what, piece, number in (('no mode byte', '', 1), ('mode byte 3', '03', 8), ('mode byte 255', 'FF', 8)):
             blob = made(ranges(named['kind'], named['depth']) + b'\0' + hexed(piece), error=0.5, **named)
             yield from cases((WALK, READ), '%s, %s' % (what, name), blob, number, mode_at(blob), FRONT)
+        for mode in (1, 2):
+            blob = made(ranges(named['kind'], named['depth']) + bytes([0, mode]), error=0.5, **named)
+            yield case(WALK, 'mode byte %d, %s' % (mode, name), blob, 10, mode_at(blob), FRONT)
+            yield case(READ, 'mode byte %d and nothing behind it, %s' % (mode, name), blob, 1, mode_at(blob), CODED)
     behind = made(WHOLE, error=0.5, size=73)
     yield from cases((WALK, READ), 'the mode byte behind the size', behind, 1, mode_at(behind), FRONT)
     yield from right((WALK, READ), 'mode byte 0', made(WHOLE, error=0.5))
@@ -524,7 +528,7 @@ LEAST = (('no ranges', '', 1, 70, FIT, (RANGES, READ)), ('half the ranges', '0A'
          ('check bits', '0A0C0004', 8, 73, IN_BLOCK, (WALK, FILL, READ)), ('no raw word', '0A0C0000', 1, 73, IN_BLOCK, (WALK, FILL, READ)),
          ('a block of zeros', '0A0C0002', 0, 0, RIGHT, range(6)),
          ('a raw word', '0A0C010B', 0, 0, RIGHT, (HEADER, MASK, RANGES, READ)))
-LEAST_MODE = (('no mode byte', '0A0C00', 1), ('mode byte 3', '0A0C0003', 8), ('mode byte 1', '0A0C0001', 10))
+LEAST_MODE = (('no mode byte', '0A0C00', 1), ('mode byte 3', '0A0C0003', 8))
 
 
 def least():
@@ -533,6 +537,9 @@ def least():
         yield from cases(operations, 'one pixel, ' + what, made(hexed(tail), columns=1), number, place, sentence)
     for what, tail, number in LEAST_MODE:
         yield from cases((WALK, READ), 'one pixel, ' + what, made(hexed(tail), columns=1, error=0.5), number, 73, FRONT)
+    coded = made(hexed('0A0C0001'), columns=1, error=0.5)
+    yield case(WALK, 'one pixel, mode byte 1', coded, 10, 73, FRONT)
+    yield case(READ, 'one pixel, mode byte 1 and nothing behind it', coded, 1, 73, CODED)
     yield from cases((MASK, READ), 'one pixel, a mask byte', made(b'', columns=1, mask=b'\2'), 6, 66, SIX)
     yield from right((HEADER, MASK, RANGES, READ), 'one pixel, constant', made(b'', columns=1, low=5.0, high=5.0))
 

@@ -254,7 +254,7 @@ def refusals():
     yield 'a last block that is wrong', '(flag/4)%16 must equal (x/8)%16: 8', late, refused(8, last)
     yield 'a constant of 300', 'kinds 0 to 5 refuse outside the range: 9', made(b'', low=300.0, high=300.0), refused(9)
     mode, cut = made(hexed('0A0C0001'), error=0.5), made(pairs(2, 10, 12)[:3], kind=2)
-    yield 'mode byte 1', 'mode byte 1, 2 refused 10', mode, refused(10, mode_at(mode))
+    yield 'mode byte 1', 'behind mode byte 1 a table: a word past the size is 1, at the mode byte', mode, refused(1, mode_at(mode))
     yield 'ranges cut', 'a number passes the declared size: 1', cut, refused(1, ranges_at(cut))
 
 

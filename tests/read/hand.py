@@ -14,7 +14,7 @@ from rows import IN_BLOCK, ROWS  # noqa: E402
 
 VERSION = 'key or version differs'
 CEILING = 'a ceiling is passed'
-MODE = 'kinds 0 and 1 with error exactly 0.5 have a mode byte: 1, 2 refused 10'
+MODE = 'kinds 0 and 1 with error exactly 0.5 have a mode byte: 0 blocks, 1 and 2 a Huffman image'
 FRONT = 'reading goes front to back and the first failing read decides the number'
 FIELD = 'a field, number or packed run passes the declared size'
 FIT = 'depth minima then depth maxima in the blob\'s kind, all of which must fit (1) before a number is judged'
@@ -347,7 +347,7 @@ def byte_tails():
         yield 'mode-%d' % mode, hexed('0A0C00') + bytes([mode]) + hexed('010A820324'), dict(error=0.5), 8, AT_MODE, MODE + '; others 8'
     for kind in (0, 1):
         for mode in (1, 2):
-            yield 'mode-%d-kind-%d' % (mode, kind), hexed('0A0C00') + bytes([mode]), dict(error=0.5, kind=kind), 10, AT_MODE, MODE
+            yield 'mode-%d-kind-%d' % (mode, kind), hexed('0A0C00') + bytes([mode]), dict(error=0.5, kind=kind), 1, AT_MODE, MODE + '; ' + FIELD
     for flag in (0x04, 0x05, 0x3E, 0x43):
         yield 'check-%02x' % flag, hexed('0A0C00') + bytes([flag]) + hexed('0A820324'), {}, 8, at_block(0), CHECK
     unchanged = '; a refusal leaves every lent slice unchanged'

@@ -385,18 +385,20 @@ if command -v python3 >/dev/null; then
     # scripts that write stored cases: in a copy, since a wrong word must not change one
     mkdir "$ROOM/stored"
     cp -r tests tools "$ROOM/stored"
-    for part in header numeric fill read place program; do
+    for part in header numeric fill read place huffman program; do
         mkdir -p "$ROOM/stored/crates" && cp -r "crates/lerc_${part}_cases" "$ROOM/stored/crates"
     done
     stored() { (cd "$ROOM/stored/crates" && find . -type f -exec sha256sum {} + | sort); }
     stored_before=$(stored)
-    for part in header numeric fill read place program; do
+    for part in header numeric fill read place huffman program; do
         make_cases() { (cd "$ROOM/stored" && python3 "tests/$part/make.py" "$@"); }
         gives "tests/$part/make.py, an unknown word" 2 make_cases --help
         holds "tests/$part/make.py changes nothing" [ "$(stored)" = "$stored_before" ]
         gives "tests/$part/make.py" 0 make_cases
         holds "tests/$part/make.py makes what is stored" [ "$(stored)" = "$stored_before" ]
     done
+    gives 'faults in the rules of Huffman bodies' 0 python3 tests/huffman/faults.py
+    wrong_words 'usage: ' python3 tests/huffman/faults.py --nosuch
 else
     not_tried 'tests/c/run.py and tests/stack/run.py (no python3)'
 fi

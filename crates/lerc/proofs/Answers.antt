@@ -84,18 +84,27 @@ kind-same kind.Empty kind.Empty e = refl
 kind-same kind.Empty kind.Constant e = absurd (omega arith)
 kind-same kind.Empty kind.Raw e = absurd (omega arith)
 kind-same kind.Empty kind.Blocks e = absurd (omega arith)
+kind-same kind.Empty kind.Huffman e = absurd (omega arith)
 kind-same kind.Constant kind.Empty e = absurd (omega arith)
 kind-same kind.Constant kind.Constant e = refl
 kind-same kind.Constant kind.Raw e = absurd (omega arith)
 kind-same kind.Constant kind.Blocks e = absurd (omega arith)
+kind-same kind.Constant kind.Huffman e = absurd (omega arith)
 kind-same kind.Raw kind.Empty e = absurd (omega arith)
 kind-same kind.Raw kind.Constant e = absurd (omega arith)
 kind-same kind.Raw kind.Raw e = refl
 kind-same kind.Raw kind.Blocks e = absurd (omega arith)
+kind-same kind.Raw kind.Huffman e = absurd (omega arith)
 kind-same kind.Blocks kind.Empty e = absurd (omega arith)
 kind-same kind.Blocks kind.Constant e = absurd (omega arith)
 kind-same kind.Blocks kind.Raw e = absurd (omega arith)
 kind-same kind.Blocks kind.Blocks e = refl
+kind-same kind.Blocks kind.Huffman e = absurd (omega arith)
+kind-same kind.Huffman kind.Empty e = absurd (omega arith)
+kind-same kind.Huffman kind.Constant e = absurd (omega arith)
+kind-same kind.Huffman kind.Raw e = absurd (omega arith)
+kind-same kind.Huffman kind.Blocks e = absurd (omega arith)
+kind-same kind.Huffman kind.Huffman e = refl
 
 mask-same : (a b : MaskAnswer) → sameMask a b ≡ true → a ≡ b
 mask-same (mask.Kept n) (mask.Kept k) e = ap mask.Kept (eqb-true n k e)

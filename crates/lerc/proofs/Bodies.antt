@@ -1,11 +1,11 @@
 -- The images of bodies without blocks: what the code paints is the meaning's word at each valid cell.
 -- Assumes nothing.
 use mathlib.Core.Path.{_≡_, sym, refl}
-use mathlib.Core.Bool.{Bool, true, false, and-eq-true-iff}
+use mathlib.Core.Bool.{Bool, true, false}
 use mathlib.Core.List.{List, _++_}
 use Prim.Native.Nat.{ℕ, _+_, _*_, _/_, _%_, _≤_, _<_}
 use native.Mathlib.Omega.{arith}
-use native.Mathlib.Nat.{div-lt-iff-lt-mul, mod-lt, mul-le-mul, mul-le-mul-right, suc-mul}
+use native.Mathlib.Nat.{mod-lt, mul-le-mul, mul-le-mul-right, suc-mul}
 use Rattle.lerc_words.specs.Res.{ok}
 use Rattle.lerc_numeric.specs.Kinds.{typeSize}
 use Rattle.lerc_header.specs.declared.Extent.{Extent}
@@ -14,44 +14,20 @@ use Rattle.lerc_header.specs.Header.{held}
 use Rattle.lerc_header.proofs.Kept.{held-shaped, held-valid}
 use Rattle.lerc_numeric.proofs.Integers.{size-le}
 use lib.ListN.{length, take, List·getD-append, take-append-drop, length-take}
-use borrow.Author.Tests.{ltb-true}
 use Rattle.lerc_words.specs.Res.{little}
 use Rattle.lerc_words.specs.Lists.{tabulate, over}
 use Rattle.lerc_words.proofs.Tables.{getD-tabulate}
-use Rattle.lerc_words.proofs.Counts.{count-mono}
 use Rattle.lerc_header.specs.declared.Header.{Header}
 use Rattle.lerc_header.specs.declared.Shape.{Shape}
 use Rattle.lerc_header.specs.Header.{shapeOf}
-use Rattle.lerc_header.specs.Shape.{pixels, cells}
-use Rattle.lerc_mask.specs.Mask.{pixelValid, validBelow}
+use Rattle.lerc_header.specs.Shape.{pixels}
+use Rattle.lerc_mask.specs.Mask.{validBelow}
 use Rattle.lerc_image.specs.Geometry.{isValidCell}
 use Rattle.lerc_image.specs.Paint.{painted}
 use Rattle.lerc_image.proofs.Painting.{painted-none, painted-words}
 use Rattle.lerc.specs.Meaning.{constant, raw, cellWord}
 use Rattle.lerc.specs.Linear.{depthWord, rawWord}
-use Rattle.lerc.proofs.Pixels.{valid-more}
-
--- ---- a valid cell
-
-pub record ValidAt (h : Shape) (m : List ℕ) (c : ℕ) : Type 0 where
-  pub below : c < cells h
-  pub valid : pixelValid m (c / h .depth) ≡ true
-
-pub valid-at : (h : Shape) (m : List ℕ) (c : ℕ) → isValidCell h m c ≡ true → ValidAt h m c
-unfolding isValidCell
-valid-at h m c e =
-    let u = and-eq-true-iff _ _ .0 e in
-    record { below = ltb-true _ _ (u .0); valid = u .1 }
-
--- its pixel is one of the image's
-pub valid-pixel : (h : Shape) (m : List ℕ) (c : ℕ) → 0 < h .depth → ValidAt h m c → c / h .depth < pixels h
-valid-pixel h m c d v = div-lt-iff-lt-mul d .1 (v .below)
-
--- a valid pixel has fewer valid pixels before it than there are
-pub valid-before : (m : List ℕ) (p n : ℕ) → p < n → pixelValid m p ≡ true → validBelow p m < validBelow n m
-valid-before m p n l e =
-    let k : p + 1 ≤ n = omega arith in
-    omega (arith, valid-more m p e, count-mono (p + 1) n (pixelValid m) k)
+use Rattle.lerc_image.proofs.Pixels.{valid-at, valid-pixel, valid-before}
 
 -- ---- no valid pixel at all
 

@@ -28,11 +28,14 @@ use Rattle.lerc_image.specs.Blocks.{Chain, allBlocks}
 use Rattle.lerc_image.specs.Walk.{Walk, walkSaid, walkOf}
 use Rattle.lerc_image.specs.Tiles.{checkedTiles}
 use Rattle.lerc_image.proofs.Chain.{chain-lengths}
+use Rattle.lerc_byte_image.specs.declared.EndAnswer.the-variants as end-answer
+use Rattle.lerc_byte_image.specs.Symbols.{Coded}
+use Rattle.lerc_byte_image.specs.Image.{imageAt, ended, endSaid}
 use Rattle.lerc_validity.specs.declared.MaskAnswer.{MaskAnswer}
 use Rattle.lerc.specs.declared.BodyKind.the-variants as kind
 use Rattle.lerc.specs.declared.body.BodyFound.{BodyFound}
 use Rattle.lerc.specs.declared.body.BodyFound.the-variants as found
-use Rattle.lerc.specs.Meaning.{Body, blocks, constant, missingWordAt, rawBody, blockBody, constantBody, bodyFrom, sweptBody, bodySays}
+use Rattle.lerc.specs.Meaning.{Body, blocks, huffman, constant, missingWordAt, rawBody, blockBody, huffmanBody, constantBody, bodyFrom, sweptBody, bodySays}
 use Rattle.lerc_image.specs.Own.{ownMask, ownTiles}
 use Rattle.lerc.specs.Stage.{stagedBody, stageSaid}
 use Rattle.lerc.specs.Parts.{Ready, stagedBy, answerOf, Checked}
@@ -104,6 +107,22 @@ module _ (s : List ℕ) (h : Header) (maxima m : List ℕ) (at : ℕ) where
   pub blocks-found : {n end : ℕ} → walkSaid (walk.Walked n end) ≡ walkOf h (allBlocks s h maxima m at) → Checked (blockBody s h maxima m at) s h m maxima (found.Blocks at n end)
   unfolding blockBody
   blocks-found e = record { says = count-said (allBlocks s h maxima m at) refl e; means = refl }
+
+-- ---- a Huffman image
+
+module _ (s : List ℕ) (h : Header) (delta : Bool) (mode : ℕ) (m words : List ℕ) where
+  pub huffman-no : {why : Refusal} → endSaid (end-answer.Refused why) ≡ ended (imageAt s h mode) → Checked (huffmanBody s h delta mode) s h m words (found.Refused why)
+  unfolding huffmanBody
+  huffman-no e = found-no (rw (bind-fail (imageAt s h mode) _ (sym e)))
+
+  end-said : {end : ℕ} (x : Res Coded) → endSaid (end-answer.End end) ≡ ended x
+      → (said : MaskAnswer) → stageSaid (answerOf h said (found.Huffman delta mode end)) ≡ ((x >>= λ c. ok (huffman delta (c .symbols) (c .end))) >>= λ b. ok (stagedBody h said b))
+  end-said (ok c) e said = ap (λ (n : ℕ). stageSaid (stagedBy h said kind.Huffman 0 n)) (ok-is e)
+  end-said (fail r) e said = absurd (let z : _≡_ {A = ℕ} 0 1 = cc in omega arith)
+
+  pub huffman-found : {end : ℕ} → endSaid (end-answer.End end) ≡ ended (imageAt s h mode) → Checked (huffmanBody s h delta mode) s h m words (found.Huffman delta mode end)
+  unfolding huffmanBody
+  huffman-found e = record { says = end-said (imageAt s h mode) e; means = refl }
 
 -- ---- which of them
 

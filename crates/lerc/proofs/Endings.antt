@@ -14,11 +14,12 @@ use Rattle.lerc_header.specs.Header.{headerSays}
 use Rattle.lerc_ranges.specs.declared.Ranges.{Ranges}
 use Rattle.lerc_ranges.specs.Ranges.{constantWords}
 use Rattle.lerc_block.specs.Block.{rawWords}
+use Rattle.lerc_byte_image.specs.Image.{imageAt}
 use Rattle.lerc_validity.specs.declared.MaskAnswer.{MaskAnswer}
 use Rattle.lerc.specs.declared.Staged.{Staged}
 use Rattle.lerc.specs.declared.StageAnswer.the-variants as stage-answer
 use Rattle.lerc.specs.declared.body.BodyFound.{BodyFound}
-use Rattle.lerc.specs.Meaning.{Body, empty, missingWordAt, rawBody, constantBody, bodySays, startsOf, meaningFrom}
+use Rattle.lerc.specs.Meaning.{Body, empty, missingWordAt, rawBody, huffmanBody, constantBody, bodySays, startsOf, meaningFrom}
 use Rattle.lerc_validity.specs.Validity.{MaskInForce, bytesOf, maskSays}
 use Rattle.lerc.specs.Read.{Lent, room, Masked, masked, readSays}
 use Rattle.lerc.specs.Stage.{stagedBody, stageSaid}
@@ -52,6 +53,10 @@ constant-starts h k b e = let (ws, p, q) = bind-is (constantWords (h .depth) (h 
 pub raw-starts : (s : List ℕ) (h : Header) (at : ℕ) (b : Body) → rawBody s h at ≡ ok b → startsOf b ≡ []
 unfolding rawBody
 raw-starts s h at b e = let (w, p, q) = bind-is (marked (missingWordAt (length s) at (h .kind)) (rawWords s at (h .kind) (h .valid * h .depth))) _ e in rw (← ok-is q)
+
+pub huffman-starts : (s : List ℕ) (h : Header) (delta : Bool) (mode : ℕ) (b : Body) → huffmanBody s h delta mode ≡ ok b → startsOf b ≡ []
+unfolding huffmanBody
+huffman-starts s h delta mode b e = let (c, p, q) = bind-is (imageAt s h mode) _ e in rw (← ok-is q)
 
 -- ---- no valid pixel: nothing is read, whatever the mask
 

@@ -1,4 +1,4 @@
-pub mod Pixels
+pub mod RawWords
 pub mod Bodies
 pub mod Endings
 pub mod Checking

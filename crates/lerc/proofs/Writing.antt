@@ -29,14 +29,16 @@ use Rattle.lerc_image.specs.Tiles.{checkedTiles, listedTiles, filledTiles, tile
 use Rattle.lerc_slices.specs.Slices.{beginsWith}
 use Rattle.lerc_image.proofs.Painting.{painted-words}
 use Rattle.lerc_image.proofs.Beginning.{begins-none}
+use Rattle.lerc_byte_image.specs.Image.{imageAt, writtenImage}
+use Rattle.lerc_byte_image.proofs.Written.{written-are}
 use Rattle.lerc_image.proofs.Stages.{starts-begin, checked-listed, checked-begins, checked-filled}
 use Rattle.lerc.specs.declared.body.BodyFound.{BodyFound}
 use Rattle.lerc.specs.declared.body.BodyFound.the-variants as found
-use Rattle.lerc.specs.Meaning.{Body, empty, constant, blocks, missingWordAt, rawBody, blockBody, startsOf, cellWord}
+use Rattle.lerc.specs.Meaning.{Body, empty, constant, blocks, huffman, missingWordAt, rawBody, blockBody, huffmanBody, startsOf, cellWord}
 use Rattle.lerc.specs.Linear.{depthWord, rawWord, RawAsked}
 use Rattle.lerc.specs.Parts.{ToWrite, Writable, bodyIn, bodyImage, listAfter, listHolds, imageAfter}
 use Rattle.lerc.proofs.Bodies.{image-empty, image-raw}
-use Rattle.lerc.proofs.Endings.{raw-starts}
+use Rattle.lerc.proofs.Endings.{raw-starts, huffman-starts}
 use Rattle.lerc.proofs.Checking.{tiles-are}
 
 -- an accepted raw body lies in the bytes
@@ -166,3 +168,25 @@ module _ {s : List ℕ} {h : Header} {m words : List ℕ} {f : BodyFound} (w : T
       let (c, q) = chained e in
       let b : beginsWith (c .starts) list ≡ true = rw (e, q) at (v .starts) in
       rw (e, q) (p ∙ checked-filled s h m words at (checked e) list image (v .long) (v .room) (starts-begin s h words m at q list b))
+
+  -- ---- a Huffman image
+
+  pub list-huffman : {delta : Bool} {mode end : ℕ} (list : List ℕ) → f ≡ found.Huffman delta mode end → list ≡ listed list
+  list-huffman {delta} {mode} list e = rw (e) (go (huffmanBody s h delta mode) refl)
+    where
+      go : (y : Res Body) → huffmanBody s h delta mode ≡ y → list ≡ after y list (λ b. over (startsOf b) list)
+      go (ok b) q = rw (huffman-starts s h delta mode b q)
+      go (fail r) q = refl
+
+  pub holds-huffman : {delta : Bool} {mode end : ℕ} (list : List ℕ) → f ≡ found.Huffman delta mode end → true ≡ holds list
+  holds-huffman {delta} {mode} list e =
+      let q : huffmanBody s h delta mode ≡ ok (w .body) = rw (e) at (w .is) in
+      sym (rw (e, q, huffman-starts s h delta mode (w .body) q) (begins-none list))
+
+  pub image-huffman : {delta : Bool} {mode end : ℕ} (image : List ℕ) {new : List ℕ} → f ≡ found.Huffman delta mode end → cells (shapeOf h) ≤ length image
+      → new ≡ writtenImage s h mode delta m image → new ≡ filled image
+  unfolding huffmanBody cellWord
+  image-huffman {delta} {mode} image e r p =
+      let q : (imageAt s h mode >>= λ c. ok (huffman delta (c .symbols) (c .end))) ≡ ok (w .body) = rw (e) at (w .is) in
+      let (c, k, _) = bind-is (imageAt s h mode) _ q in
+      rw (e, k) (p ∙ written-are s h mode delta m image (w .ready .header) (w .ready .whole) (w .ready .mask) r (w .ready .counts) k)

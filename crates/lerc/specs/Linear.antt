@@ -2,23 +2,12 @@
 -- What writes a constant or raw body, pixel by pixel.
 -- Assumes nothing.
 use Prim.Native.Nat.{ℕ, _+_, _*_, _/_, _%_, _≤_}
-use mathlib.Core.Bool.{Bool, _&&_}
 use mathlib.Core.List.{List}
 use lib.ListN.{length, getD}
-use lib.Dec.{leb, ltb}
 use Rattle.lerc_words.specs.Res.{little}
 use Rattle.lerc_header.specs.declared.Shape.{Shape}
 use Rattle.lerc_header.specs.Shape.{pixels, cells, Shaped}
 use Rattle.lerc_mask.specs.Mask.{validBelow}
-use Rattle.lerc_image.specs.Geometry.{isValidCell}
-
--- the n cells from `base` on
-unfoldable pub within : ℕ → ℕ → ℕ → Bool
-within base n c = leb base c && ltb c (base + n)
-
--- the valid cells below k
-unfoldable pub validUpto : Shape → List ℕ → ℕ → ℕ → Bool
-validUpto h m k c = isValidCell h m c && ltb c k
 
 -- a constant body's word, by depth
 abbrev pub depthWord : Shape → List ℕ → ℕ → ℕ

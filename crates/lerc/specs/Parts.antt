@@ -27,7 +27,7 @@ use Rattle.lerc.specs.declared.StageAnswer.the-variants as stage-answer
 use Rattle.lerc.specs.declared.PublishAnswer.{PublishAnswer}
 use Rattle.lerc.specs.declared.body.BodyFound.{BodyFound}
 use Rattle.lerc.specs.declared.body.BodyFound.the-variants as found
-use Rattle.lerc.specs.Meaning.{Body, empty, constant, rawBody, blockBody, startsOf, cellWord}
+use Rattle.lerc.specs.Meaning.{Body, empty, constant, rawBody, blockBody, huffmanBody, startsOf, cellWord}
 use Rattle.lerc.specs.Stage.{stagedBody, stageSaid, isAnswer, PublishTold, bodyTold, publishSaid}
 
 -- ---- room
@@ -61,6 +61,7 @@ bodyIn s h m words found.Empty = cond (eqb (h .valid) 0) (ok empty) (fail (refus
 bodyIn s h m words (found.Constant end) = ok (constant (take (h .depth) words) end)
 bodyIn s h m words (found.Raw at end) = rawBody s h at
 bodyIn s h m words (found.Blocks at n end) = blockBody s h words m at
+bodyIn s h m words (found.Huffman delta mode end) = huffmanBody s h delta mode
 bodyIn s h m words (found.Refused r) = fail r
 
 abbrev pub stagedBy : Header → MaskAnswer → BodyKind → ℕ → ℕ → StageAnswer
@@ -72,6 +73,7 @@ answerOf h said found.Empty = stagedBy h said kind.Empty 0 headerBytes
 answerOf h said (found.Constant end) = stagedBy h said kind.Constant 0 end
 answerOf h said (found.Raw at end) = stagedBy h said kind.Raw 0 end
 answerOf h said (found.Blocks at n end) = stagedBy h said kind.Blocks n end
+answerOf h said (found.Huffman delta mode end) = stagedBy h said kind.Huffman 0 end
 answerOf h said (found.Refused r) = stage-answer.Refused r
 
 -- what was found is the body y, and is told as y is

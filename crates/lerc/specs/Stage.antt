@@ -22,7 +22,7 @@ use Rattle.lerc.specs.declared.StageAnswer.{StageAnswer}
 use Rattle.lerc.specs.declared.StageAnswer.the-variants as stage-answer
 use Rattle.lerc.specs.declared.PublishAnswer.{PublishAnswer}
 use Rattle.lerc.specs.declared.PublishAnswer.the-variants as publish-answer
-use Rattle.lerc.specs.Meaning.{Body, empty, constant, raw, blocks, Meaning, endOf, startsOf}
+use Rattle.lerc.specs.Meaning.{Body, empty, constant, raw, blocks, huffman, Meaning, endOf, startsOf}
 use Rattle.lerc.specs.Read.{Lent, Masked, masked, readSays, published}
 
 -- ---- the answer of staging
@@ -33,6 +33,7 @@ kindOf empty = kind.Empty
 kindOf (constant words end) = kind.Constant
 kindOf (raw words end) = kind.Raw
 kindOf (blocks c) = kind.Blocks
+kindOf (huffman delta symbols end) = kind.Huffman
 
 -- which mask is in force, and how long it is
 abbrev pub maskNamed : MaskInForce → MaskAnswer
@@ -86,6 +87,7 @@ kindNumber kind.Empty = 0
 kindNumber kind.Constant = 1
 kindNumber kind.Raw = 2
 kindNumber kind.Blocks = 3
+kindNumber kind.Huffman = 4
 
 abbrev pub sameMask : MaskAnswer → MaskAnswer → Bool
 sameMask (mask.Kept n) (mask.Kept k) = eqb n k

@@ -9,12 +9,13 @@ ghost use Rattle.lerc_header.specs.Header.{shapeOf, extentOf, held};
 ghost use Rattle.lerc_header.specs.Shape.{blockCount};
 ghost use Rattle.lerc_image.specs.Blocks.{allBlocks};
 ghost use Rattle.lerc_image.specs.Walk.{walkSaid, walkOf};
-ghost use Rattle.lerc.specs.Meaning.{missingWordAt, rawBody, blockBody, constantBody, sweptBody, bodySays};
+ghost use Rattle.lerc.specs.Meaning.{missingWordAt, rawBody, blockBody, huffmanBody, constantBody, sweptBody, bodySays};
 ghost use Rattle.lerc.specs.Parts.{Ready, answerOf, stagedBy, maskBy, bodyIn, listAfter, listHolds, imageAfter, Checked, ToWrite, Writable};
 use super::BodyKind;
 use super::StageAnswer;
 use super::Staged;
 use super::linear;
+use lerc_byte_image::EndAnswer;
 use lerc_header::DEPTHS;
 use lerc_header::HEADER;
 use lerc_header::Header;
@@ -30,9 +31,23 @@ use lerc_words::Refusal;
 // What a body is, where its words or blocks begin, and where it ends.
 pub(crate) enum BodyFound {
     Empty,
-    Constant { end: usize },
-    Raw { at: usize, end: usize },
-    Blocks { at: usize, count: usize, end: usize },
+    Constant {
+        end: usize,
+    },
+    Raw {
+        at: usize,
+        end: usize,
+    },
+    Blocks {
+        at: usize,
+        count: usize,
+        end: usize,
+    },
+    Huffman {
+        delta: bool,
+        mode: usize,
+        end: usize,
+    },
     Refused(Refusal),
 }
 
@@ -57,6 +72,11 @@ impl BodyChecked {
                 count,
                 end,
             } => tell(header, mask, BodyKind::Blocks, count, end),
+            BodyFound::Huffman {
+                delta: _delta,
+                mode: _mode,
+                end,
+            } => tell(header, mask, BodyKind::Huffman, 0, end),
             BodyFound::Refused(why) => StageAnswer::Refused(why),
         }
     }
@@ -179,7 +199,19 @@ fn check_blocks(
     }
 }
 
-// the body that a sweep byte announces
+// a Huffman image, all of whose symbols must be right (1, 8); which pixels are valid does not matter, only how many
+fn check_huffman(s: &[u8], h: Header, delta: bool, mode: usize) -> BodyFound
+    requires { ⌜ (held h (length (now s)) ≡ ok (extentOf h)) × (length (now s) ≡ h .size) ⌝ }
+    ensures { λ a. ⌜ ((m words : List ℕ) → Checked (huffmanBody (now (s .entry)) h delta mode) (now (s .entry)) h m words a) ⌝ }
+{
+    let found = lerc_byte_image::check(s, h, mode);
+    let EndAnswer::End(end) = found else {
+        return BodyFound::Refused(found.refusal());
+    };
+    BodyFound::Huffman { delta, mode, end }
+}
+
+// the body that sweep and mode byte announce
 fn check_swept(s: &[u8], h: Header, ranges: Ranges, mask: &[u8], lent: bool) -> BodyFound
     requires { ⌜ Ready (now s) h (maskBy (now s) h lent (now mask)) ⌝ }
     ensures { λ a. ⌜ Checked (sweptBody (now (s .entry)) h ranges (maskBy (now (s .entry)) h lent (now (mask .entry)))) (now (s .entry)) h (maskBy (now (s .entry)) h lent (now (mask .entry))) (ranges .max) a ⌝ }
@@ -188,11 +220,12 @@ fn check_swept(s: &[u8], h: Header, ranges: Ranges, mask: &[u8], lent: bool) -> 
     match way {
         WayAnswer::Raw(at) => check_raw(s, h, at),
         WayAnswer::Blocks(at) => check_blocks(s, h, &ranges.max, at, mask, lent),
+        WayAnswer::Huffman { delta, mode } => check_huffman(s, h, delta, mode),
         WayAnswer::Refused(why) => BodyFound::Refused(why),
     }
 }
 
-// What the body is: empty, constant, raw or in blocks. Nothing is written.
+// What the body is: empty, constant, raw, in blocks or a Huffman image. Nothing is written.
 pub(crate) fn check_body(s: &[u8], h: Header, mask: &[u8], lent: bool) -> BodyChecked
     requires { ⌜ Ready (now s) h (maskBy (now s) h lent (now mask)) ⌝ }
     ensures { λ a. ⌜ Checked (bodySays (now (s .entry)) h (maskBy (now (s .entry)) h lent (now (mask .entry)))) (now (s .entry)) h (maskBy (now (s .entry)) h lent (now (mask .entry))) (a .words) (a .found) ⌝ }
@@ -236,6 +269,11 @@ pub(crate) fn list_body(s: &[u8], h: Header, mask: &[u8], body: BodyChecked, lis
         BodyFound::Empty => {}
         BodyFound::Constant { end: _end } => {}
         BodyFound::Raw { at: _at, end: _end } => {}
+        BodyFound::Huffman {
+            delta: _delta,
+            mode: _mode,
+            end: _end,
+        } => {}
         BodyFound::Refused(_why) => {}
     }
 }
@@ -255,6 +293,11 @@ pub(crate) fn is_listed(s: &[u8], h: Header, mask: &[u8], body: BodyChecked, lis
         BodyFound::Empty => true,
         BodyFound::Constant { end: _end } => true,
         BodyFound::Raw { at: _at, end: _end } => true,
+        BodyFound::Huffman {
+            delta: _delta,
+            mode: _mode,
+            end: _end,
+        } => true,
         BodyFound::Refused(_why) => false,
     }
 }
@@ -287,6 +330,11 @@ pub(crate) fn write_body(
             count: _n,
             end: _end,
         } => lerc_image::fill_tiles(s, h, mask, &words, list, &mut image[..]),
+        BodyFound::Huffman {
+            delta,
+            mode,
+            end: _end,
+        } => lerc_byte_image::write(s, h, mode, delta, mask, &mut image[..]),
         BodyFound::Empty => {}
         BodyFound::Refused(_why) => {}
     }

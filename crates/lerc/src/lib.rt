@@ -29,6 +29,7 @@ pub enum BodyKind {
     Constant,
     Raw,
     Blocks,
+    Huffman,
 }
 
 // What staging found: the header, the kind of body, how many blocks it has and where it ends, and the mask in force.
@@ -130,6 +131,7 @@ fn number_of(kind: BodyKind) -> u32
         BodyKind::Constant => 1,
         BodyKind::Raw => 2,
         BodyKind::Blocks => 3,
+        BodyKind::Huffman => 4,
     }
 }
 

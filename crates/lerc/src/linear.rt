@@ -8,7 +8,8 @@ ghost use Rattle.lerc_header.specs.Shape.{cells, Shaped};
 ghost use Rattle.lerc_mask.specs.Mask.{validBelow};
 ghost use Rattle.lerc_image.specs.Geometry.{isValidCell};
 ghost use Rattle.lerc_image.specs.Paint.{painted};
-ghost use Rattle.lerc.specs.Linear.{within, depthWord, rawWord, RawAsked};
+ghost use Rattle.lerc_image.specs.Cells.{within};
+ghost use Rattle.lerc.specs.Linear.{depthWord, rawWord, RawAsked};
 use lerc_header::Shape;
 
 // one pixel of a constant body: a word for each depth; one word alone is no copy's worth

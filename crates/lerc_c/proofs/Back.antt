@@ -69,11 +69,12 @@ ranges-back r l p q =
 
 -- ---- an answer of staging
 
-kind-fits : (k : BodyKind) → ltb (kindNumber k) 4 ≡ true
+kind-fits : (k : BodyKind) → ltb (kindNumber k) 5 ≡ true
 kind-fits kind.Empty = refl
 kind-fits kind.Constant = refl
 kind-fits kind.Raw = refl
 kind-fits kind.Blocks = refl
+kind-fits kind.Huffman = refl
 
 kind-back : (k : BodyKind) → kindFrom (kindNumber k) ≡ k
 unfolding kindFrom
@@ -81,6 +82,7 @@ kind-back kind.Empty = refl
 kind-back kind.Constant = refl
 kind-back kind.Raw = refl
 kind-back kind.Blocks = refl
+kind-back kind.Huffman = refl
 
 -- it names the kept mask or the spare, and so does its record
 record Named (m : MaskAnswer) : Type 0 where

@@ -2,6 +2,7 @@
 -- Assumes nothing.
 use Prim.Native.Nat.{ℕ, zero, suc, _+_, _*_, _/_, _%_, _-_, _≤_}
 use mathlib.Core.Path.{_≡_, refl}
+use mathlib.Core.Logic.{⊎-elim}
 use mathlib.Core.Bool.{Bool, true, false, cond, not, _&&_}
 use mathlib.Core.List.{List, [], _∷_}
 use native.Mathlib.Omega.{arith}
@@ -27,11 +28,14 @@ use Rattle.lerc_validity.specs.Validity.{bytesOf, uniform, kept, unrolled, mask
 use Rattle.lerc_ranges.specs.Ranges.{rangesEnd, wrongNumberAt, pairsRight, codedRanges, rangesSays, readRangesSays, constantWords}
 use Rattle.lerc_block.specs.Block.{rawWords, levelBlock, steppedBlock, offsetAt, finiteOffset, offsetBlock, formed, flagAt, blockSays}
 use Rattle.lerc_image.specs.Geometry.{tileOf, validInTile}
-use Rattle.lerc_sweep.specs.Sweep.{Way, rawFrom, blocksFrom, hasModeByte, modeByte, moded, sweepByte, swept}
+use Rattle.lerc_sweep.specs.Sweep.{Way, rawFrom, blocksFrom, huffmanFrom, hasModeByte, modeByte, moded, sweepByte, swept}
 use Rattle.lerc_image.specs.Blocks.{blockAt, chain, allBlocks}
 use Rattle.lerc_image.specs.Walk.{wayWalked, bodyWalked, walkSays}
 use Rattle.lerc_image.specs.Fill.{fillSays}
-use Rattle.lerc.specs.Meaning.{missingWordAt, rawBody, blockBody, bodyFrom, sweptBody, constantBody, bodySays, meaningFrom}
+use Rattle.lerc_byte_image.specs.Symbols.{codedAt}
+use Rattle.lerc_byte_image.specs.Image.{imageAt}
+use Rattle.lerc_byte_image.proofs.Refusals.{coded-no}
+use Rattle.lerc.specs.Meaning.{missingWordAt, rawBody, blockBody, huffmanBody, bodyFrom, sweptBody, constantBody, bodySays, meaningFrom}
 use Rattle.lerc.specs.Read.{Lent, room, masked, readSays}
 use Rattle.lerc.specs.declared.StageAnswer.{StageAnswer}
 use Rattle.lerc.specs.Stage.{wasStaged, publishSays}
@@ -230,7 +234,7 @@ ranges-n s h =
 
 mode-n : (s : List ℕ) (at : ℕ) → Numbered (modeByte s at)
 unfolding modeByte
-mode-n s at = andThen (wordAt 1 s at) (word-n 1 s at) (λ mode. check (ltb mode 3) 8 refl (λ _. check (eqb mode 0) 10 refl (λ _. accepted _)))
+mode-n s at = andThen (wordAt 1 s at) (word-n 1 s at) (λ mode. check (ltb mode 3) 8 refl (λ _. accepted _))
 
 sweep-n : (s : List ℕ) (at : ℕ) → Numbered (sweepByte s at)
 unfolding sweepByte
@@ -242,13 +246,21 @@ swept-n s kind error at =
     andThen (marked at (sweepByte s at)) (at-place at (sweepByte s at) (sweep-n s at)) (λ sweep.
     either (eqb sweep 1) (accepted _) (either (hasModeByte kind error) (at-place (at + 1) (modeByte s (at + 1)) (mode-n s (at + 1))) (accepted _)))
 
+-- of a Huffman image: 1 or 8
+image-n : (s : List ℕ) (h : Header) (mode : ℕ) → Numbered (imageAt s h mode)
+unfolding imageAt
+image-n s h mode =
+    let n = h .valid * h .depth in
+    at-place mode (codedAt s (mode + 1) n) (record { number = λ r e. ⊎-elim (λ d. rw (d)) (λ d. rw (d)) (coded-no s (mode + 1) n e) })
+
 bodyFrom-n : (s : List ℕ) (h : Header) (r : Ranges) (m : List ℕ) (w : Way) → Numbered (bodyFrom s h r m w)
-unfolding rawBody blockBody
+unfolding rawBody blockBody huffmanBody
 bodyFrom-n s h r m (rawFrom at) =
     let place = missingWordAt (length s) at (h .kind) in
     let words = rawWords s at (h .kind) (h .valid * h .depth) in
     andThen (marked place words) (at-place place words (raw-n s at (h .kind) (h .valid * h .depth))) (λ b. accepted _)
 bodyFrom-n s h r m (blocksFrom at) = andThen (allBlocks s h (r .max) m at) (chain-n s h (r .max) m (blockCount (shapeOf h)) 0 at) (λ c. accepted _)
+bodyFrom-n s h r m (huffmanFrom delta mode) = andThen (imageAt s h mode) (image-n s h mode) (λ c. accepted _)
 
 body-n : (s : List ℕ) (h : Header) (m : List ℕ) → Numbered (bodySays s h m)
 unfolding bodySays constantBody sweptBody constantWords
@@ -262,6 +274,7 @@ walked-n : (s : List ℕ) (h : Header) (maxima m : List ℕ) (sweep : ℕ) (w : 
 unfolding wayWalked
 walked-n s h maxima m sweep (rawFrom at) = at-place sweep (fail (refuse 10)) (refused 10 refl)
 walked-n s h maxima m sweep (blocksFrom at) = chain-n s h maxima m (blockCount (shapeOf h)) 0 at
+walked-n s h maxima m sweep (huffmanFrom delta mode) = at-place mode (fail (refuse 10)) (refused 10 refl)
 
 -- ---- the reader
 

@@ -111,17 +111,17 @@ abbrev pub stagedNumbers : Staged → List ℕ
 stagedNumbers s =
     headerNumbers (s .header) ++ (s .blocks ∷ s .end ∷ kindNumber (s .body) ∷ maskNumber (s .mask) ∷ maskLength (s .mask) ∷ [])
 
--- the kind of body that a number below 4 stands for
+-- the kind of body that a number below 5 stands for
 unfoldable pub kindFrom : ℕ → BodyKind
-kindFrom n = cond (eqb n 0) kind.Empty (cond (eqb n 1) kind.Constant (cond (eqb n 2) kind.Raw kind.Blocks))
+kindFrom n = cond (eqb n 0) kind.Empty (cond (eqb n 1) kind.Constant (cond (eqb n 2) kind.Raw (cond (eqb n 3) kind.Blocks kind.Huffman)))
 
 -- the mask that 1 or 2 stands for
 unfoldable pub maskFrom : ℕ → ℕ → MaskAnswer
 maskFrom which n = cond (eqb which 1) (mask.Kept n) (mask.Spare n)
 
--- a kind of body above 3, or a mask that is neither 1 nor 2, is none
+-- a kind of body above 4, or a mask that is neither 1 nor 2, is none
 unfoldable pub namesRight : List ℕ → Bool
-namesRight l = ltb (getD l 13 0) 4 && ltb 0 (getD l 14 0) && ltb (getD l 14 0) 3
+namesRight l = ltb (getD l 13 0) 5 && ltb 0 (getD l 14 0) && ltb (getD l 14 0) 3
 
 unfoldable pub stagedIn : List ℕ → Res Staged
 stagedIn l = do

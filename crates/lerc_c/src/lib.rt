@@ -60,7 +60,7 @@ pub extern "C" fn lerc2_read(
 }
 
 // All checking of one blob, image and kept mask only looked at: `staged` is the header, the count of blocks and the body's end,
-// its kind (0 empty, 1 constant, 2 raw, 3 blocks), the mask in force (1 the kept one, 2 the spare) and its length.
+// its kind (0 empty, 1 constant, 2 raw, 3 blocks, 4 Huffman), the mask in force (1 the kept one, 2 the spare) and its length.
 #[no_mangle]
 pub extern "C" fn lerc2_stage(
     blob: &[u8],

@@ -24,6 +24,7 @@ fn kind_number(kind: BodyKind) -> u64
         BodyKind::Constant => 1,
         BodyKind::Raw => 2,
         BodyKind::Blocks => 3,
+        BodyKind::Huffman => 4,
     }
 }
 
@@ -77,7 +78,10 @@ fn kind_from(n: u64) -> BodyKind
     if n == 2 {
         return BodyKind::Raw;
     }
-    BodyKind::Blocks
+    if n == 3 {
+        return BodyKind::Blocks;
+    }
+    BodyKind::Huffman
 }
 
 fn mask_from(which: u64, n: usize) -> MaskAnswer
@@ -98,7 +102,7 @@ pub(crate) fn staged_from(l: &[u64]) -> StageAnswer
     let HeaderAnswer::Read(header) = found else {
         return StageAnswer::Refused(Refusal { number: 0, at: 0 });
     };
-    let named = (l[13] < 4) & (0 < l[14]) & (l[14] < 3);
+    let named = (l[13] < 5) & (0 < l[14]) & (l[14] < 3);
     if !named {
         return StageAnswer::Refused(Refusal { number: 0, at: 0 });
     }

@@ -108,7 +108,7 @@ names l = record {
   good = λ e. let (e, few) = and-is _ _ e in let (body, some) = and-is _ _ e in λ w. go (ltb-true _ _ body) (ltb-true _ _ some) (ltb-true _ _ few) w;
 }
   where
-    go : getD l 13 0 < 4 → 0 < getD l 14 0 → getD l 14 0 < 3 → NameWide l → ⊥
+    go : getD l 13 0 < 5 → 0 < getD l 14 0 → getD l 14 0 < 3 → NameWide l → ⊥
     go body some few (body-wide w) = omega (arith, body, w)
     go body some few (mask-none w) = omega (arith, some, w)
     go body some few (mask-many w) = omega (arith, few, w)
@@ -463,8 +463,8 @@ only {left = left} l p none five three rest k a (suc n) x q =
 
 stage-only : StageOnly
 stage-only =
-    let l : List ℕ = 0 ∷ 1 ∷ 2 ∷ 3 ∷ 4 ∷ 5 ∷ 6 ∷ 7 ∷ 8 ∷ 9 ∷ 10 ∷ 13 ∷ [] in
-    only l stage-places refl refl (λ a w. refl) (λ a why. whole-in (In l) refl refl refl refl refl refl refl refl refl refl refl)
+    let l : List ℕ = 0 ∷ 1 ∷ 2 ∷ 3 ∷ 4 ∷ 5 ∷ 6 ∷ 7 ∷ 8 ∷ 9 ∷ 13 ∷ [] in
+    only l stage-places refl refl (λ a w. refl) (λ a why. whole-in (In l) refl refl refl refl refl refl refl refl refl refl)
 
 -- 3 is also of what staging did not give
 publish-in : {b : List ℕ} {reuse : Bool} {given : StageAnswer} {l : Lent} (P : ℕ → Type 0) → P 3 → ((why : Refusal) → WholeRefused b reuse l why → P (why .number)) → (why : Refusal)
@@ -474,8 +474,8 @@ publish-in P three whole why (publish-given m e other) = three
 
 publish-only : PublishOnly
 publish-only =
-    let l : List ℕ = 0 ∷ 1 ∷ 2 ∷ 3 ∷ 4 ∷ 5 ∷ 6 ∷ 7 ∷ 8 ∷ 9 ∷ 10 ∷ 13 ∷ [] in
-    only l publish-places refl refl (λ a w. refl) (λ a. publish-in (In l) refl (λ why. whole-in (In l) refl refl refl refl refl refl refl refl refl refl refl))
+    let l : List ℕ = 0 ∷ 1 ∷ 2 ∷ 3 ∷ 4 ∷ 5 ∷ 6 ∷ 7 ∷ 8 ∷ 9 ∷ 13 ∷ [] in
+    only l publish-places refl refl (λ a w. refl) (λ a. publish-in (In l) refl (λ why. whole-in (In l) refl refl refl refl refl refl refl refl refl refl))
 
 pack-open-only : PackOpenOnly
 pack-open-only = let l : List ℕ = 0 ∷ 5 ∷ 12 ∷ [] in only l pack-open-places refl refl (λ a w. absurd w) (λ a. pack-in (In l) refl)
@@ -493,7 +493,7 @@ numbers-only-in-c = record {
   read-ranges = let l : List ℕ = 0 ∷ 1 ∷ 3 ∷ 4 ∷ 5 ∷ 7 ∷ [] in only l (places-exactly-in-c .read-ranges) refl refl (λ a w. refl) (λ a why. read-ranges-in (In l) refl refl refl refl);
   walk = let l : List ℕ = 0 ∷ 1 ∷ 3 ∷ 4 ∷ 5 ∷ 7 ∷ 8 ∷ 9 ∷ 10 ∷ [] in only l (places-exactly-in-c .walk) refl refl (λ a w. refl) (λ a why. walk-in (In l) refl refl refl refl refl refl refl refl);
   fill = let l : List ℕ = 0 ∷ 1 ∷ 3 ∷ 4 ∷ 5 ∷ 7 ∷ 8 ∷ 9 ∷ 11 ∷ [] in only l (places-exactly-in-c .fill) refl refl (λ a w. refl) (λ a why. fill-in (In l) refl refl refl refl refl refl refl refl);
-  read = let l : List ℕ = 0 ∷ 1 ∷ 2 ∷ 3 ∷ 4 ∷ 5 ∷ 6 ∷ 7 ∷ 8 ∷ 9 ∷ 10 ∷ 13 ∷ [] in only l (places-exactly-in-c .read) refl refl (λ a w. refl) (λ a why. whole-in (In l) refl refl refl refl refl refl refl refl refl refl refl);
+  read = let l : List ℕ = 0 ∷ 1 ∷ 2 ∷ 3 ∷ 4 ∷ 5 ∷ 6 ∷ 7 ∷ 8 ∷ 9 ∷ 13 ∷ [] in only l (places-exactly-in-c .read) refl refl (λ a w. refl) (λ a why. whole-in (In l) refl refl refl refl refl refl refl refl refl refl);
   stage = stage-only;
   publish = publish-only;
   pack-open = pack-open-only;

@@ -102,13 +102,14 @@ unfolding firsts
 take-firsts zero l h = refl
 take-firsts (suc n) l h = let k : n ≤ length l = omega (arith, h) in take-suc l n 0 h ∙ ap (λ (x : List ℕ). x ++ (getD l n 0 ∷ [])) (take-firsts n l k)
 
-kind-forth : (n : ℕ) → n < 4 → kindNumber (kindFrom n) ≡ n
+kind-forth : (n : ℕ) → n < 5 → kindNumber (kindFrom n) ≡ n
 unfolding kindFrom
 kind-forth zero h = refl
 kind-forth (suc zero) h = refl
 kind-forth (suc (suc zero)) h = refl
 kind-forth (suc (suc (suc zero))) h = refl
-kind-forth (suc (suc (suc (suc n)))) h = absurd (omega (arith, h))
+kind-forth (suc (suc (suc (suc zero)))) h = refl
+kind-forth (suc (suc (suc (suc (suc n))))) h = absurd (omega (arith, h))
 
 mask-forth : (which n : ℕ) → 0 < which → which < 3 → (maskNumber (maskFrom which n) ≡ which) × (maskLength (maskFrom which n) ≡ n)
 unfolding maskFrom
@@ -133,8 +134,8 @@ answered l {a} e = go (fieldsFit l) (namesRight l) e
 numbers-are : (l : List ℕ) → stagedRoom ≤ length l → namesRight l ≡ true → take stagedRoom l ≡ stagedNumbers (stagedAt l)
 unfolding namesRight firsts
 numbers-are l h e =
-    let (e, few) = and-is (ltb (getD l 13 0) 4 && ltb 0 (getD l 14 0)) (ltb (getD l 14 0) 3) e in
-    let (body, some) = and-is (ltb (getD l 13 0) 4) (ltb 0 (getD l 14 0)) e in
+    let (e, few) = and-is (ltb (getD l 13 0) 5 && ltb 0 (getD l 14 0)) (ltb (getD l 14 0) 3) e in
+    let (body, some) = and-is (ltb (getD l 13 0) 5) (ltb 0 (getD l 14 0)) e in
     let k = kind-forth (getD l 13 0) (ltb-true _ _ body) in
     let (w, n) = mask-forth (getD l 14 0) (getD l 15 0) (ltb-true _ _ some) (ltb-true _ _ few) in
     take-firsts stagedRoom l h ∙ rw (k, w, n)

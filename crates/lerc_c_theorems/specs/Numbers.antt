@@ -68,9 +68,9 @@ pub data HeaderWide (header : List ℕ) : Type 0 where
 abbrev pub MarkWide : List ℕ → Type 0
 MarkWide ranges = 2 ≤ getD ranges 1 0
 
--- a kind of body above 3, or a mask that is neither 1 nor 2
+-- a kind of body above 4, or a mask that is neither 1 nor 2
 pub data NameWide (staged : List ℕ) : Type 0 where
-  body-wide : 4 ≤ getD staged 13 0 → NameWide staged
+  body-wide : 5 ≤ getD staged 13 0 → NameWide staged
   mask-none : getD staged 14 0 ≡ 0 → NameWide staged
   mask-many : 3 ≤ getD staged 14 0 → NameWide staged
 
@@ -184,11 +184,12 @@ PlacesExactlyInC = EachEntry Exactly
 abbrev pub OnlyInC : {K A O : Type 0} → (K → A → ℕ → O → Type 0) → List ℕ → Type 0
 OnlyInC {K} {A} {O} Post numbers = (k : K) (a : A) (n : ℕ) (x : O) → Post k a n x → among numbers n ≡ true
 
+-- 10 is of a walk alone
 abbrev pub StageOnly : Type 0
-StageOnly = OnlyInC stage.Post (0 ∷ 1 ∷ 2 ∷ 3 ∷ 4 ∷ 5 ∷ 6 ∷ 7 ∷ 8 ∷ 9 ∷ 10 ∷ 13 ∷ [])
+StageOnly = OnlyInC stage.Post (0 ∷ 1 ∷ 2 ∷ 3 ∷ 4 ∷ 5 ∷ 6 ∷ 7 ∷ 8 ∷ 9 ∷ 13 ∷ [])
 
 abbrev pub PublishOnly : Type 0
-PublishOnly = OnlyInC publish.Post (0 ∷ 1 ∷ 2 ∷ 3 ∷ 4 ∷ 5 ∷ 6 ∷ 7 ∷ 8 ∷ 9 ∷ 10 ∷ 13 ∷ [])
+PublishOnly = OnlyInC publish.Post (0 ∷ 1 ∷ 2 ∷ 3 ∷ 4 ∷ 5 ∷ 6 ∷ 7 ∷ 8 ∷ 9 ∷ 13 ∷ [])
 
 -- 12 is of packs alone
 abbrev pub PackOpenOnly : Type 0
@@ -206,7 +207,7 @@ pub record NumbersOnlyInC : Type 0 where
   pub read-ranges : OnlyInC read-ranges.Post (0 ∷ 1 ∷ 3 ∷ 4 ∷ 5 ∷ 7 ∷ [])
   pub walk : OnlyInC walk.Post (0 ∷ 1 ∷ 3 ∷ 4 ∷ 5 ∷ 7 ∷ 8 ∷ 9 ∷ 10 ∷ [])
   pub fill : OnlyInC fill.Post (0 ∷ 1 ∷ 3 ∷ 4 ∷ 5 ∷ 7 ∷ 8 ∷ 9 ∷ 11 ∷ [])
-  pub read : OnlyInC read.Post (0 ∷ 1 ∷ 2 ∷ 3 ∷ 4 ∷ 5 ∷ 6 ∷ 7 ∷ 8 ∷ 9 ∷ 10 ∷ 13 ∷ [])
+  pub read : OnlyInC read.Post (0 ∷ 1 ∷ 2 ∷ 3 ∷ 4 ∷ 5 ∷ 6 ∷ 7 ∷ 8 ∷ 9 ∷ 13 ∷ [])
   pub stage : StageOnly
   pub publish : PublishOnly
   pub stored : OnlyInC stored.Post (0 ∷ 5 ∷ 9 ∷ [])

@@ -10,6 +10,7 @@ use Rattle.lerc_places.proofs.Unplaced.{unplaced}
 use Rattle.lerc_summed.proofs.Summed.{claims as summed}
 use Rattle.lerc_staged.proofs.Staged.{claims as staged}
 use Rattle.lerc_pack_theorems.proofs.Packs.{pack-claims}
+use Rattle.lerc_byte_theorems.proofs.Images.{byte-claims}
 use Rattle.lerc_contracts.proofs.Upstream.{upstream}
 use Rattle.lerc_program.proofs.Example.{computed}
 use Rattle.lerc_claims.specs.Claims.{Claims}
@@ -28,6 +29,7 @@ claims = record {
   summed = summed;
   staged = staged;
   packs = pack-claims;
+  bytes = byte-claims;
   upstream = upstream;
   program = program;
   worked = cases;

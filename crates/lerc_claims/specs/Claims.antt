@@ -12,6 +12,7 @@ use Rattle.lerc_places.specs.Unplaced.{Unplaced}
 use Rattle.lerc_summed.specs.Summed.{Summed}
 use Rattle.lerc_staged.specs.Staged.{StagedClaims}
 use Rattle.lerc_pack_theorems.specs.Packs.{PackClaims}
+use Rattle.lerc_byte_theorems.specs.Images.{ByteClaims}
 use Rattle.lerc_contracts.specs.Upstream.{Upstream}
 use Rattle.lerc_program.proofs.Example.{Computed}
 use Rattle.lerc_claims.specs.Arithmetic.{Arithmetic}
@@ -38,6 +39,8 @@ pub record Claims : Type 0 where
   pub staged : StagedClaims
   -- "A field is many tiles": packs and contents, one to one; what is refused, handed out and written
   pub packs : PackClaims
+  -- "Huffman byte images": one code at a place, one image, its prediction cell by cell
+  pub bytes : ByteClaims
   -- upstream's contracts, clause by clause
   pub upstream : Upstream
   -- the program's text

@@ -53,7 +53,7 @@ use Rattle.lerc_contracts.specs.Outside.{said, is-some}
 use Rattle.lerc_contracts.specs.Block.{ResultModel}
 use Rattle.lerc_contracts.specs.Between.{tiledImage, roomFor, theirTiles, theirRaw, theirConstant, bodied}
 use Rattle.lerc_contracts.specs.ImageClauses.{DecodeTilesClauses, DecodeLinearClauses, RawBodyClauses, ConstantBodyClauses, WholeReadClauses}
-use Rattle.lerc_contracts.proofs.WithoutNumber.{told-some, said-is}
+use Rattle.lerc_contracts.proofs.WithoutNumber.{told-some, said-is, result-is}
 use Rattle.lerc_contracts.proofs.Refusals.{blob-short}
 use Rattle.lerc_contracts.proofs.Image.{tiles-is}
 use Rattle.lerc_contracts.proofs.Linear.{constant-is, raw-is}
@@ -67,9 +67,6 @@ past h mask image word j l o = painted-cell image word (isValidCell (shapeOf h) 
         let k : cells (shapeOf h) ≤ j = rw (← mul-comm (h .columns) (h .rows)) l in
         absurd (omega (arith, valid-below (shapeOf h) mask j e))
     go false e = refl
-
-result-is : {a c : ℕ} {x y : List ℕ} → a ≡ c → x ≡ y → _≡_ {A = Option ResultModel} (some (record { at = a; image = x })) (some (record { at = c; image = y }))
-result-is p q = rw (p, q)
 
 -- ---- `decode_tiles`
 
@@ -171,17 +168,17 @@ module _ (m : Res Body) (h : Header) (force : MaskAnswer) (mask : List ℕ) (a :
       rw (p) (length-painted old _ _, λ j l o. past h mask old (cellWord h mask c) j l o)
 
   -- the body that was read
-  read-body : (w : Staged) → stageSaid a ≡ ok w → (x : Res Body) → m ≡ x → (c : Body) × (m ≡ ok c) × (w .end ≡ endOf c) × (new ≡ bodyImage h mask old c)
+  pub read-body : (w : Staged) → stageSaid a ≡ ok w → (x : Res Body) → m ≡ x → (c : Body) × (m ≡ ok c) × (w .end ≡ endOf c) × (new ≡ bodyImage h mask old c)
   read-body w e (ok c) d =
       let z : ok w ≡ ok (stagedBody h force c) = sym e ∙ promise .says ∙ rw (d) in
       (c, d, ap (λ (x : Staged). x .end) (ok-is z), promise .image ∙ rw (d))
   read-body w e (fail q) d = absurd (let z : _≡_ {A = Res Staged} (ok w) (fail q) = sym e ∙ promise .says ∙ rw (d) in let o : _≡_ {A = ℕ} 0 1 = cc in omega arith)
 
   module _ (t : Option ResultModel) (same : t ≡ said (bodied h mask old) m) where
-    linear-ok : accepts (stageSaid a) ≡ is-some t
+    pub linear-ok : accepts (stageSaid a) ≡ is-some t
     linear-ok = rw (promise .says, same) (told-some {B = Staged} (λ c. stagedBody h force c) (bodied h mask old) m)
 
-    linear-result : (w : Staged) → stageSaid a ≡ ok w → t ≡ some (record { at = w .end; image = new })
+    pub linear-result : (w : Staged) → stageSaid a ≡ ok w → t ≡ some (record { at = w .end; image = new })
     linear-result w e =
         let (c, d, p, q) = read-body w e m refl in
         same ∙ ap (said (bodied h mask old)) d ∙ sym (result-is p q)

@@ -1,6 +1,7 @@
 pub mod WithoutNumber
 pub mod Lists
 pub mod Refusals
+pub mod CellOrder
 pub mod Bits
 pub mod Planes
 pub mod Walking
@@ -10,6 +11,9 @@ pub mod Linear
 pub mod BlockClauses
 pub mod ModeClauses
 pub mod ImageClauses
+pub mod ByteOrder
+pub mod ByteImage
+pub mod ByteClauses
 pub mod Numeric
 pub mod Rounding
 pub mod Pack

@@ -3,39 +3,39 @@
 use mathlib.Core.Path.{_≡_, refl, sym, ap, _∙_}
 use mathlib.Core.Bool.{Bool, true, false, and-false}
 use mathlib.Core.List.{List, _++_}
-use mathlib.Core.Logic.{_≢_}
 use mathlib.Core.Option.{Option, none, some}
-use Prim.Native.Nat.{ℕ, zero, suc, _+_, _*_, _/_, _%_, _≤_, _<_}
+use Prim.Native.Nat.{ℕ, zero, suc, _+_, _*_, _/_, _≤_, _<_}
 use native.Mathlib.Omega.{arith}
-use native.Mathlib.Nat.{mul-comm, suc-mul, zero-mul, add-zero, mul-le-mul-right, div-add-mod', mod-lt}
+use native.Mathlib.Nat.{suc-mul, zero-mul, add-zero, mul-le-mul-right}
 use native.Mathlib.Numerals.{add-one}
 use native.Mathlib.Decide.{decLt, decLe}
-use borrow.Author.Tests.{lt-ltb, le-ltb, le-leb, lt-leb, eq-eqb, ne-eqb, eqb-true, eqb-false}
-use lib.Arith.{digits-div}
+use borrow.Author.Tests.{lt-ltb, le-leb, lt-leb, eq-eqb, ne-eqb, eqb-true, eqb-false}
 use lib.Dec.{ltb, eqb}
 use lib.ListN.{length, set}
 use Rattle.lerc_words.specs.Res.{little}
 use Rattle.lerc_words.specs.Lists.{count, tabulate}
-use Rattle.lerc_words.proofs.Counts.{count-zero, count-more, count-mono, count-plus, count-rows, count-all}
+use Rattle.lerc_words.proofs.Counts.{count-zero, count-more, count-mono}
 use Rattle.lerc_numeric.specs.Kinds.{typeSize}
 use Rattle.lerc_header.specs.declared.Header.{Header}
 use Rattle.lerc_header.specs.Header.{shapeOf}
-use Rattle.lerc_header.specs.Shape.{Shaped, pixels, cells}
-use Rattle.lerc_mask.specs.Mask.{pixelValid, validBelow}
+use Rattle.lerc_header.specs.Shape.{Shaped, cells}
+use Rattle.lerc_mask.specs.Mask.{pixelValid}
 use Rattle.lerc_block.specs.Block.{rawWords}
 use Rattle.lerc_image.specs.Geometry.{isValidCell}
 use Rattle.lerc_image.specs.Paint.{painted}
 use Rattle.lerc_image.proofs.Painting.{painted-same, painted-set, painted-words}
 use Rattle.lerc.specs.Meaning.{rawBody}
 use Rattle.lerc.specs.Meaning as body
-use Rattle.lerc.specs.Linear.{validUpto, depthWord, rawWord}
-use Rattle.lerc.proofs.Pixels.{upto-none, upto-all}
-use Rattle.lerc.proofs.Bodies.{valid-at, image-constant, image-raw}
+use Rattle.lerc_image.specs.Cells.{validUpto}
+use Rattle.lerc_image.proofs.Pixels.{upto-none, upto-all, valid-at}
+use Rattle.lerc.specs.Linear.{depthWord, rawWord}
+use Rattle.lerc.proofs.Bodies.{image-constant, image-raw}
 use Rattle.lerc_contracts.specs.Outside.{said}
 use Rattle.lerc_contracts.specs.Block.{ResultModel}
 use Rattle.lerc_contracts.specs.Image.{linearValue, linear}
 use Rattle.lerc_contracts.specs.Between.{usedTo, bodied}
 use Rattle.lerc_contracts.specs.ImageClauses.{ConstantIs, RawIs, LinearValueCases, LinearCases}
+use Rattle.lerc_contracts.proofs.CellOrder.{cells-are, near, before-is, all-are}
 
 -- ---- `linear_value`, and one step of `linear`
 
@@ -47,10 +47,6 @@ module _ (s : List ℕ) (h : Header) (at k : ℕ) (constants : List ℕ) where
     value-past = λ l. rw (lt-leb (at + typeSize (h .kind)) (length s) l);
     value-raw = λ l. rw (le-leb (at + typeSize (h .kind)) (length s) l);
   }
-
--- upstream's count of cells
-cells-are : (h : Header) → h .columns * h .rows * h .depth ≡ cells (shapeOf h)
-cells-are h = rw (mul-comm (h .columns) (h .rows))
 
 module _ (s : List ℕ) (h : Header) (mask constants : List ℕ) (raw : Bool) where
   -- 5.36
@@ -78,13 +74,6 @@ module _ (s : List ℕ) (h : Header) (mask constants : List ℕ) (raw : Bool) wh
   }
 
 -- ---- all cells
-
-near : (c k : ℕ) → c ≢ k → ltb c (k + 1) ≡ ltb c k
-near c k d = go (decLt c k)
-  where
-    go : Dec (c < k) → ltb c (k + 1) ≡ ltb c k
-    go (yes p) = rw (lt-ltb c k p, lt-ltb c (k + 1) (omega arith))
-    go (no p) = rw (le-ltb c k (omega arith), le-ltb c (k + 1) (omega arith))
 
 module _ (h : Header) (mask image : List ℕ) (word : ℕ → ℕ) (room : cells (shapeOf h) ≤ length image) where
   -- the image once the first k cells are done
@@ -198,20 +187,6 @@ module _ (s : List ℕ) (h : Header) (g : Shaped (shapeOf h)) (mask image : List
       (linear-all h mask image (depthWord (shapeOf h) (words ++ rest)) room s (words ++ rest) false (λ i. at) (λ k l v. linear-value-cases s h at k (words ++ rest) .value-constant) (cells (shapeOf h)) 0 (omega arith) (omega arith)
       ∙ ap (λ (o : List ℕ). some (record { at = at; image = o })) (upto-all (shapeOf h) mask image (depthWord (shapeOf h) (words ++ rest)) ∙ image-constant h mask image words rest at (g .depth .0) e))
 
-  -- the valid cells before a valid cell
-  before-is : (c : ℕ) → pixelValid mask (c / h .depth) ≡ true → count c (λ i. pixelValid mask (i / h .depth)) ≡ validBelow (c / h .depth) mask * h .depth + c % h .depth
-  before-is c v =
-      let p = c / h .depth in
-      let b = c % h .depth in
-      let e : c ≡ b + p * h .depth = omega (arith, div-add-mod' c (h .depth)) in
-      let l : b < h .depth = mod-lt c (g .depth .0) in
-      let f : count b (λ i. pixelValid mask ((i + p * h .depth) / h .depth)) ≡ b =
-      count-all b (λ i. pixelValid mask ((i + p * h .depth) / h .depth)) (λ i k. let z : i + p * h .depth ≡ p * h .depth + i = omega arith in let o : i < h .depth = omega arith in rw (z, digits-div p o) v) in
-      ap (λ (x : ℕ). count x (λ i. pixelValid mask (i / h .depth))) e ∙ count-plus (p * h .depth) b (λ i. pixelValid mask (i / h .depth)) ∙ rw (f, count-rows (h .depth) p (pixelValid mask))
-
-  all-are : count (cells (shapeOf h)) (λ i. pixelValid mask (i / h .depth)) ≡ validBelow (pixels (shapeOf h)) mask * h .depth
-  all-are = count-rows (h .depth) (pixels (shapeOf h)) (pixelValid mask)
-
   -- A RAW BODY
   pub raw-is : RawIs s h mask image
   unfolding rawBody rawWords
@@ -224,7 +199,7 @@ module _ (s : List ℕ) (h : Header) (g : Shaped (shapeOf h)) (mask image : List
       n k = count k (λ c. pixelValid mask (c / h .depth))
 
       total : n (cells (shapeOf h)) ≡ h .valid * h .depth
-      total = all-are ∙ ap (λ (x : ℕ). x * h .depth) counts
+      total = all-are h (g .depth .0) mask ∙ ap (λ (x : ℕ). x * h .depth) counts
 
       word : ℕ → ℕ
       word c = little (typeSize (h .kind)) s (at + count c (λ c. pixelValid mask (c / h .depth)) * typeSize (h .kind))
@@ -233,7 +208,7 @@ module _ (s : List ℕ) (h : Header) (g : Shaped (shapeOf h)) (mask image : List
       first = rw (zero-mul) (add-zero at)
 
       words-are : painted image (isValidCell (shapeOf h) mask) word ≡ painted image (isValidCell (shapeOf h) mask) (rawWord s at (typeSize (h .kind)) (shapeOf h) mask)
-      words-are = painted-words image word (rawWord s at (typeSize (h .kind)) (shapeOf h) mask) (isValidCell (shapeOf h) mask) (λ c q. let v = valid-at (shapeOf h) mask c q in rw (before-is c (v .valid)))
+      words-are = painted-words image word (rawWord s at (typeSize (h .kind)) (shapeOf h) mask) (isValidCell (shapeOf h) mask) (λ c q. let v = valid-at (shapeOf h) mask c q in rw (before-is h (g .depth .0) mask c (v .valid)))
 
       stepped : (k : ℕ) → k < cells (shapeOf h) → pixelValid mask (k / h .depth) ≡ true → at + h .valid * h .depth * typeSize (h .kind) ≤ length s
           → linearValue s h (at + n k * z) k true constants ≡ some (record { at = at + (n k + 1) * z; value = word k })

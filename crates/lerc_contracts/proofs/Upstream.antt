@@ -5,6 +5,7 @@ use Rattle.lerc_contracts.specs.BitsClauses.{BitsClauses}
 use Rattle.lerc_contracts.specs.PlanesClauses.{PlanesClauses}
 use Rattle.lerc_contracts.specs.BlockClauses.{BlockClauses}
 use Rattle.lerc_contracts.specs.ImageClauses.{ImageClauses}
+use Rattle.lerc_contracts.specs.ByteClauses.{ByteClauses}
 use Rattle.lerc_contracts.specs.NativeClauses.{NativeClauses}
 use Rattle.lerc_contracts.specs.Upstream.{Upstream}
 use Rattle.lerc_contracts.proofs.Numeric.{finite-is, parts-clauses, top-small, top-is, minimum-is, less-is, size-is as numeric-size-is, size-one-of, rounded-is, significand-wide, sticky-is, jam-small, number-wide, number-kind, integer-kind, to-integer-clauses}
@@ -23,6 +24,9 @@ use Rattle.lerc_contracts.proofs.ModeClauses.{mode-is, read-mode-clause
 use Rattle.lerc_contracts.proofs.Image.{tile-is, next-is, position-clauses, tiles-cases}
 use Rattle.lerc_contracts.proofs.Linear.{linear-value-cases, linear-cases, linear-none, constant-is, raw-is}
 use Rattle.lerc_contracts.proofs.ImageClauses.{decode-tiles-clauses, decode-linear-clauses, raw-body-clauses, constant-body-clauses, raw-start, whole-read-clauses}
+use Rattle.lerc_contracts.proofs.ByteOrder.{place-clauses}
+use Rattle.lerc_contracts.proofs.ByteImage.{prediction-clauses, byte-finish-cases, decoded-cases, bytes-is}
+use Rattle.lerc_contracts.proofs.ByteClauses.{huffman-is, bytes-kind, bytes-start, decode-bytes-clauses, read-bytes-clauses}
 use Rattle.lerc_contracts.proofs.Native.{pixels-is}
 
 pub numeric-clauses : NumericClauses
@@ -132,6 +136,20 @@ image-clauses = record {
   constant-body-clauses = constant-body-clauses;
 }
 
+pub byte-clauses : ByteClauses
+byte-clauses = record {
+  place-clauses = place-clauses;
+  prediction-clauses = prediction-clauses;
+  byte-finish-cases = byte-finish-cases;
+  decoded-cases = decoded-cases;
+  bytes-is = bytes-is;
+  huffman-is = huffman-is;
+  bytes-kind = bytes-kind;
+  bytes-start = bytes-start;
+  decode-bytes-clauses = decode-bytes-clauses;
+  read-bytes-clauses = read-bytes-clauses;
+}
+
 pub native-clauses : NativeClauses
 native-clauses = record {
   pixels-is = pixels-is;
@@ -144,5 +162,6 @@ upstream = record {
   planes = planes-clauses;
   block = block-clauses;
   image = image-clauses;
+  bytes = byte-clauses;
   native = native-clauses;
 }

@@ -1,15 +1,13 @@
 -- Answers without their number.
 -- Assumes nothing.
-use mathlib.Core.Path.{_≡_, refl, ap, _∙_}
-use mathlib.Core.List.{List, [], _∷_}
-use mathlib.Core.Option.{some}
-use Prim.Native.Nat.{ℕ, zero, suc, _<_}
+use mathlib.Core.Path.{_≡_, refl}
+use mathlib.Core.List.{List}
+use mathlib.Core.Option.{Option, some}
+use Prim.Native.Nat.{ℕ}
 use native.Mathlib.Omega.{arith}
-use lib.ListN.{length, getD}
-use Rattle.lerc_words.specs.declared.Refusal.{Refusal}
-use Rattle.lerc_words.specs.Res.{Res, ok, fail, _>>=_, marked, each, accepts}
-use Rattle.lerc_words.proofs.Binding.{bind-is, ok-is}
+use Rattle.lerc_words.specs.Res.{Res, ok, fail, _>>=_, marked, accepts}
 use Rattle.lerc_contracts.specs.Outside.{said, is-some}
+use Rattle.lerc_contracts.specs.Block.{ResultModel}
 
 -- a test of an answer without its number
 pub said-some : {A B : Type 0} (f : A → B) (m : Res A) → accepts m ≡ is-some (said f m)
@@ -30,3 +28,7 @@ said-marked f p (fail r) = refl
 pub said-is : {A B : Type 0} (f : A → B) (m : Res A) {b : B} → said f m ≡ some b → (a : A) × (m ≡ ok a) × (f a ≡ b)
 said-is f (ok a) e = (a, refl, cc)
 said-is f (fail r) e = absurd (let z : _≡_ {A = ℕ} 0 1 = cc in omega arith)
+
+-- the same end and the same image
+pub result-is : {a c : ℕ} {x y : List ℕ} → a ≡ c → x ≡ y → _≡_ {A = Option ResultModel} (some (record { at = a; image = x })) (some (record { at = c; image = y }))
+result-is p q = rw (p, q)

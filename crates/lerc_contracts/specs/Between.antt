@@ -1,9 +1,9 @@
 -- Ours under upstream's names, as the laws of docs/CONTRACTS.md compare them: a plan, counts, a mask, ranges, a rounding, a block,
--- a chain of blocks, a body.
+-- a chain of blocks, a body, a Huffman image.
 -- Assumes nothing.
-use Prim.Native.Nat.{ℕ, _+_, _-_, _*_, _/_, _^_, _≤_, _<_}
+use Prim.Native.Nat.{ℕ, _+_, _-_, _*_, _/_, _%_, _^_, _≤_, _<_}
 use mathlib.Core.Path.{_≡_}
-use mathlib.Core.Bool.{Bool, true, false, _&&_}
+use mathlib.Core.Bool.{Bool, true, false, cond, _&&_}
 use mathlib.Core.List.{List, []}
 use mathlib.Core.Logic.{_⊎_}
 use mathlib.Core.Option.{Option, none, some}
@@ -33,12 +33,14 @@ use Rattle.lerc_image.specs.Geometry.{tileOf, validInTile, blockOf, isValidCell
 use Rattle.lerc_image.specs.Blocks.{Chain}
 use Rattle.lerc_image.specs.Tiles.{tilesImage}
 use Rattle.lerc_image.specs.Paint.{painted, wordOf, scattered}
+use Rattle.lerc_byte_image.specs.Symbols.{Coded}
+use Rattle.lerc_byte_image.specs.Prediction.{deltaPlace, plainPlace, byteWord}
 use Rattle.lerc.specs.Meaning.{Body, endOf, cellWord}
 use Rattle.lerc_contracts.specs.Bits.{Plan, Items}
 use Rattle.lerc_contracts.specs.Planes.{RangeModel}
 use Rattle.lerc_contracts.specs.Block.{Mode, value, ResultModel, finished, block}
 use Rattle.lerc_contracts.specs.Image.{tiles, linear}
-use Rattle.lerc_contracts.specs.Native.{entropy}
+use Rattle.lerc_contracts.specs.ByteImage.{decoded}
 
 -- ---- lerc_numeric.rs
 
@@ -152,9 +154,25 @@ theirConstant s h mask constants at image = linear s h mask constants false 0 at
 abbrev pub bodied : Header → List ℕ → List ℕ → Body → ResultModel
 bodied h mask image b = record { at = endOf b; image = painted image (isValidCell (shapeOf h) mask) (cellWord h mask b) }
 
--- ---- native_lerc.rs
+-- ---- lerc_byte_image.rs
 
--- where the two read alike: the sweep byte is 0 or 1, and no mode byte announces a Huffman image
-pub record Alike (s : List ℕ) (h : Header) (at : ℕ) : Type 0 where
-  pub sweep : getD s at 0 < 2
-  pub mode : entropy h ≡ true → getD s (at + 1) 0 < 3 → getD s (at + 1) 0 ≡ 0
+-- how many cells come before a cell: with prediction depth by depth, without it pixel by pixel
+unfoldable pub orderOf : Header → Bool → ℕ → ℕ
+orderOf h delta c = cond delta (c % h .depth * pixels (shapeOf h) + c / h .depth) c
+
+-- which symbol is ours of a cell
+unfoldable pub placeOf : Header → Bool → List ℕ → ℕ → ℕ
+placeOf h delta mask c = cond delta (deltaPlace (shapeOf h) mask (c % h .depth) (c / h .depth)) (plainPlace (shapeOf h) mask (c % h .depth) (c / h .depth))
+
+-- an image of ours as upstream's result
+abbrev pub imaged : Header → List ℕ → Bool → List ℕ → Coded → ResultModel
+imaged h mask delta image c =
+    record { at = c .end; image = painted image (isValidCell (shapeOf h) mask) (byteWord (shapeOf h) (h .kind) delta mask (λ i. getD (c .symbols) i 0)) }
+
+-- room in a mask and an image
+abbrev pub imageRoom : Extent → List ℕ → List ℕ → Bool
+imageRoom e mask image = leb (e .mask) (length mask) && leb (e .cells) (length image)
+
+-- upstream's image behind a mode byte, in the blob cut at its size
+abbrev pub theirBytes : List ℕ → Header → List ℕ → ℕ → Bool → List ℕ → Option ResultModel
+theirBytes b h mask mode delta image = decoded (take (h .size) b) h mask (mode + 1) delta image

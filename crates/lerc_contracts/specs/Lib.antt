@@ -5,6 +5,7 @@ pub mod Planes
 pub mod Block
 pub mod ReadMode
 pub mod Image
+pub mod ByteImage
 pub mod Native
 pub mod Between
 pub mod NumericClauses
@@ -12,5 +13,6 @@ pub mod BitsClauses
 pub mod PlanesClauses
 pub mod BlockClauses
 pub mod ImageClauses
+pub mod ByteClauses
 pub mod NativeClauses
 pub mod Upstream

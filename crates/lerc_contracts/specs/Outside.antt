@@ -1,5 +1,5 @@
 -- What upstream's files use and do not define, each name standing for a definition of ours: the float model (`num::`),
--- `ns::word`, `zb::value`, `sample::`, `mask::` and the header. The rest of this folder is upstream's own text, function by
+-- `ns::word`, `zb::value`, `sample::`, `mask::`, `huff::` and the header. The rest of this folder is upstream's own text, function by
 -- function, under the names and in the shape it has there. Casts are left out: no number that is cast leaves its word.
 -- Upstream: JD-P/verified-tiff, commit 9a6464383f, MIT licence (NOTICE).
 -- Assumes nothing.
@@ -14,6 +14,8 @@ use Rattle.lerc_samples.specs.Samples.{sampleAt, stored, offsetKind}
 use Rattle.lerc_header.specs.declared.Header.{Header}
 use Rattle.lerc_header.specs.Header.{rangesAt}
 use Rattle.lerc_mask.specs.Mask.{maskRuns}
+use Rattle.lerc_byte_image.specs.Table.{Table, tableAt}
+use Rattle.lerc_byte_image.specs.Symbols.{Symbol, symbolAt}
 
 -- ---- upstream answers `Option` and `Result`, whose error no clause tells: an answer of ours without its number
 
@@ -68,6 +70,18 @@ reduced kind code = said (λ k. k) (offsetKind kind code)
 
 abbrev pub runsOf : List ℕ → ℕ → ℕ → ℕ → Option (List ℕ)
 runsOf s at end size = said (λ m. m) (maskRuns size (take (end - at) (drop at s)))
+
+-- ---- `huff::table(s,start)`: a table, and where it ends; `huff::symbol(s,base,p,t)`: the symbol at bit p behind `base`, and the bit behind it
+
+pub record Parsed : Type 0 where
+  pub at : ℕ
+  pub table : Table
+
+abbrev pub table : List ℕ → ℕ → Option Parsed
+table s start = said (λ t. record { at = t .start; table = t }) (tableAt s start)
+
+abbrev pub symbol : List ℕ → ℕ → ℕ → Table → Option Symbol
+symbol s base p t = said (λ x. x) (symbolAt s (record { range = t .range; lengths = t .lengths; codes = t .codes; start = base }) p)
 
 -- ---- the header's `width`, `height`, `block` and `data`
 

@@ -5,6 +5,7 @@ use Rattle.lerc_contracts.specs.BitsClauses.{BitsClauses}
 use Rattle.lerc_contracts.specs.PlanesClauses.{PlanesClauses}
 use Rattle.lerc_contracts.specs.BlockClauses.{BlockClauses}
 use Rattle.lerc_contracts.specs.ImageClauses.{ImageClauses}
+use Rattle.lerc_contracts.specs.ByteClauses.{ByteClauses}
 use Rattle.lerc_contracts.specs.NativeClauses.{NativeClauses}
 
 pub record Upstream : Type 0 where
@@ -18,5 +19,7 @@ pub record Upstream : Type 0 where
   pub block : BlockClauses
   -- lerc_image.rs: section 5
   pub image : ImageClauses
+  -- lerc_byte_image.rs: section 6
+  pub bytes : ByteClauses
   -- native_lerc.rs: section 9
   pub native : NativeClauses

@@ -2,6 +2,7 @@ pub mod Strips
 pub mod Partition
 pub mod Steps
 pub mod Painting
+pub mod Pixels
 pub mod Upto
 pub mod Cursors
 pub mod WordsSum

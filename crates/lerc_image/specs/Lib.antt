@@ -1,5 +1,6 @@
 pub mod Geometry
 pub mod Paint
+pub mod Cells
 pub mod Blocks
 pub mod Fill
 pub mod Walk

@@ -16,13 +16,14 @@ use Rattle.lerc_ranges.specs.declared.Ranges.{Ranges}
 use Rattle.lerc_ranges.specs.Ranges.{pairsRight}
 use Rattle.lerc_image.specs.declared.WalkAnswer.{WalkAnswer}
 use Rattle.lerc_image.specs.declared.WalkAnswer.the-variants as answer
-use Rattle.lerc_sweep.specs.Sweep.{Way, rawFrom, blocksFrom, swept}
+use Rattle.lerc_sweep.specs.Sweep.{Way, rawFrom, blocksFrom, huffmanFrom, swept}
 use Rattle.lerc_image.specs.Blocks.{Chain, allBlocks}
 
--- "10: walk on a body not in blocks", which the sweep byte tells: "10 included"
+-- "10: walk on a body not in blocks", which the sweep byte tells, or the mode byte: "10 included"
 unfoldable pub wayWalked : List ℕ → Header → List ℕ → List ℕ → ℕ → Way → Res Chain
 wayWalked s h maxima m sweep (rawFrom at) = marked sweep (fail (refuse 10))
 wayWalked s h maxima m sweep (blocksFrom at) = allBlocks s h maxima m at
+wayWalked s h maxima m sweep (huffmanFrom delta mode) = marked mode (fail (refuse 10))
 
 -- a body that is neither empty nor constant: the sweep byte, then "check every block, values included"
 unfoldable pub bodyWalked : List ℕ → Header → List ℕ → List ℕ → ℕ → Res Chain

@@ -528,6 +528,13 @@ fn walk_body(
     match way {
         WayAnswer::Raw(_start) => WalkAnswer::Refused(Refusal { number: 10, at }),
         WayAnswer::Blocks(start) => walk_blocks(s, start, h, e, maxima, mask, &mut list[..]),
+        WayAnswer::Huffman {
+            delta: _delta,
+            mode,
+        } => WalkAnswer::Refused(Refusal {
+            number: 10,
+            at: mode,
+        }),
         WayAnswer::Refused(why) => WalkAnswer::Refused(why),
     }
 }

@@ -4,14 +4,14 @@ use mathlib.Core.Path.{_≡_, refl, sym, ap, _∙_}
 use mathlib.Core.Logic.{_≢_}
 use mathlib.Core.Bool.{Bool, true, false, not, cond, _&&_}
 use mathlib.Core.List.{List, []}
-use Prim.Native.Nat.{ℕ, _+_, _*_, _/_, _^_, _≤_, _<_}
+use Prim.Native.Nat.{ℕ, _+_, _/_, _^_, _≤_, _<_}
 use native.Mathlib.Nat.{zero-add, lt-of-lt-of-le, le-of-eq}
 use native.Mathlib.Decide.{decLt}
 use native.Mathlib.Omega.{arith}
 use lib.Dec.{eqb, lit<}
 use lib.ListN.{length, getD, take, length-take}
 use Rattle.lerc_words.specs.declared.Refusal.{Refusal}
-use Rattle.lerc_words.specs.Res.{Res, ok, fail, _>>=_, marked, wordAt}
+use Rattle.lerc_words.specs.Res.{Res, ok, fail, _>>=_, wordAt}
 use Rattle.lerc_words.proofs.Binding.{bind-is, ok-is, and-is}
 use Rattle.lerc_words.proofs.Marking.{marked-is}
 use Rattle.lerc_words.proofs.Tables.{all-each}
@@ -24,17 +24,18 @@ use Rattle.lerc_header.specs.Shape.{blockCount}
 use Rattle.lerc_header.proofs.Kept.{held-kept, held-shaped, held-size, held-kind, held-pair, header-held}
 use Rattle.lerc_validity.specs.Validity.{MaskInForce, bytesOf, maskSays}
 use Rattle.lerc_ranges.specs.declared.Ranges.{Ranges}
-use Rattle.lerc_ranges.specs.Ranges.{rangesSays, pairsRight, constantWords}
+use Rattle.lerc_ranges.specs.Ranges.{rangesSays, pairsRight}
 use Rattle.lerc_ranges.proofs.Judged.{ranges-kept}
-use Rattle.lerc_sweep.specs.Sweep.{Way, rawFrom, blocksFrom, swept}
-use Rattle.lerc_block.specs.Block.{Block, rawWords, blockSays}
+use Rattle.lerc_sweep.specs.Sweep.{Way, rawFrom, blocksFrom, huffmanFrom, swept}
+use Rattle.lerc_block.specs.Block.{Block, blockSays}
 use Rattle.lerc_image.specs.declared.Tile.{Tile}
 use Rattle.lerc_image.specs.Geometry.{tileOf, validInTile, blockOf}
 use Rattle.lerc_image.specs.Paint.{indexOf}
 use Rattle.lerc_image.specs.Blocks.{blockAt, Chain, allBlocks}
 use Rattle.lerc_image.proofs.Partition.{tile-depth}
 use Rattle.lerc_image.proofs.Chain.{chain-lengths}
-use Rattle.lerc.specs.Meaning.{Body, empty, blocks, Meaning, missingWordAt, rawBody, blockBody, bodyFrom, constantBody, sweptBody, bodySays, startsOf, cellWord, meaningFrom, meaning}
+use Rattle.lerc.specs.Meaning.{Body, empty, blocks, Meaning, rawBody, blockBody, huffmanBody, bodyFrom, constantBody, sweptBody, bodySays, startsOf, cellWord, meaningFrom, meaning}
+use Rattle.lerc.proofs.Endings.{raw-starts, huffman-starts, constant-starts}
 use Rattle.lerc_overflow.specs.By.{Adding, stepBy, blockBy, blockAtBy, allBlocksBy, blockBodyBy, bodyFromBy, sweptBodyBy, bodyBy, meaningFromBy, meaningBy}
 use Rattle.lerc_overflow.specs.Changes.{Stepping, farOffset, Operands, AllCalm, Overflows, bodyOutline, outline, maximumOf, CellChanged, ChangesThere, MeaningChanges}
 use Rattle.lerc_overflow.proofs.OverSum.{step-sum, block-sum, block-at-sum, chain-sum}
@@ -54,14 +55,6 @@ fail-none q y e = absurd (let z : _≡_ {A = ℕ} 0 1 = cc in omega arith)
 empty-none : NoBlocks (ok empty)
 empty-none y e = ap startsOf (sym (ok-is e))
 
-raw-none : (s : List ℕ) (h : Header) (at : ℕ) → NoBlocks (rawBody s h at)
-unfolding rawBody
-raw-none s h at y e = let (w, _, e) = bind-is (marked (missingWordAt (length s) at (h .kind)) (rawWords s at (h .kind) (h .valid * h .depth))) _ e in ap startsOf (sym (ok-is e))
-
-constant-none : (h : Header) (r : Ranges) → NoBlocks (constantBody h r)
-unfolding constantBody
-constant-none h r y e = let (w, _, e) = bind-is (constantWords (h .depth) (h .kind) (r .min)) _ e in ap startsOf (sym (ok-is e))
-
 module _ (add : Adding) (P : Res Body → Res Body → Type 0) (same : (x : Res Body) → NoBlocks x → P x x) (s : List ℕ) (h : Header) (m : List ℕ) where
   abbrev BlocksRelated : Type 0
   BlocksRelated = (r : Ranges) → rangesSays s h ≡ ok r → (at : ℕ) → P (blockBodyBy add s h (r .max) m at) (blockBody s h (r .max) m at)
@@ -72,11 +65,12 @@ module _ (add : Adding) (P : Res Body → Res Body → Type 0) (same : (x : Res 
     where
       way : (r : Ranges) → rangesSays s h ≡ ok r → (x : Res Way) → P (x >>= bodyFromBy add s h r m) (x >>= bodyFrom s h r m)
       way r e (fail q) = same (fail q) (fail-none q)
-      way r e (ok (rawFrom at)) = same (rawBody s h at) (raw-none s h at)
+      way r e (ok (rawFrom at)) = same (rawBody s h at) (raw-starts s h at)
       way r e (ok (blocksFrom at)) = related r e at
+      way r e (ok (huffmanFrom delta mode)) = same (huffmanBody s h delta mode) (huffman-starts s h delta mode)
 
       constant : (r : Ranges) → rangesSays s h ≡ ok r → (t : Bool) → P (cond t (constantBody h r) (sweptBodyBy add s h r m)) (cond t (constantBody h r) (sweptBody s h r m))
-      constant r e true = same (constantBody h r) (constant-none h r)
+      constant r e true = same (constantBody h r) (constant-starts h r)
       constant r e false = way r e (swept s (h .kind) (h .error) (r .at))
 
       ranged : (x : Res Ranges) → rangesSays s h ≡ x

@@ -17,11 +17,11 @@ use Rattle.lerc_header.specs.Shape.{blockCount}
 use Rattle.lerc_validity.specs.Validity.{MaskInForce, bytesOf, maskSays}
 use Rattle.lerc_ranges.specs.declared.Ranges.{Ranges}
 use Rattle.lerc_ranges.specs.Ranges.{rangesSays}
-use Rattle.lerc_sweep.specs.Sweep.{Way, rawFrom, blocksFrom, swept}
+use Rattle.lerc_sweep.specs.Sweep.{Way, rawFrom, blocksFrom, huffmanFrom, swept}
 use Rattle.lerc_block.specs.Block.{Block, rawWords, levelBlock, finiteOffset, flagAt}
 use Rattle.lerc_image.specs.Geometry.{tileOf, validInTile}
 use Rattle.lerc_image.specs.Blocks.{Chain}
-use Rattle.lerc.specs.Meaning.{Body, empty, blocks, Meaning, rawBody, constantBody}
+use Rattle.lerc.specs.Meaning.{Body, empty, blocks, Meaning, rawBody, huffmanBody, constantBody}
 
 abbrev pub Adding : Type 0
 Adding = ℕ → ℕ → ℕ
@@ -91,6 +91,7 @@ blockBodyBy add s h maxima m at = do
 abbrev pub bodyFromBy : Adding → List ℕ → Header → Ranges → List ℕ → Way → Res Body
 bodyFromBy add s h r m (rawFrom at) = rawBody s h at
 bodyFromBy add s h r m (blocksFrom at) = blockBodyBy add s h (r .max) m at
+bodyFromBy add s h r m (huffmanFrom delta mode) = huffmanBody s h delta mode
 
 -- `sweptBody`
 unfoldable pub sweptBodyBy : Adding → List ℕ → Header → Ranges → List ℕ → Res Body

@@ -23,7 +23,7 @@ use Rattle.lerc_block.specs.Block.{Block, finiteOffset, blockSays, nextBlock}
 use Rattle.lerc_image.specs.Geometry.{tileOf, blockOf}
 use Rattle.lerc_image.specs.Paint.{indexOf}
 use Rattle.lerc_image.specs.Blocks.{chain}
-use Rattle.lerc.specs.Meaning.{Body, empty, constant, raw, blocks, Meaning, startsOf, cellWord, meaning}
+use Rattle.lerc.specs.Meaning.{Body, empty, constant, raw, blocks, huffman, Meaning, startsOf, cellWord, meaning}
 use Rattle.lerc_overflow.specs.By.{stepBy, blockBy, chainBy, meaningBy}
 
 -- ---- over `sum` they are the reader's own definitions
@@ -116,6 +116,7 @@ bodyOutline empty = empty
 bodyOutline (constant words end) = constant words end
 bodyOutline (raw words end) = raw words end
 bodyOutline (blocks c) = blocks (record { starts = c .starts; words = []; end = c .end })
+bodyOutline (huffman delta symbols end) = huffman delta symbols end
 
 -- all that a meaning says apart from these words
 abbrev pub outline : Meaning → Res Meaning

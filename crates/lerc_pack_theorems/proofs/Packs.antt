@@ -243,11 +243,11 @@ tiles-stage b n i place at part reuse why old spare list o l c t = (λ other r. 
     no-header : {other : Refusal} → HeaderRefused part other → ⊥
     no-header {other} r = never (sym (headed .read) ∙ header-exactly part other .1 r)
 
-    by : {r : Refusal} → WholeRefused part reuse old r → among (1 ∷ 5 ∷ 6 ∷ 7 ∷ 8 ∷ 9 ∷ 10 ∷ []) (r .number) ≡ true
+    by : {r : Refusal} → WholeRefused part reuse old r → among (1 ∷ 5 ∷ 6 ∷ 7 ∷ 8 ∷ 9 ∷ []) (r .number) ≡ true
     by (whole-header r) = absurd (no-header r)
     by (whole-room h d s) = refl
     by (whole-mask h d s w) = refl
-    by (whole-body k d r) = body-in (λ n. among (1 ∷ 5 ∷ 6 ∷ 7 ∷ 8 ∷ 9 ∷ 10 ∷ []) n ≡ true) refl refl refl refl refl r
+    by (whole-body k d r) = body-in (λ n. among (1 ∷ 5 ∷ 6 ∷ 7 ∷ 8 ∷ 9 ∷ []) n ≡ true) refl refl refl refl r
 
 pub pack-claims : PackClaims
 pack-claims =

@@ -175,7 +175,7 @@ TilesHeaded = (b : List ℕ) (n i : ℕ) (place at : ℕ × ℕ) (part : List �
 abbrev pub TilesStage : Type 0
 TilesStage =
     (b : List ℕ) (n i : ℕ) (place at : ℕ × ℕ) (part : List ℕ) (reuse : Bool) (why : Refusal) (old : Lent) (spare list : List ℕ) → OpenCall b (pack-answer.Opened n) → i < n → BodyCall b place n i part at
-    → StageCall part reuse (stage-answer.Refused why) old spare list → ((other : Refusal) → HeaderRefused part other → ⊥) × (among (1 ∷ 5 ∷ 6 ∷ 7 ∷ 8 ∷ 9 ∷ 10 ∷ []) (why .number) ≡ true)
+    → StageCall part reuse (stage-answer.Refused why) old spare list → ((other : Refusal) → HeaderRefused part other → ⊥) × (among (1 ∷ 5 ∷ 6 ∷ 7 ∷ 8 ∷ 9 ∷ []) (why .number) ≡ true)
 
 pub record PackClaims : Type 0 where
   pub no-room : PacksNoRoom

@@ -1,12 +1,13 @@
 -- What tells no place: the definitions that mark nothing.
 -- Assumes nothing.
-use mathlib.Core.Path.{refl}
+use mathlib.Core.Path.{_≡_, refl}
+use mathlib.Core.Logic.{⊎-elim}
 use mathlib.Core.Bool.{Bool, _&&_}
 use mathlib.Core.List.{List, [], _∷_}
 use Prim.Native.Nat.{ℕ, _+_, _*_, _/_, _%_}
 use lib.ListN.{length, getD, take, drop, replicate}
 use lib.Dec.{leb, ltb, eqb}
-use Rattle.lerc_words.specs.Res.{Res, each, wordAt}
+use Rattle.lerc_words.specs.Res.{Res, ok, fail, marked, each, wordAt}
 use Rattle.lerc_words.proofs.Marking.{Bare, bare-bind, bare-then, bare-cond}
 use Rattle.lerc_words.proofs.Little.{wordAt-bare}
 use Rattle.lerc_numeric.specs.Numeric.{finite, negative}
@@ -26,6 +27,8 @@ use Rattle.lerc_ranges.specs.declared.Ranges.{Ranges}
 use Rattle.lerc_ranges.specs.Ranges.{constantWords}
 use Rattle.lerc_sweep.specs.Sweep.{modeByte, sweepByte}
 use Rattle.lerc_block.specs.Block.{rawWords, levelBlock, steppedBlock, offsetAt, finiteOffset, offsetBlock, formed, flagAt, blockSays}
+use Rattle.lerc_byte_image.specs.Symbols.{Coded, codedAt}
+use Rattle.lerc_byte_image.proofs.Refusals.{coded-no}
 use Rattle.lerc.specs.Meaning.{constantBody}
 
 each-bare : {A B : Type 0} (f : A → Res B) → ((x : A) → Bare (f x)) → (xs : List A) → Bare (each f xs)
@@ -101,11 +104,20 @@ block-bare s at kind error top x n =
 
 pub mode-bare : (s : List ℕ) (at : ℕ) → Bare (modeByte s at)
 unfolding modeByte
-mode-bare s at = bare-bind (wordAt 1 s at) _ (wordAt-bare 1 s at) (λ mode. bare-then (ltb mode 3) 8 _ (bare-then (eqb mode 0) 10 _ refl))
+mode-bare s at = bare-bind (wordAt 1 s at) _ (wordAt-bare 1 s at) (λ mode. bare-then (ltb mode 3) 8 _ refl)
 
 pub sweep-bare : (s : List ℕ) (at : ℕ) → Bare (sweepByte s at)
 unfolding sweepByte
 sweep-bare s at = bare-bind (wordAt 1 s at) _ (wordAt-bare 1 s at) (λ sweep. bare-then (ltb sweep 2) 8 _ refl)
+
+-- ---- the symbols of a Huffman image
+
+pub symbols-bare : (s : List ℕ) (at n : ℕ) → Bare (codedAt s at n)
+symbols-bare s at n = go (codedAt s at n) refl
+  where
+    go : (m : Res Coded) → codedAt s at n ≡ m → marked 0 m ≡ m
+    go (ok c) e = refl
+    go (fail r) e = ⊎-elim (λ d. rw (d)) (λ d. rw (d)) (coded-no s at n e)
 
 -- ---- header, mask, and the words of a constant body
 

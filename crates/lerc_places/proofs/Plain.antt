@@ -17,16 +17,18 @@ use Rattle.lerc_mask.specs.Mask.{maskField}
 use Rattle.lerc_validity.specs.Validity.{MaskInForce, bytesOf, maskIn, maskSays, findSays, prepareSays}
 use Rattle.lerc_ranges.specs.declared.Ranges.{Ranges}
 use Rattle.lerc_ranges.specs.Ranges.{rangesEnd, codedRanges, pairsRight, wrongNumberAt, rangesSays, rangesInSays, readRangesSays}
-use Rattle.lerc_sweep.specs.Sweep.{Way, rawFrom, blocksFrom, hasModeByte, modeByte, modeAt, moded, sweepByte, swept}
+use Rattle.lerc_sweep.specs.Sweep.{Way, rawFrom, blocksFrom, huffmanFrom, hasModeByte, modeByte, modeAt, moded, sweepByte, swept}
 use Rattle.lerc_block.specs.Block.{rawWords, blockSays}
 use Rattle.lerc_image.specs.Geometry.{tileOf, validInTile}
 use Rattle.lerc_image.specs.Blocks.{blockAt, chain, allBlocks}
 use Rattle.lerc_image.specs.Walk.{wayWalked, bodyWalked, walkSays}
 use Rattle.lerc_image.specs.Fill.{fillSays}
-use Rattle.lerc.specs.Meaning.{missingWordAt, rawBody, blockBody, bodyFrom, sweptBody, bodySays, meaningFrom, meaning}
+use Rattle.lerc_byte_image.specs.Symbols.{codedAt}
+use Rattle.lerc_byte_image.specs.Image.{imageAt}
+use Rattle.lerc.specs.Meaning.{missingWordAt, rawBody, blockBody, huffmanBody, bodyFrom, sweptBody, bodySays, meaningFrom, meaning}
 use Rattle.lerc.specs.Read.{Lent, room, masked, readSays}
-use Rattle.lerc_places.specs.Without.{rangesPlain, rangesInPlain, readRangesPlain, findPlain, preparePlain, modedPlain, sweptPlain, blockPlain, chainPlain, wayWalkedPlain, bodyWalkedPlain, walkPlain, fillPlain, rawPlain, blockBodyPlain, bodyFromPlain, sweptBodyPlain, bodyPlain, meaningFromPlain, meaningPlain, maskedPlain, readPlain}
-use Rattle.lerc_places.proofs.Bare.{raw-bare, block-bare, mode-bare, sweep-bare, held-bare, header-bare, mask-bare, constant-bare}
+use Rattle.lerc_places.specs.Without.{rangesPlain, rangesInPlain, readRangesPlain, findPlain, preparePlain, modedPlain, sweptPlain, blockPlain, chainPlain, wayWalkedPlain, bodyWalkedPlain, walkPlain, fillPlain, rawPlain, blockBodyPlain, huffmanPlain, bodyFromPlain, sweptBodyPlain, bodyPlain, meaningFromPlain, meaningPlain, maskedPlain, readPlain}
+use Rattle.lerc_places.proofs.Bare.{raw-bare, block-bare, mode-bare, sweep-bare, symbols-bare, held-bare, header-bare, mask-bare, constant-bare}
 
 -- ---- in general
 
@@ -133,6 +135,7 @@ way-plain : (s : List ℕ) (h : Header) (maxima m : List ℕ) (sweep : ℕ) (way
 unfolding wayWalked wayWalkedPlain
 way-plain s h maxima m sweep (rawFrom at) = refl
 way-plain s h maxima m sweep (blocksFrom at) = all-plain s h maxima m at
+way-plain s h maxima m sweep (huffmanFrom delta mode) = refl
 
 walked-plain : (s : List ℕ) (h : Header) (maxima m : List ℕ) (at : ℕ) → marked 0 (bodyWalked s h maxima m at) ≡ bodyWalkedPlain s h maxima m at
 unfolding bodyWalked bodyWalkedPlain
@@ -164,10 +167,17 @@ raw-plain s h at =
     let words = rawWords s at (h .kind) n in
     plain-bind (marked place words) _ _ (plain-marked place words (raw-bare s at (h .kind) n)) (λ b. refl)
 
+huffman-plain : (s : List ℕ) (h : Header) (delta : Bool) (mode : ℕ) → marked 0 (huffmanBody s h delta mode) ≡ huffmanPlain s h delta mode
+unfolding huffmanBody huffmanPlain imageAt
+huffman-plain s h delta mode =
+    let n = h .valid * h .depth in
+    plain-bind (imageAt s h mode) _ _ (plain-marked mode (codedAt s (mode + 1) n) (symbols-bare s (mode + 1) n)) (λ c. refl)
+
 from-plain : (s : List ℕ) (h : Header) (r : Ranges) (m : List ℕ) (way : Way) → marked 0 (bodyFrom s h r m way) ≡ bodyFromPlain s h r m way
 unfolding blockBody blockBodyPlain
 from-plain s h r m (rawFrom at) = raw-plain s h at
 from-plain s h r m (blocksFrom at) = plain-bind (allBlocks s h (r .max) m at) _ _ (all-plain s h (r .max) m at) (λ c. refl)
+from-plain s h r m (huffmanFrom delta mode) = huffman-plain s h delta mode
 
 body-plain : (s : List ℕ) (h : Header) (m : List ℕ) → marked 0 (bodySays s h m) ≡ bodyPlain s h m
 unfolding bodySays bodyPlain sweptBody sweptBodyPlain

@@ -15,11 +15,12 @@ use Rattle.lerc_header.specs.Shape.{blockCount, maskLength}
 use Rattle.lerc_validity.specs.Validity.{MaskInForce, bytesOf, maskIn}
 use Rattle.lerc_ranges.specs.declared.Ranges.{Ranges}
 use Rattle.lerc_ranges.specs.Ranges.{rangesEnd, uniformRanges, codedRanges, pairsRight}
-use Rattle.lerc_sweep.specs.Sweep.{Way, rawFrom, blocksFrom, hasModeByte, modeByte}
+use Rattle.lerc_sweep.specs.Sweep.{Way, rawFrom, blocksFrom, huffmanFrom, hasModeByte, modeByte}
 use Rattle.lerc_block.specs.Block.{Block, rawWords, blockSays}
 use Rattle.lerc_image.specs.Geometry.{tileOf, validInTile}
 use Rattle.lerc_image.specs.Blocks.{Chain}
-use Rattle.lerc.specs.Meaning.{Body, empty, raw, blocks, constantBody, Meaning}
+use Rattle.lerc_byte_image.specs.Symbols.{codedAt}
+use Rattle.lerc.specs.Meaning.{Body, empty, raw, blocks, huffman, constantBody, Meaning}
 use Rattle.lerc.specs.Read.{Lent, room, Masked}
 
 -- ---- ranges and mask
@@ -98,6 +99,7 @@ allBlocksPlain s h maxima m at = chainPlain s h maxima m (blockCount (shapeOf h)
 unfoldable pub wayWalkedPlain : List ℕ → Header → List ℕ → List ℕ → Way → Res Chain
 wayWalkedPlain s h maxima m (rawFrom at) = fail (refuse 10)
 wayWalkedPlain s h maxima m (blocksFrom at) = allBlocksPlain s h maxima m at
+wayWalkedPlain s h maxima m (huffmanFrom delta mode) = fail (refuse 10)
 
 -- `bodyWalked`
 unfoldable pub bodyWalkedPlain : List ℕ → Header → List ℕ → List ℕ → ℕ → Res Chain
@@ -137,10 +139,17 @@ blockBodyPlain s h maxima m at = do
   c ← allBlocksPlain s h maxima m at
   ok (blocks c)
 
+-- `huffmanBody`
+unfoldable pub huffmanPlain : List ℕ → Header → Bool → ℕ → Res Body
+huffmanPlain s h delta mode = do
+  c ← codedAt s (mode + 1) (h .valid * h .depth)
+  ok (huffman delta (c .symbols) (c .end))
+
 -- `bodyFrom`
 abbrev pub bodyFromPlain : List ℕ → Header → Ranges → List ℕ → Way → Res Body
 bodyFromPlain s h r m (rawFrom at) = rawPlain s h at
 bodyFromPlain s h r m (blocksFrom at) = blockBodyPlain s h (r .max) m at
+bodyFromPlain s h r m (huffmanFrom delta mode) = huffmanPlain s h delta mode
 
 -- `sweptBody`
 unfoldable pub sweptBodyPlain : List ℕ → Header → Ranges → List ℕ → Res Body

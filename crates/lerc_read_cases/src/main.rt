@@ -531,10 +531,10 @@ fn main() {
     all = all.plus(file(b"v4", 198));
     all = all.plus(file(b"v4-crafted", 78));
     all = all.plus(file(b"v4-bands", 24));
-    all = all.plus(file(b"v4-published", 9));
-    all = all.plus(file(b"v4-large", 5));
-    all = all.plus(file(b"probes", 99));
-    all = all.plus(file(b"beyond", 24));
+    all = all.plus(file(b"v4-published", 7));
+    all = all.plus(file(b"v4-large", 4));
+    all = all.plus(file(b"probes", 80));
+    all = all.plus(file(b"beyond", 16));
     all = all.plus(file(b"rules", 71));
     all = all.plus(file(b"refused", 386));
     all = all.plus(file(b"damaged", 78));

@@ -29,7 +29,7 @@ use Rattle.lerc.specs.declared.PublishAnswer.{PublishAnswer}
 use Rattle.lerc.specs.declared.PublishAnswer.the-variants as publish-answer
 use Rattle.lerc.specs.declared.ReadAnswer.{ReadAnswer}
 use Rattle.lerc.specs.declared.ReadAnswer.the-variants as read-answer
-use Rattle.lerc.specs.Meaning.{Meaning, Body, empty, constant, raw, blocks, bodySays, cellWord, meaning, meaningFrom}
+use Rattle.lerc.specs.Meaning.{Meaning, Body, empty, constant, raw, blocks, huffman, bodySays, cellWord, meaning, meaningFrom}
 use Rattle.lerc.specs.Read.{Lent, room, masked, readSays, published, readAfter, ReadTold}
 use Rattle.lerc.specs.Stage.{maskNamed, stagedBody, stagedOf, StageRead}
 use Rattle.lerc.proofs.Both.{read-masked, read-again, means}
@@ -130,6 +130,7 @@ module _ (x : InHand) (w : ByStage x) where
   by-body f empty e s = absurd (let k = ap (λ (q : Staged). q .body) s in let z : _≡_ {A = ℕ} 0 1 = cc in omega arith)
   by-body f (constant words end) e s = absurd (let k = ap (λ (q : Staged). q .body) s in let z : _≡_ {A = ℕ} 0 1 = cc in omega arith)
   by-body f (raw words end) e s = absurd (let k = ap (λ (q : Staged). q .body) s in let z : _≡_ {A = ℕ} 0 1 = cc in omega arith)
+  by-body f (huffman delta symbols end) e s = absurd (let k = ap (λ (q : Staged). q .body) s in let z : _≡_ {A = ℕ} 0 1 = cc in omega arith)
   by-body f (blocks c) e s = found-blocks f c e (ap (λ (q : Staged). q .mask) s) (ap (λ (q : Staged). q .blocks) s) (ap (λ (q : Staged). q .end) s)
 
 pub opened-by-stage : OpenedByStage

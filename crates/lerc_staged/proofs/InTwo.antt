@@ -205,7 +205,7 @@ publish-refuses b reuse given answer said why old kept image spare list p t = (
     go (inr (e, n)) = not-gave (stage-call t) n (ends b reuse given old) ∙ ap fail (sym e)
 
 pub stage-numbers : StageNumbers
-stage-numbers b reuse why old spare list t = whole-in (λ n. among numbers n ≡ true) refl refl refl refl refl refl refl refl refl refl refl (stage-refuses b reuse _ why old spare list t .0 refl)
+stage-numbers b reuse why old spare list t = whole-in (λ n. among numbers n ≡ true) refl refl refl refl refl refl refl refl refl refl (stage-refuses b reuse _ why old spare list t .0 refl)
 
 pub publish-numbers : PublishNumbers
 publish-numbers b reuse given why old kept image p = go (ends b reuse given old)
@@ -216,6 +216,6 @@ publish-numbers b reuse given why old kept image p = go (ends b reuse given old)
     go : Ends b reuse given old → among numbers (why .number) ≡ true
     go (blob r q) =
         let z : r ≡ why = fail-is (sym (refused-read b reuse given old q) ∙ e) in
-        whole-in (λ n. among numbers n ≡ true) refl refl refl refl refl refl refl refl refl refl refl (whole-exactly b reuse old why .0 (q ∙ ap fail z))
+        whole-in (λ n. among numbers n ≡ true) refl refl refl refl refl refl refl refl refl refl (whole-exactly b reuse old why .0 (q ∙ ap fail z))
     go (other m q u) = let z : refuse 3 ≡ why = fail-is (sym (refused-other b reuse given old q u) ∙ e) in rw (← z)
     go (done m d) = clash (is-done b reuse given old m d) e

@@ -26,7 +26,7 @@ use Rattle.lerc.specs.declared.StageAnswer.{StageAnswer}
 use Rattle.lerc.specs.declared.StageAnswer.the-variants as stage-answer
 use Rattle.lerc.specs.declared.PublishAnswer.the-variants as publish-answer
 use Rattle.lerc.specs.declared.ReadAnswer.the-variants as read-answer
-use Rattle.lerc.specs.Meaning.{Meaning, Body, empty, constant, raw, blocks, startsOf, endOf}
+use Rattle.lerc.specs.Meaning.{Meaning, Body, empty, constant, raw, blocks, huffman, startsOf, endOf}
 use Rattle.lerc.specs.Read.{Lent, readSays, published, WholeRead}
 use Rattle.lerc.specs.Stage.{kindOf, maskNamed, stagedOf}
 use Rattle.lerc.proofs.Both.{means}
@@ -72,6 +72,7 @@ no-starts empty list e = refl
 no-starts (constant words end) list e = refl
 no-starts (raw words end) list e = refl
 no-starts (blocks c) list e = absurd (e refl)
+no-starts (huffman delta symbols end) list e = refl
 
 pub stage-writes : StageWrites
 stage-writes b reuse found old spare list t = let (m, e, s) = means b reuse old (stage-call t) in rw (s) (go m e)

@@ -62,7 +62,7 @@ whole-wrong : (b : List ℕ) (reuse : Bool) (l : Lent) (why : Refusal) → Whole
 whole-wrong b reuse l why (whole-header r) e = header-wrong b why r e
 whole-wrong b reuse l why (whole-room h d t) e = absurd (omega arith)
 whole-wrong b reuse l why (whole-mask h d t w) e = absurd (omega arith)
-whole-wrong b reuse l why (whole-body k d r) e = absurd (body-in Other (λ z. omega arith) (λ z. omega arith) (λ z. omega arith) (λ z. omega arith) (λ z. omega arith) r e)
+whole-wrong b reuse l why (whole-body k d r) e = absurd (body-in Other (λ z. omega arith) (λ z. omega arith) (λ z. omega arith) (λ z. omega arith) r e)
 
 header-refused : HeaderRefuses
 header-refused b said c = (

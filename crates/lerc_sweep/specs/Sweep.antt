@@ -9,27 +9,27 @@ use Rattle.lerc_words.specs.Res.{Res, ok, fail, _>>=_, refuse, marked, require,
 use Rattle.lerc_sweep.specs.declared.WayAnswer.{WayAnswer}
 use Rattle.lerc_sweep.specs.declared.WayAnswer.the-variants as answer
 
--- raw words, or blocks, from a place on
+-- raw words, or blocks, from a place on; or a Huffman image, with prediction or without, whose mode byte has a place
 pub data Way : Type 0 where
   rawFrom blocksFrom : ℕ → Way
+  huffmanFrom : Bool → ℕ → Way
 
 -- "Kinds 0 and 1 with error exactly 0.5 have a mode byte"
 abbrev pub hasModeByte : ℕ → ℕ → Bool
 hasModeByte kind error = ltb kind 2 && eqb error 0x3fe0000000000000
 
--- "0 blocks; 1, 2 refused 10; others 8"
+-- "0 blocks; .. others 8"; "Mode bytes 1 (delta) and 2 now decode"
 unfoldable pub modeByte : List ℕ → ℕ → Res Way
 modeByte s at = do
   mode ← wordAt 1 s at
   _ ← require (ltb mode 3) 8
-  _ ← require (eqb mode 0) 10
-  ok (blocksFrom (at + 1))
+  ok (cond (eqb mode 0) (blocksFrom (at + 1)) (huffmanFrom (eqb mode 1) at))
 
--- "the sweep or mode byte for a fault in it, 10 included, or where the missing one should be"
+-- "the sweep or mode byte for a fault in it .., or where the missing one should be"
 abbrev pub modeAt : List ℕ → ℕ → Res Way
 modeAt s at = marked at (modeByte s at)
 
--- where the blocks begin
+-- where the blocks begin, or the mode byte of a Huffman image stands
 unfoldable pub moded : List ℕ → ℕ → ℕ → ℕ → Res Way
 moded s kind error at = cond (hasModeByte kind error) (modeAt s at) (ok (blocksFrom at))
 
@@ -51,9 +51,11 @@ swept s kind error at = do
 abbrev pub waySaid : WayAnswer → Res Way
 waySaid (answer.Raw at) = ok (rawFrom at)
 waySaid (answer.Blocks at) = ok (blocksFrom at)
+waySaid (answer.Huffman delta at) = ok (huffmanFrom delta at)
 waySaid (answer.Refused r) = fail r
 
 abbrev pub refusalOfWay : WayAnswer → Refusal
 refusalOfWay (answer.Raw at) = refuse 0
 refusalOfWay (answer.Blocks at) = refuse 0
+refusalOfWay (answer.Huffman delta at) = refuse 0
 refusalOfWay (answer.Refused r) = r

@@ -1,13 +1,14 @@
-// The bytes in front of a body that is not constant: raw words, or blocks.
+// The bytes in front of a body that is not constant: raw words, blocks, or a Huffman image.
 ghost use mathlib.Core.Path.{_≡_};
 ghost use Rattle.lerc_sweep.specs.Sweep.{modeAt, moded, swept, waySaid, refusalOfWay};
 use lerc_words::Refusal;
 use lerc_words::WordAnswer;
 
-// Where the raw words or the blocks begin.
+// Where the raw words or the blocks begin, or where the mode byte of a Huffman image stands.
 pub enum WayAnswer {
     Raw(usize),
     Blocks(usize),
+    Huffman { delta: bool, mode: usize },
     Refused(Refusal),
 }
 
@@ -19,6 +20,10 @@ impl WayAnswer {
         match self {
             WayAnswer::Raw(_at) => Refusal { number: 0, at: 0 },
             WayAnswer::Blocks(_at) => Refusal { number: 0, at: 0 },
+            WayAnswer::Huffman {
+                delta: _delta,
+                mode: _mode,
+            } => Refusal { number: 0, at: 0 },
             WayAnswer::Refused(why) => why,
         }
     }
@@ -35,10 +40,13 @@ fn read_mode(s: &[u8], at: usize) -> WayAnswer
     if 3 <= mode {
         return WayAnswer::Refused(Refusal { number: 8, at });
     }
-    if mode != 0 {
-        return WayAnswer::Refused(Refusal { number: 10, at });
+    if mode == 0 {
+        return WayAnswer::Blocks(at + 1);
     }
-    WayAnswer::Blocks(at + 1)
+    WayAnswer::Huffman {
+        delta: mode == 1,
+        mode: at,
+    }
 }
 
 // Only kinds 0 and 1 with an error of exactly 0.5 have a mode byte.
@@ -54,7 +62,7 @@ fn after_sweep(s: &[u8], at: usize, kind: u32, error: u64) -> WayAnswer
     read_mode(s, at)
 }
 
-// The sweep byte at `at`, and the mode byte where there is one: 1, 8, 10.
+// The sweep byte at `at`, and the mode byte where there is one: 1, 8.
 pub fn read_sweep(s: &[u8], at: usize, kind: u32, error: u64) -> WayAnswer
     ensures { λ r. ⌜ waySaid r ≡ swept (now (s .entry)) kind error at ⌝ }
 {

@@ -21,17 +21,25 @@ use Rattle.lerc_ranges.specs.Ranges.{rangesEnd, codedRanges, pairsRight, wrongN
 use Rattle.lerc_ranges.proofs.Judged.{RangesKept}
 use Rattle.lerc_block.specs.Block.{Block, rawWords}
 use Rattle.lerc_block.proofs.Accepted.{block-ends}
-use Rattle.lerc_sweep.specs.Sweep.{Way, rawFrom, blocksFrom, hasModeByte, modeByte, modeAt, moded, sweepByte, swept}
+use Rattle.lerc_sweep.specs.Sweep.{Way, rawFrom, blocksFrom, huffmanFrom, hasModeByte, modeByte, modeAt, moded, sweepByte, swept}
 use Rattle.lerc_image.specs.Blocks.{Chain, blockAt, chain, allBlocks}
 use Rattle.lerc_image.proofs.Chain.{chain-parts, chain-none, chain-lengths, chain-block}
 use Rattle.lerc_image.proofs.Stages.{getD-any}
-use Rattle.lerc.specs.Meaning.{Body, empty, constant, blocks, missingWordAt, rawBody, blockBody, bodyFrom, sweptBody, constantBody, bodySays, endOf}
+use Rattle.lerc_byte_image.specs.Image.{imageAt}
+use Rattle.lerc_byte_image.proofs.Front.{image-bounds}
+use Rattle.lerc.specs.Meaning.{Body, empty, constant, blocks, missingWordAt, rawBody, blockBody, huffmanBody, bodyFrom, sweptBody, constantBody, bodySays, endOf}
 
 -- ---- behind the sweep byte
 
 abbrev pub placeOf : Way → ℕ
 placeOf (rawFrom at) = at
 placeOf (blocksFrom at) = at
+placeOf (huffmanFrom delta mode) = mode + 1
+
+-- it lies behind the mode byte
+pub mode-place : (t delta : Bool) (at : ℕ) → placeOf (cond t (blocksFrom (at + 1)) (huffmanFrom delta at)) ≡ at + 1
+mode-place true delta at = refl
+mode-place false delta at = refl
 
 module _ (s : List ℕ) where
   mode-in : (at : ℕ) (w : Way) → modeAt s at ≡ ok w → (at ≤ placeOf w) × (placeOf w ≤ length s)
@@ -39,9 +47,9 @@ module _ (s : List ℕ) where
   mode-in at w e =
       let (mode, p, e) = bind-is (wordAt 1 s at) _ (marked-is at (modeByte s at) e) in
       let (_, t8, e) = bind-is (require (ltb mode 3) 8) _ e in
-      let (_, t10, e) = bind-is (require (eqb mode 0) 10) _ e in
       let i = wordAt-is 1 s at mode p .inside in
-      rw (← ok-is e) (omega arith, omega arith)
+      let z : at + 1 ≡ placeOf w = sym (mode-place (eqb mode 0) (eqb mode 1) at) ∙ ap placeOf (ok-is e) in
+      rw (← z) (omega arith, omega arith)
 
   moded-in : (kind error at : ℕ) (w : Way) → at ≤ length s → moded s kind error at ≡ ok w → (at ≤ placeOf w) × (placeOf w ≤ length s)
   unfolding moded
@@ -174,9 +182,17 @@ module _ (s : List ℕ) (h : Header) (m : List ℕ) (y : Body) where
         let i = chain-in s h (r .max) m (blockCount (shapeOf h)) 0 at c q p in
         rw (← ok-is e) (omega (arith, k .behind, i .0), i .1)
 
+    huffman-ends : (delta : Bool) (mode : ℕ) → r .at < mode + 1 → huffmanBody s h delta mode ≡ ok y → Ends (rangesAt h) s y
+    unfolding huffmanBody
+    huffman-ends delta mode l e =
+        let (c, p, e) = bind-is (imageAt s h mode) _ e in
+        let i = image-bounds s h mode p in
+        rw (← ok-is e) (omega (arith, k .behind, i .0), i .1)
+
     from-ends : (w : Way) → r .at < placeOf w → placeOf w ≤ length s → bodyFrom s h r m w ≡ ok y → Ends (rangesAt h) s y
     from-ends (rawFrom at) l q e = raw-ends at l e
     from-ends (blocksFrom at) l q e = block-ends-in at l q e
+    from-ends (huffmanFrom delta mode) l q e = huffman-ends delta mode l e
 
     swept-ends : sweptBody s h r m ≡ ok y → Ends (rangesAt h) s y
     unfolding sweptBody
@@ -223,7 +239,7 @@ module _ (s : List ℕ) (h : Header) (m : List ℕ) (c : Chain) where
       absurd (let z : _≡_ {A = ℕ} 0 1 = cc in omega arith)
 
   way-is : (r : Ranges) (w : Way) → bodyFrom s h r m w ≡ ok (blocks c) → (from : ℕ) × (w ≡ blocksFrom from) × (allBlocks s h (r .max) m from ≡ ok c)
-  unfolding rawBody blockBody
+  unfolding rawBody blockBody huffmanBody
   way-is r (rawFrom at) e =
       let (ws, p, e) = bind-is (marked (missingWordAt (length s) at (h .kind)) (rawWords s at (h .kind) (h .valid * h .depth))) _ e in
       absurd (let z : _≡_ {A = ℕ} 0 1 = cc in omega arith)
@@ -231,6 +247,9 @@ module _ (s : List ℕ) (h : Header) (m : List ℕ) (c : Chain) where
       let (d, p, e) = bind-is (allBlocks s h (r .max) m at) _ e in
       let z : d ≡ c = cc in
       (at, refl, p ∙ ap ok z)
+  way-is r (huffmanFrom delta mode) e =
+      let (d, p, e) = bind-is (imageAt s h mode) _ e in
+      absurd (let z : _≡_ {A = ℕ} 0 1 = cc in omega arith)
 
   pub coded-is : bodySays s h m ≡ ok (blocks c) → BlocksCoded s h m c
   unfolding bodySays sweptBody

@@ -25,7 +25,7 @@ use Rattle.lerc.specs.declared.ReadAnswer.{ReadAnswer}
 use Rattle.lerc.specs.Read.{Lent, WholeRead}
 use Rattle.lerc.specs.Stage.{StageRead, Publishing}
 use Rattle.lerc_theorems.specs.Promises.{Answers, NoRoom}
-use Rattle.lerc_theorems.proofs.SameAnswers.{block-plan-same, word-same, integer-same, offset-same, sample-same, stored-same, header-same, open-same, held-same, pairs-same, way-same, walk-same, fill-same, stage-same, publish-same, read-same, counts-same}
+use Rattle.lerc_theorems.proofs.SameAnswers.{block-plan-same, word-same, integer-same, offset-same, sample-same, stored-same, header-same, open-same, held-same, pairs-same, way-same, walk-same, fill-same, end-same, stage-same, publish-same, read-same, counts-same}
 
 -- ---- promises of an answer and of lent slices
 
@@ -153,6 +153,9 @@ no-room = record {
   fill-tiles = record { asks-nothing = λ k a. tt; same = λ k a r q x y p s. (refl, p ∙ sym s) };
   write-tiles = record { asks-nothing = λ k a. tt; same = λ k a r q x y p s. (refl, rw (p .0, p .1, s .0, s .1)) };
   decode-tiles = record { asks-nothing = λ k a. tt; same = λ k a r q x y p s. tiled-same p s };
+  end-refusal = given (λ k a. tt) _ (λ k a r x p. p);
+  check-huffman = told (λ k a. tt) end-same _ (λ k a r x p. p);
+  write-huffman = record { asks-nothing = λ k a. tt; same = λ k a r q x y p s. (refl, p ∙ sym s) };
   fill-each = record { asks-nothing = λ k a. tt; same = λ k a r q x y p s. (p .says ∙ sym (s .says), p .image ∙ sym (s .image)) };
   put-line = record { asks-nothing = λ k a. tt; same = λ k a r q x y p s. put-same p s };
   put-refusal = record { asks-nothing = λ k a. tt; same = λ k a r q x y p s. put-same p s };

@@ -27,22 +27,24 @@ use Rattle.lerc_validity.specs.Validity.{bytesOf, maskSays}
 use Rattle.lerc_ranges.specs.Ranges.{pairsRight, rangesSays, constantWords}
 use Rattle.lerc_block.specs.Block.{Block, rawWords, blockSays}
 use Rattle.lerc_image.specs.Geometry.{tileOf, validInTile}
-use Rattle.lerc_sweep.specs.Sweep.{Way, rawFrom, blocksFrom, hasModeByte, modeByte, modeAt, moded, sweepByte, swept}
+use Rattle.lerc_sweep.specs.Sweep.{Way, rawFrom, blocksFrom, huffmanFrom, hasModeByte, modeByte, modeAt, moded, sweepByte, swept}
 use Rattle.lerc_image.specs.Blocks.{Chain, blockAt, chain, allBlocks}
 use Rattle.lerc_image.specs.Walk.{wayWalked, bodyWalked, walkSays}
 use Rattle.lerc_image.specs.Fill.{fillSays}
 use Rattle.lerc_image.specs.Tiles.{checkedTiles, tilesSays}
 use Rattle.lerc_image.specs.Own.{ownMask, ownTiles}
-use Rattle.lerc.specs.Meaning.{missingWordAt, rawBody, blockBody, bodyFrom, sweptBody, constantBody, bodySays, meaningFrom}
+use Rattle.lerc_byte_image.specs.Image.{imageAt}
+use Rattle.lerc.specs.Meaning.{missingWordAt, rawBody, blockBody, huffmanBody, bodyFrom, sweptBody, constantBody, bodySays, meaningFrom}
 use Rattle.lerc.specs.Read.{Lent, room, Masked, masked, readSays}
 use Rattle.lerc.specs.declared.StageAnswer.{StageAnswer}
 use Rattle.lerc.specs.Stage.{wasStaged, publishSays}
-use Rattle.lerc_theorems.specs.Table.{ModeRefused, mode-cut, mode-wrong, mode-coded, SweepRefused, sweep-cut, sweep-wrong, mode-refused, BlockAtRefused, ChainRefused, block-refused, WalkBodyRefused, walk-sweep, walk-raw, walk-blocks, WalkRoom, WalkRefused, walk-held, walk-room, walk-pairs, walk-other, walk-body, FillRoom, NoFillRoom, FillRefused, fill-held, fill-number, fill-room, fill-pairs, fill-block, CheckRefused, check-held, check-room, check-blocks, OwnRefused, own-held, own-blocks, TilesRefused, tiles-held, tiles-room, tiles-blocks, BodyRefused, body-ranges, body-constant, body-sweep, body-raw, body-blocks, WholeRefused, whole-header, whole-room, whole-mask, whole-body, PublishRefused, publish-blob, publish-given}
+use Rattle.lerc_theorems.specs.Table.{ModeRefused, mode-cut, mode-wrong, SweepRefused, sweep-cut, sweep-wrong, mode-refused, BlockAtRefused, ChainRefused, block-refused, WalkBodyRefused, walk-sweep, walk-raw, walk-huffman, walk-blocks, WalkRoom, WalkRefused, walk-held, walk-room, walk-pairs, walk-other, walk-body, FillRoom, NoFillRoom, FillRefused, fill-held, fill-number, fill-room, fill-pairs, fill-block, CheckRefused, check-held, check-room, check-blocks, OwnRefused, own-held, own-blocks, TilesRefused, tiles-held, tiles-room, tiles-blocks, BodyRefused, body-ranges, body-constant, body-sweep, body-raw, body-blocks, body-huffman, WholeRefused, whole-header, whole-room, whole-mask, whole-body, PublishRefused, publish-blob, publish-given}
 use Rattle.lerc_theorems.proofs.Wrong.{pairs-not, not-pairs}
 use Rattle.lerc_theorems.proofs.Wrong as wrong
 use Rattle.lerc_theorems.proofs.Demands.{fail-is, demand, reading, reading-at, reading-one, choosing, not-refused, marked-exactly, and-not, and-first, and-second}
 use Rattle.lerc_theorems.proofs.Bodies.{swept-in}
 use Rattle.lerc_theorems.proofs.Blocks.{word-one, constants-exactly, block-exactly}
+use Rattle.lerc_theorems.proofs.Huffman.{image-exactly}
 use Rattle.lerc_theorems.proofs.Headers.{right-held, held-exactly, holding, header-exactly, mask-exactly, ranges-exactly}
 
 -- ---- sweep and mode byte
@@ -54,15 +56,12 @@ module _ (s : List ℕ) where
       let P : Refusal → Type 0 = λ q. ModeRefused s at (placed at q) in
       let (_, e, z) = marked-fails at (modeByte s at) e in
       rw (z) (reading-one P 1 (wordAt 1 s at) _ (word-one 1 s at) e (λ d. mode-cut (wordAt-fails 1 s at d)) (λ v d e.
-      demand P (ltb v 3) 8 _ e (λ t. mode-wrong v d (ltb-false _ _ t)) (λ t e.
-      let l = ltb-true v 3 t in
-      demand P (eqb v 0) 10 _ e (λ u. let z : v ≢ 0 = eqb-false v 0 u in mode-coded v d (omega (arith, z)) (omega arith)) (λ u e. not-refused e))))
+      demand P (ltb v 3) 8 _ e (λ t. mode-wrong v d (ltb-false _ _ t)) (λ t e. not-refused e)))
 
   at-mode : {n : Refusal} {at : ℕ} → ModeRefused s at n → modeAt s at ≡ fail n
   unfolding modeByte
   at-mode (mode-cut l) = rw (wordAt-no 1 s _ l)
   at-mode (mode-wrong v d l) = rw (d, le-ltb v 3 l)
-  at-mode (mode-coded v d l u) = let a : v < 3 = omega arith in let z : v ≢ 0 = λ q. absurd (omega arith) in rw (d, lt-ltb v 3 a, ne-eqb v 0 z)
 
   -- a sweep byte that was accepted
   sweep-is : {v : ℕ} (at : ℕ) → sweepByte s at ≡ ok v → (wordAt 1 s at ≡ ok v) × (v < 2)
@@ -151,11 +150,13 @@ module _ (s : List ℕ) (h : Header) (r : Ranges) (m : List ℕ) where
       on : (w : Way) → swept s (h .kind) (h .error) (r .at) ≡ ok w → wayWalked s h (r .max) m (r .at) w ≡ fail n → WalkBodyRefused s h r m n
       on (rawFrom at) d e = rw (← fail-is e) (walk-raw at d)
       on (blocksFrom at) d e = walk-blocks at d (chain-exactly s h (r .max) m (blockCount (shapeOf h)) 0 at n .0 e)
+      on (huffmanFrom delta mode) d e = rw (← fail-is e) (walk-huffman delta mode d)
 
   refused-walk-body : {n : Refusal} → WalkBodyRefused s h r m n → bodyWalked s h (r .max) m (r .at) ≡ fail n
   unfolding bodyWalked wayWalked
   refused-walk-body {n} (walk-sweep d) = rw (sweep-exactly s (h .kind) (h .error) (r .at) n .1 d)
   refused-walk-body (walk-raw at d) = rw (d)
+  refused-walk-body (walk-huffman delta mode d) = rw (d)
   refused-walk-body {n} (walk-blocks at d c) = rw (d, chain-exactly s h (r .max) m (blockCount (shapeOf h)) 0 at n .1 c)
 
 module _ (b : List ℕ) (h : Header) (r : Ranges) (m : List ℕ) (entries : ℕ) where
@@ -318,7 +319,7 @@ module _ (len at size n : ℕ) (pos : 0 < size) where
 module _ (s : List ℕ) (h : Header) (m : List ℕ) where
   -- behind the ranges
   rest-refused : {n : Refusal} (r : Ranges) → h .valid ≢ 0 → rangesSays s h ≡ ok r → cond (r .constant) (constantBody h r) (sweptBody s h r m) ≡ fail n → BodyRefused s h m n
-  unfolding constantBody sweptBody rawBody rawWords blockBody
+  unfolding constantBody sweptBody rawBody rawWords blockBody huffmanBody
   rest-refused {n} r v d e =
       let P = BodyRefused s h m in
       choosing P (r .constant) _ _ e
@@ -336,6 +337,7 @@ module _ (s : List ℕ) (h : Header) (m : List ℕ) where
           (λ k w e. not-refused e)
       on c (blocksFrom at) q e =
           reading (BodyRefused s h m) (allBlocks s h (r .max) m at) _ e (λ w. body-blocks r at v d c q (chain-exactly s h (r .max) m (blockCount (shapeOf h)) 0 at n .0 w)) (λ k w e. not-refused e)
+      on c (huffmanFrom delta mode) q e = reading (BodyRefused s h m) (imageAt s h mode) _ e (λ w. body-huffman r delta mode v d c q (image-exactly s h mode n .0 w)) (λ k w e. not-refused e)
 
   body-refused : {n : Refusal} → bodySays s h m ≡ fail n → BodyRefused s h m n
   unfolding bodySays
@@ -346,7 +348,7 @@ module _ (s : List ℕ) (h : Header) (m : List ℕ) where
       reading P (rangesSays s h) _ e (λ d. body-ranges v (ranges-exactly s h n .0 d)) (λ r d e. rest-refused r v d e))
 
   refused-body : {n : Refusal} → BodyRefused s h m n → bodySays s h m ≡ fail n
-  unfolding bodySays constantBody sweptBody rawBody rawWords blockBody
+  unfolding bodySays constantBody sweptBody rawBody rawWords blockBody huffmanBody
   refused-body {n} (body-ranges v d) = rw (ne-eqb _ _ v, ranges-exactly s h n .1 d)
   refused-body {n} (body-constant r v d c w) = rw (ne-eqb _ _ v, d, c, constants-exactly (h .depth) (h .kind) (r .min) n .1 w)
   refused-body {n} (body-sweep r v d c w) = rw (ne-eqb _ _ v, d, c, sweep-exactly s (h .kind) (h .error) (r .at) n .1 w)
@@ -354,6 +356,7 @@ module _ (s : List ℕ) (h : Header) (m : List ℕ) where
       let (p, z) = missing-word (length s) at (typeSize (h .kind)) (h .valid * h .depth) (size-ge (h .kind)) k l u o in
       rw (ne-eqb _ _ v, d, c, w, lt-leb _ _ p, z)
   refused-body {n} (body-blocks r at v d c w k) = rw (ne-eqb _ _ v, d, c, w, chain-exactly s h (r .max) m (blockCount (shapeOf h)) 0 at n .1 k)
+  refused-body {n} (body-huffman r delta mode v d c w k) = rw (ne-eqb _ _ v, d, c, w, image-exactly s h mode n .1 k)
 
   pub body-exactly : (n : Refusal) → (bodySays s h m ≡ fail n) ↔ BodyRefused s h m n
   body-exactly n = (body-refused, refused-body)

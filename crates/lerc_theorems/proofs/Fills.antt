@@ -21,7 +21,7 @@ use Rattle.lerc_ranges.specs.declared.Ranges.{Ranges}
 use Rattle.lerc_validity.specs.Validity.{MaskInForce, bytesOf}
 use Rattle.lerc_ranges.specs.Ranges.{pairsRight, readRangesSays}
 use Rattle.lerc_image.specs.Paint.{filledBlock, fills}
-use Rattle.lerc_sweep.specs.Sweep.{Way, rawFrom, blocksFrom, swept}
+use Rattle.lerc_sweep.specs.Sweep.{Way, rawFrom, blocksFrom, huffmanFrom, swept}
 use Rattle.lerc_image.specs.Blocks.{Chain, blockAt, allBlocks}
 use Rattle.lerc_image.specs.Fill.{fillSays, fillImage}
 use Rattle.lerc_image.specs.Walk.{wayWalked, bodyWalked, walkSays, walkList}
@@ -54,6 +54,7 @@ module _ (s : List ℕ) (h : Header) (maxima m : List ℕ) (c : Chain) where
   unfolding wayWalked
   way-is sweep (rawFrom at) e = absurd (let z : _≡_ {A = ℕ} 0 1 = cc in omega arith)
   way-is sweep (blocksFrom at) e = (at, refl, e)
+  way-is sweep (huffmanFrom delta mode) e = absurd (let z : _≡_ {A = ℕ} 0 1 = cc in omega arith)
 
 pub walk-is : (b : List ℕ) (h : Header) (r : Ranges) (m : List ℕ) (entries : ℕ) (c : Chain) → walkSays b h r m entries ≡ ok c → Walking b h r m entries c
 unfolding walkSays bodyWalked

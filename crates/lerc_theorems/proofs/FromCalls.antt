@@ -22,7 +22,7 @@ use Rattle.lerc_image.specs.declared.FillAnswer.the-variants as fill-answer
 use Rattle.lerc_image.proofs.Stages.{getD-any}
 use Rattle.lerc_image.specs.Blocks.{Chain}
 use Rattle.lerc.specs.declared.ReadAnswer.the-variants as read-answer
-use Rattle.lerc.specs.Meaning.{Meaning, Body, empty, constant, raw, blocks, startsOf, endOf, meaning}
+use Rattle.lerc.specs.Meaning.{Meaning, Body, empty, constant, raw, blocks, huffman, startsOf, endOf, meaning}
 use Rattle.lerc.specs.Read.{ReadTold, room, masked, readSays}
 use Rattle.lerc_theorems.specs.Calls.{FillCall, FillCalls}
 use Rattle.lerc_theorems.specs.Unread.{SameWithin}
@@ -153,6 +153,7 @@ module _ (x : InHand) (w : ByRead x) where
   by-body f (constant words end) a = absurd (omega (arith, a .blocks, w .some))
   by-body f (raw words end) a = absurd (omega (arith, a .blocks, w .some))
   by-body f (blocks c) a = in-blocks f c a
+  by-body f (huffman delta symbols end) a = absurd (omega (arith, a .blocks, w .some))
 
   pub opened-by-read : Found x
   opened-by-read = let (m, a) = accepted in by-body (m .mask) (m .body) (go m a)

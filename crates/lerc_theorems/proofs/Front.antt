@@ -34,11 +34,13 @@ use Rattle.lerc_ranges.specs.declared.Ranges.{Ranges}
 use Rattle.lerc_mask.specs.Mask.{maskField}
 use Rattle.lerc_validity.specs.Validity.{uniform, kept, unrolled, maskIn, maskSays}
 use Rattle.lerc_ranges.specs.Ranges.{uniformRanges, numberAt, byDepth, maximaAt, rangesEnd, codedRanges, rangesSays, constantWords}
-use Rattle.lerc_sweep.specs.Sweep.{Way, rawFrom, blocksFrom, hasModeByte, modeByte, modeAt, moded, sweepByte, swept}
+use Rattle.lerc_sweep.specs.Sweep.{Way, rawFrom, blocksFrom, huffmanFrom, hasModeByte, modeByte, modeAt, moded, sweepByte, swept}
 use Rattle.lerc_image.specs.Blocks.{Chain, blockAt, chain, allBlocks}
 use Rattle.lerc_image.proofs.Chain.{chain-none, chain-front, chain-parts}
-use Rattle.lerc.specs.Meaning.{Body, empty, missingWordAt, rawBody, blockBody, bodyFrom, sweptBody, constantBody, bodySays, endOf}
-use Rattle.lerc_theorems.proofs.Bodies.{placeOf, sweep-is, swept-in, judged, judged-is, block-in, chain-in}
+use Rattle.lerc_byte_image.specs.Image.{imageAt}
+use Rattle.lerc_byte_image.proofs.Front.{image-front, image-bounds}
+use Rattle.lerc.specs.Meaning.{Body, empty, missingWordAt, rawBody, blockBody, huffmanBody, bodyFrom, sweptBody, constantBody, bodySays, endOf}
+use Rattle.lerc_theorems.proofs.Bodies.{placeOf, mode-place, sweep-is, swept-in, judged, judged-is, block-in, chain-in}
 
 -- they agree in the bytes from j up to k, and the second has them
 pub record Agree (s t : List ℕ) (j k : ℕ) : Type 0 where
@@ -175,9 +177,8 @@ module _ {s t : List ℕ} {j k : ℕ} (a : Agree s t j k) where
   mode-agrees at w o l e =
       let (mode, p, e) = bind-is (wordAt 1 s at) _ (marked-is at (modeByte s at) e) in
       let (_, q, e) = bind-is (require (ltb mode 3) 8) _ e in
-      let (_, r, e) = bind-is (require (eqb mode 0) 10) _ e in
-      let z : at + 1 ≡ placeOf w = ap placeOf (ok-is e) in
-      rw (word-agrees 1 at mode p o (omega (arith, z)), require-is (ltb mode 3) 8 q, require-is (eqb mode 0) 10 r) e
+      let z : at + 1 ≡ placeOf w = sym (mode-place (eqb mode 0) (eqb mode 1) at) ∙ ap placeOf (ok-is e) in
+      rw (word-agrees 1 at mode p o (omega (arith, z)), require-is (ltb mode 3) 8 q) e
 
   pub sweep-agrees : (kind error at : ℕ) (w : Way) → j ≤ at → placeOf w ≤ k → swept s kind error at ≡ ok w → swept t kind error at ≡ ok w
   unfolding swept sweepByte moded
@@ -253,8 +254,8 @@ module _ {s t : List ℕ} {k : ℕ} (a : Agree s t headerBytes k) where
           let z : r .at ≡ endOf y = ap endOf (ok-is e) in
           omega (arith, z)
 
-      from-agrees : (r : Ranges) (w : Way) → headerBytes ≤ placeOf w → placeOf w ≤ length s → bodyFrom s h r m w ≡ ok y → (placeOf w ≤ k) × (bodyFrom t h r m w ≡ ok y)
-      unfolding rawBody blockBody
+      from-agrees : (r : Ranges) (w : Way) → headerBytes < placeOf w → placeOf w ≤ length s → bodyFrom s h r m w ≡ ok y → (placeOf w ≤ k) × (bodyFrom t h r m w ≡ ok y)
+      unfolding rawBody blockBody huffmanBody
       from-agrees r (rawFrom at) f o e =
           let words = rawWords s at (h .kind) (h .valid * h .depth) in
           let (b, p, e) = bind-is (marked (missingWordAt (length s) at (h .kind)) words) _ e in
@@ -266,6 +267,11 @@ module _ {s t : List ℕ} {k : ℕ} (a : Agree s t headerBytes k) where
           let z : c .end ≡ endOf y = ap endOf (ok-is e) in
           let i = chain-in s h (r .max) m (blockCount (shapeOf h)) 0 at c o p in
           (omega (arith, i .0, z), rw (chain-agrees a h (r .max) m (blockCount (shapeOf h)) 0 at c (omega arith) (omega (arith, z)) p) e)
+      from-agrees r (huffmanFrom delta mode) f o e =
+          let (c, p, e) = bind-is (imageAt s h mode) _ e in
+          let z : c .end ≡ endOf y = ap endOf (ok-is e) in
+          let i = image-bounds s h mode p in
+          (omega (arith, i .0, z), rw (image-front s t h mode p (λ j u v. a .bytes j (omega arith) (omega (arith, z))) (omega (arith, a .room, z))) e)
 
       swept-agrees : (r : Ranges) → headerBytes ≤ r .at → sweptBody s h r m ≡ ok y → (r .at ≤ k) × (sweptBody t h r m ≡ ok y)
       unfolding sweptBody

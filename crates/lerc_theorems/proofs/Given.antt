@@ -3,6 +3,7 @@
 use mathlib.Core.Bool.{Bool}
 use mathlib.Core.List.{List}
 use Prim.Native.Nat.{ℕ}
+use lib.ListN.{take}
 use Rattle.lerc_words.specs.declared.Refusal.{Refusal}
 use Rattle.lerc_bits.specs.declared.Plan.{Plan}
 use Rattle.lerc_header.specs.declared.Header.{Header}
@@ -10,7 +11,8 @@ use Rattle.lerc_ranges.specs.declared.Ranges.{Ranges}
 use Rattle.lerc.specs.declared.StageAnswer.{StageAnswer}
 use Rattle.lerc.specs.Read.{Lent}
 use Rattle.lerc_theorems.specs.BlockTable.{At, at-place, WordRefused, word-wide, word-cut, SampleRefused, sample-cut, StoredRefused, not-finite, out-of-range, IntegerRefused, no-integer, not-stored, KindRefused, no-kind, ConstantsRefused, not-constant, TabledRefused, no-bits, entries-cut, entries-few, table-cut, PackedRefused, plain-cut, not-tabled, PlanRefused, counts-cut, width-wrong, count-cut, count-large, packed-refused, CountsRefused, not-planned, index-large, LevelsRefused, level-refused, counts-refused, miscounted-block, value-refused, OffsetRefused, kind-refused, offset-cut, offset-not-finite, levels-refused, BlockRefused, flag-cut, check-wrong, raw-cut, offset-refused, ReadBlockRefused, tile-large, not-read, PlannedRefused, plan-loose, planned-index, OffsetPlanRefused, plan-kind, plan-offset-cut, plan-not-finite, plan-counts, BlockPlanRefused, plan-tile-large, plan-flag-cut, plan-check-wrong, plan-raw-cut, plan-offset}
-use Rattle.lerc_theorems.specs.Table.{HeldRefused, field-wrong, ceiling-passed, blob-cut, HeaderRefused, header-cut, key-wrong, not-held, checksum-wrong, RunsRefused, runs-room, runs-breach, FindRefused, find-room, section-cut, find-wrong, PrepareRefused, mask-held, mask-room, mask-wrong, RangesRefused, ranges-cut, minimum-wrong, maximum-wrong, RangesInRefused, depths-many, ranges-not-in, ReadRangesRefused, ranges-held, ranges-wrong, PairsRefused, pair-wrong, ModeRefused, mode-cut, mode-wrong, mode-coded, SweepRefused, sweep-cut, sweep-wrong, mode-refused, ChainRefused, block-refused, WalkBodyRefused, walk-sweep, walk-raw, walk-blocks, WalkRefused, walk-held, walk-room, walk-pairs, walk-other, walk-body, FillRefused, fill-held, fill-number, fill-room, fill-pairs, fill-block, CheckRefused, check-held, check-room, check-blocks, OwnRefused, own-held, own-blocks, TilesRefused, tiles-held, tiles-room, tiles-blocks, BodyRefused, body-ranges, body-constant, body-sweep, body-raw, body-blocks, WholeRefused, whole-header, whole-room, whole-mask, whole-body, PublishRefused, publish-blob, publish-given}
+use Rattle.lerc_theorems.specs.Table.{HeldRefused, field-wrong, ceiling-passed, blob-cut, HeaderRefused, header-cut, key-wrong, not-held, checksum-wrong, RunsRefused, runs-room, runs-breach, FindRefused, find-room, section-cut, find-wrong, PrepareRefused, mask-held, mask-room, mask-wrong, RangesRefused, ranges-cut, minimum-wrong, maximum-wrong, RangesInRefused, depths-many, ranges-not-in, ReadRangesRefused, ranges-held, ranges-wrong, PairsRefused, pair-wrong, ModeRefused, mode-cut, mode-wrong, SweepRefused, sweep-cut, sweep-wrong, mode-refused, ChainRefused, block-refused, WalkBodyRefused, walk-sweep, walk-raw, walk-huffman, walk-blocks, WalkRefused, walk-held, walk-room, walk-pairs, walk-other, walk-body, FillRefused, fill-held, fill-number, fill-room, fill-pairs, fill-block, CheckRefused, check-held, check-room, check-blocks, OwnRefused, own-held, own-blocks, TilesRefused, tiles-held, tiles-room, tiles-blocks, CheckImageRefused, image-held, image-wrong, BodyRefused, body-ranges, body-constant, body-sweep, body-raw, body-blocks, body-huffman, WholeRefused, whole-header, whole-room, whole-mask, whole-body, PublishRefused, publish-blob, publish-given}
+use Rattle.lerc_theorems.proofs.Images.{image-in}
 
 module _ (P : ℕ → Type 0) where
   -- wherever it is told
@@ -139,22 +141,22 @@ module _ (P : ℕ → Type 0) where
   read-ranges-in one three four seven (ranges-held r) = held-in one three four r
   read-ranges-in one three four seven (ranges-wrong g r) = ranges-in one seven r
 
-  pub mode-in : {why : Refusal} {s : List ℕ} {at : ℕ} → P 1 → P 8 → P 10 → ModeRefused s at why → P (why .number)
-  mode-in one eight ten (mode-cut l) = one
-  mode-in one eight ten (mode-wrong v d l) = eight
-  mode-in one eight ten (mode-coded v d l u) = ten
+  pub mode-in : {why : Refusal} {s : List ℕ} {at : ℕ} → P 1 → P 8 → ModeRefused s at why → P (why .number)
+  mode-in one eight (mode-cut l) = one
+  mode-in one eight (mode-wrong v d l) = eight
 
-  pub sweep-in : {why : Refusal} {s : List ℕ} {kind error at : ℕ} → P 1 → P 8 → P 10 → SweepRefused s kind error at why → P (why .number)
-  sweep-in one eight ten (sweep-cut l) = one
-  sweep-in one eight ten (sweep-wrong v d l) = eight
-  sweep-in one eight ten (mode-refused d m r) = mode-in one eight ten r
+  pub sweep-in : {why : Refusal} {s : List ℕ} {kind error at : ℕ} → P 1 → P 8 → SweepRefused s kind error at why → P (why .number)
+  sweep-in one eight (sweep-cut l) = one
+  sweep-in one eight (sweep-wrong v d l) = eight
+  sweep-in one eight (mode-refused d m r) = mode-in one eight r
 
   pub chain-in : {why : Refusal} {s : List ℕ} {h : Header} {maxima m : List ℕ} {f k at : ℕ} → P 1 → P 8 → P 9 → ChainRefused s h maxima m f k at why → P (why .number)
   chain-in one eight nine (block-refused k c l d r) = at-in (λ j. block-in one eight nine) r
 
   pub walk-body-in : {why : Refusal} {s : List ℕ} {h : Header} {r : Ranges} {m : List ℕ} → P 1 → P 8 → P 9 → P 10 → WalkBodyRefused s h r m why → P (why .number)
-  walk-body-in one eight nine ten (walk-sweep r) = sweep-in one eight ten r
+  walk-body-in one eight nine ten (walk-sweep r) = sweep-in one eight r
   walk-body-in one eight nine ten (walk-raw at d) = ten
+  walk-body-in one eight nine ten (walk-huffman delta mode d) = ten
   walk-body-in one eight nine ten (walk-blocks at d c) = chain-in one eight nine c
 
   pub walk-in : {why : Refusal} {b : List ℕ} {h : Header} {r : Ranges} {m : List ℕ} {entries : ℕ} → P 1 → P 3 → P 4 → P 5 → P 7 → P 8 → P 9 → P 10 → WalkRefused b h r m entries why → P (why .number)
@@ -185,20 +187,25 @@ module _ (P : ℕ → Type 0) where
   tiles-in one three four five eight nine (tiles-room g u) = five
   tiles-in one three four five eight nine (tiles-blocks g k c) = chain-in one eight nine c
 
-  pub body-in : {why : Refusal} {s : List ℕ} {h : Header} {m : List ℕ} → P 1 → P 7 → P 8 → P 9 → P 10 → BodyRefused s h m why → P (why .number)
-  body-in one seven eight nine ten (body-ranges v r) = ranges-in one seven r
-  body-in one seven eight nine ten (body-constant r v d c k) = constants-in nine k
-  body-in one seven eight nine ten (body-sweep r v d c k) = sweep-in one eight ten k
-  body-in one seven eight nine ten (body-raw r at k v d c w l u o) = one
-  body-in one seven eight nine ten (body-blocks r at v d c w k) = chain-in one eight nine k
+  pub check-image-in : {why : Refusal} {b : List ℕ} {h : Header} {mode : ℕ} → P 1 → P 3 → P 4 → P 8 → CheckImageRefused b h mode why → P (why .number)
+  check-image-in one three four eight (image-held r) = held-in one three four r
+  check-image-in {b = b} {h = h} {mode = mode} one three four eight (image-wrong g r) = image-in P (take (h .size) b) h mode one eight r
 
-  pub whole-in : {why : Refusal} {b : List ℕ} {reuse : Bool} {l : Lent} → P 1 → P 2 → P 3 → P 4 → P 5 → P 6 → P 7 → P 8 → P 9 → P 10 → P 13 → WholeRefused b reuse l why → P (why .number)
-  whole-in one two three four five six seven eight nine ten thirteen (whole-header r) = header-in one two three four thirteen r
-  whole-in one two three four five six seven eight nine ten thirteen (whole-room h d t) = five
-  whole-in one two three four five six seven eight nine ten thirteen (whole-mask h d t w) = six
-  whole-in one two three four five six seven eight nine ten thirteen (whole-body k d r) = body-in one seven eight nine ten r
+  pub body-in : {why : Refusal} {s : List ℕ} {h : Header} {m : List ℕ} → P 1 → P 7 → P 8 → P 9 → BodyRefused s h m why → P (why .number)
+  body-in one seven eight nine (body-ranges v r) = ranges-in one seven r
+  body-in one seven eight nine (body-constant r v d c k) = constants-in nine k
+  body-in one seven eight nine (body-sweep r v d c k) = sweep-in one eight k
+  body-in one seven eight nine (body-raw r at k v d c w l u o) = one
+  body-in one seven eight nine (body-blocks r at v d c w k) = chain-in one eight nine k
+  body-in {s = s} {h = h} one seven eight nine (body-huffman r delta mode v d c w k) = image-in P s h mode one eight k
 
-  pub publish-in : {why : Refusal} {b : List ℕ} {reuse : Bool} {given : StageAnswer} {l : Lent} → P 1 → P 2 → P 3 → P 4 → P 5 → P 6 → P 7 → P 8 → P 9 → P 10 → P 13
+  pub whole-in : {why : Refusal} {b : List ℕ} {reuse : Bool} {l : Lent} → P 1 → P 2 → P 3 → P 4 → P 5 → P 6 → P 7 → P 8 → P 9 → P 13 → WholeRefused b reuse l why → P (why .number)
+  whole-in one two three four five six seven eight nine thirteen (whole-header r) = header-in one two three four thirteen r
+  whole-in one two three four five six seven eight nine thirteen (whole-room h d t) = five
+  whole-in one two three four five six seven eight nine thirteen (whole-mask h d t w) = six
+  whole-in one two three four five six seven eight nine thirteen (whole-body k d r) = body-in one seven eight nine r
+
+  pub publish-in : {why : Refusal} {b : List ℕ} {reuse : Bool} {given : StageAnswer} {l : Lent} → P 1 → P 2 → P 3 → P 4 → P 5 → P 6 → P 7 → P 8 → P 9 → P 13
       → PublishRefused b reuse given l why → P (why .number)
-  publish-in one two three four five six seven eight nine ten thirteen (publish-blob w) = whole-in one two three four five six seven eight nine ten thirteen w
-  publish-in one two three four five six seven eight nine ten thirteen (publish-given m d t) = three
+  publish-in one two three four five six seven eight nine thirteen (publish-blob w) = whole-in one two three four five six seven eight nine thirteen w
+  publish-in one two three four five six seven eight nine thirteen (publish-given m d t) = three

@@ -10,6 +10,8 @@ pub mod Wrong
 pub mod Masks
 pub mod Headers
 pub mod Blocks
+pub mod Huffman
+pub mod Images
 pub mod Entries
 pub mod Given
 pub mod Numbers

@@ -23,7 +23,7 @@ use Rattle.lerc_ranges.specs.declared.Ranges.{Ranges}
 use Rattle.lerc_block.specs.Block.{Block}
 use Rattle.lerc_image.specs.Geometry.{tileOf, pixelOf, tileSize, blockOf, placeIn, rank, validInTile, isValidCell}
 use Rattle.lerc_image.specs.Paint.{inBlock, indexOf, wordOf, scattered}
-use Rattle.lerc_sweep.specs.Sweep.{Way, rawFrom, blocksFrom, swept}
+use Rattle.lerc_sweep.specs.Sweep.{Way, rawFrom, blocksFrom, huffmanFrom, swept}
 use Rattle.lerc_image.specs.Blocks.{blockAt, chain}
 use Rattle.lerc_image.specs.Fill.{fillSays, fillImage}
 use Rattle.lerc_image.specs.Walk.{wayWalked, bodyWalked, walkSays}
@@ -101,6 +101,7 @@ module _ (b : List ℕ) (h : Header) (w : held h (length b) ≡ ok (extentOf h))
   unfolding wayWalked
   way-same s maxima sweep (rawFrom at) = refl
   way-same s maxima sweep (blocksFrom at) = chain-same s maxima (blockCount (shapeOf h)) 0 at (omega arith)
+  way-same s maxima sweep (huffmanFrom delta mode) = refl
 
   body-same : (s maxima : List ℕ) (at : ℕ) → bodyWalked s h maxima m at ≡ bodyWalked s h maxima q at
   unfolding bodyWalked

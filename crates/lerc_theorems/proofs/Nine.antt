@@ -1,6 +1,7 @@
 -- Which reads can refuse 9: no block of a blob whose ranges were read from it, and so a constant body alone.
 -- Assumes nothing.
 use mathlib.Core.Path.{_≡_, _∙_, sym, ap, refl}
+use mathlib.Core.Logic.{⊎-elim}
 use mathlib.Core.Bool.{Bool, true, false, not, cond}
 use mathlib.Core.List.{List, _∷_}
 use Prim.Native.Nat.{ℕ, zero, suc, _+_, _*_, _≤_, _<_, min}
@@ -32,10 +33,12 @@ use Rattle.lerc_validity.specs.Validity.{bytesOf, uniform, kept, unrolled, mask
 use Rattle.lerc_ranges.specs.Ranges.{uniformRanges, numberAt, maximaAt, rangesEnd, codedRanges, pairsRight, wrongNumberAt, rangesSays, constantWords}
 use Rattle.lerc_ranges.proofs.ByDepth.{getD-by-depth}
 use Rattle.lerc_image.specs.Geometry.{tileOf, validInTile}
-use Rattle.lerc_sweep.specs.Sweep.{Way, rawFrom, blocksFrom, hasModeByte, modeByte, modeAt, moded, sweepByte, swept}
+use Rattle.lerc_sweep.specs.Sweep.{Way, rawFrom, blocksFrom, huffmanFrom, hasModeByte, modeByte, modeAt, moded, sweepByte, swept}
 use Rattle.lerc_image.specs.Blocks.{blockAt, chain, allBlocks}
 use Rattle.lerc_image.proofs.Partition.{tile-depth}
-use Rattle.lerc.specs.Meaning.{empty, constant, missingWordAt, rawBody, blockBody, bodyFrom, sweptBody, constantBody, bodySays, meaningFrom, meaning}
+use Rattle.lerc_byte_image.specs.Image.{imageAt}
+use Rattle.lerc_byte_image.proofs.Refusals.{image-numbers}
+use Rattle.lerc.specs.Meaning.{empty, constant, missingWordAt, rawBody, blockBody, huffmanBody, bodyFrom, sweptBody, constantBody, bodySays, meaningFrom, meaning}
 use Rattle.lerc_theorems.specs.DemandTwo.{Unstored}
 use Rattle.lerc_theorems.proofs.Demands.{fail-is, not-refused}
 use Rattle.lerc_theorems.proofs.Blocks.{stored-exactly, constants-exactly, block-exactly}
@@ -114,7 +117,7 @@ module _ (s : List ℕ) where
   mode-spared at =
       never-marked at (modeByte s at)
       (never-bind (wordAt 1 s at) _ (word-spared 1 at)
-      (λ mode. never-if (ltb mode 3) 8 _ refl (λ _. never-if (eqb mode 0) 10 _ refl (λ _. never-ok _))))
+      (λ mode. never-if (ltb mode 3) 8 _ refl (λ _. never-ok _)))
 
   sweep-spared : (kind error at : ℕ) → NeverNine (swept s kind error at)
   unfolding swept sweepByte moded
@@ -122,6 +125,9 @@ module _ (s : List ℕ) where
       never-bind (marked at (sweepByte s at)) _
       (never-marked at (sweepByte s at) (never-bind (wordAt 1 s at) _ (word-spared 1 at) (λ sweep. never-if (ltb sweep 2) 8 _ refl (λ _. never-ok _))))
       (λ sweep. never-cond (eqb sweep 1) (never-ok _) (never-cond (hasModeByte kind error) (mode-spared (at + 1)) (never-ok _)))
+
+  image-spared : (h : Header) (mode : ℕ) → NeverNine (imageAt s h mode)
+  image-spared h mode why e z = ⊎-elim (λ p. let y : 1 ≡ 9 = sym p ∙ z in absurd (omega arith)) (λ p. let y : 8 ≡ 9 = sym p ∙ z in absurd (omega arith)) (image-numbers s h mode why e .1)
 
   ranges-spared : (h : Header) → NeverNine (rangesSays s h)
   unfolding rangesSays
@@ -163,7 +169,7 @@ module _ (s : List ℕ) (h : Header) (m : List ℕ) (few : h .depth ≤ depthLim
 
   module _ (shaped : Shaped (shapeOf h)) (plus : negative (h .error) ≡ false) where
     from-spared : (w : Way) → NeverNine (bodyFrom s h (codedRanges s h) m w)
-    unfolding rawBody blockBody
+    unfolding rawBody blockBody huffmanBody
     from-spared (rawFrom at) =
         let words = rawWords s at (h .kind) (h .valid * h .depth) in
         never-bind (marked (missingWordAt (length s) at (h .kind)) words) _ (never-marked _ words (raw-spared s (h .kind) at (h .valid * h .depth))) (λ b. never-ok _)
@@ -171,6 +177,7 @@ module _ (s : List ℕ) (h : Header) (m : List ℕ) (few : h .depth ≤ depthLim
         never-bind (allBlocks s h (codedRanges s h .max) m at) _
         (chain-spared s h (codedRanges s h .max) m plus (λ n l. coded-high (tileOf (shapeOf h) n .d) (tile-depth (shapeOf h) shaped n l)) (blockCount (shapeOf h)) 0 at (omega arith))
         (λ c. never-ok _)
+    from-spared (huffmanFrom delta mode) = never-bind (imageAt s h mode) _ (image-spared s h mode) (λ c. never-ok _)
 
     swept-spared : NeverNine (sweptBody s h (codedRanges s h) m)
     unfolding sweptBody

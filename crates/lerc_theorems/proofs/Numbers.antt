@@ -28,13 +28,14 @@ use Rattle.lerc_block.proofs.Returns.{said-same as block-same}
 use Rattle.lerc_image.specs.Paint.{among}
 use Rattle.lerc_theorems.specs.Table.{HeaderRefused, RunsRefused, runs-room, runs-breach, PairsRefused, pair-wrong}
 use Rattle.lerc_theorems.specs.Numbers.{Exactly, ExactlyNumbered, PlacesExactly, NumbersExactly, NumbersOnly}
-use Rattle.lerc_theorems.proofs.SameAnswers.{block-plan-same, word-same, integer-same, offset-same, sample-same, stored-same, counts-same, header-same, open-same, held-same, runs-same, mask-same, pairs-same, way-same, walk-same, fill-same, stage-same, publish-same, read-same}
-use Rattle.lerc_theorems.proofs.Given.{at-in, word-in, integer-in, kind-in, sample-in, stored-in, plan-in, counts-in, held-in, header-in, runs-in, prepare-in, find-in, pairs-in, ranges-in-in, read-ranges-in, constants-in, planned-in, block-plan-in, read-block-in, sweep-in, walk-in, fill-in, check-in, own-in, tiles-in, whole-in, publish-in}
+use Rattle.lerc_theorems.proofs.SameAnswers.{block-plan-same, word-same, integer-same, offset-same, sample-same, stored-same, counts-same, header-same, open-same, held-same, runs-same, mask-same, pairs-same, way-same, walk-same, fill-same, end-same, stage-same, publish-same, read-same}
+use Rattle.lerc_theorems.proofs.Given.{at-in, word-in, integer-in, kind-in, sample-in, stored-in, plan-in, counts-in, held-in, header-in, runs-in, prepare-in, find-in, pairs-in, ranges-in-in, read-ranges-in, constants-in, planned-in, block-plan-in, read-block-in, sweep-in, walk-in, fill-in, check-in, own-in, tiles-in, check-image-in, whole-in, publish-in}
 use Rattle.lerc_theorems.proofs.Masks.{coded-wrong, wrong-coded}
 use Rattle.lerc_theorems.proofs.Wrong.{pairs-not, not-pairs}
 use Rattle.lerc_theorems.proofs.Demands.{demand, not-refused, marked-exactly}
 use Rattle.lerc_theorems.proofs.Headers.{held-exactly, header-exactly, prepare-exactly, find-exactly, ranges-in-exactly, read-ranges-exactly}
 use Rattle.lerc_theorems.proofs.Blocks.{word-exactly, sample-exactly, integer-exactly, stored-exactly, kind-exactly, constants-exactly, plan-exactly, counts-exactly, read-block-exactly, planned-exactly, block-plan-exactly}
+use Rattle.lerc_theorems.proofs.Images.{check-image-exactly}
 use Rattle.lerc_theorems.proofs.Entries.{sweep-exactly, walk-exactly, fill-exactly, check-exactly, own-exactly, tiles-exactly, whole-exactly, publish-exactly}
 
 -- ---- from a promise to its definition
@@ -137,6 +138,7 @@ places-exactly = record {
   check-tiles = λ k a r x p n. by-way (told walk-same refl p) (by-way (behind _ _ n) (check-exactly _ _ _ _ _ n));
   check-own-tiles = λ k a r x p n. by-way (told walk-same refl p) (by-way (behind _ _ n) (own-exactly _ _ _ _ n));
   decode-tiles = λ k a r x p n. by-way (told walk-same refl (p .says)) (by-way (behind _ _ n) (tiles-exactly _ _ _ _ _ _ _ n));
+  check-huffman = λ k a r x p n. by-way (told end-same refl p) (by-way (behind _ _ n) (check-image-exactly _ _ _ n));
   stage = λ k a r x p n. by-way (told stage-same refl (p .says)) (by-way (behind _ _ n) (whole-exactly _ _ _ n));
   publish = λ k a r x p n. by-way (told publish-same refl (p .says)) (by-way (behind _ _ n) (publish-exactly _ _ _ _ n));
   read = λ k a r x p n. by-way (told read-same refl (p .says)) (by-way (behind _ _ n) (whole-exactly _ _ _ n));
@@ -180,6 +182,7 @@ numbers-exactly = record {
   check-tiles = λ k a r x p. by-number (places-exactly .check-tiles k a r x p);
   check-own-tiles = λ k a r x p. by-number (places-exactly .check-own-tiles k a r x p);
   decode-tiles = λ k a r x p. by-number (places-exactly .decode-tiles k a r x p);
+  check-huffman = λ k a r x p. by-number (places-exactly .check-huffman k a r x p);
   stage = λ k a r x p. by-number (places-exactly .stage k a r x p);
   publish = λ k a r x p. by-number (places-exactly .publish k a r x p);
   read = λ k a r x p. by-number (places-exactly .read k a r x p);
@@ -218,13 +221,14 @@ numbers-only = record {
   block-end = λ k a r x p n e. at-in (In (1 ∷ 8 ∷ [])) (λ j. block-plan-in (In (1 ∷ 8 ∷ [])) refl refl) (places-exactly .block-end k a r x p n .0 e);
   read-block = λ k a r x p n e. at-in (In (1 ∷ 8 ∷ 9 ∷ [])) (λ j. read-block-in (In (1 ∷ 8 ∷ 9 ∷ [])) refl refl refl) (places-exactly .read-block k a r x p n .0 e);
   check-block = λ k a r x p n e. at-in (In (1 ∷ 8 ∷ 9 ∷ [])) (λ j. read-block-in (In (1 ∷ 8 ∷ 9 ∷ [])) refl refl refl) (places-exactly .check-block k a r x p n .0 e);
-  read-sweep = λ k a r x p n e. sweep-in (In (1 ∷ 8 ∷ 10 ∷ [])) refl refl refl (places-exactly .read-sweep k a r x p n .0 e);
+  read-sweep = λ k a r x p n e. sweep-in (In (1 ∷ 8 ∷ [])) refl refl (places-exactly .read-sweep k a r x p n .0 e);
   walk = λ k a r x p n e. walk-in (In (1 ∷ 3 ∷ 4 ∷ 5 ∷ 7 ∷ 8 ∷ 9 ∷ 10 ∷ [])) refl refl refl refl refl refl refl refl (places-exactly .walk k a r x p n .0 e);
   fill = λ k a r x p n e. fill-in (In (1 ∷ 3 ∷ 4 ∷ 5 ∷ 7 ∷ 8 ∷ 9 ∷ 11 ∷ [])) refl refl refl refl refl refl refl refl (places-exactly .fill k a r x p n .0 e);
   check-tiles = λ k a r x p n e. check-in (In (1 ∷ 3 ∷ 4 ∷ 5 ∷ 8 ∷ 9 ∷ [])) refl refl refl refl refl refl (places-exactly .check-tiles k a r x p n .0 e);
   check-own-tiles = λ k a r x p n e. own-in (In (1 ∷ 3 ∷ 4 ∷ 8 ∷ 9 ∷ [])) refl refl refl refl refl (places-exactly .check-own-tiles k a r x p n .0 e);
   decode-tiles = λ k a r x p n e. tiles-in (In (1 ∷ 3 ∷ 4 ∷ 5 ∷ 8 ∷ 9 ∷ [])) refl refl refl refl refl refl (places-exactly .decode-tiles k a r x p n .0 e);
-  stage = λ k a r x p n e. whole-in (In (1 ∷ 2 ∷ 3 ∷ 4 ∷ 5 ∷ 6 ∷ 7 ∷ 8 ∷ 9 ∷ 10 ∷ 13 ∷ [])) refl refl refl refl refl refl refl refl refl refl refl (places-exactly .stage k a r x p n .0 e);
-  publish = λ k a r x p n e. publish-in (In (1 ∷ 2 ∷ 3 ∷ 4 ∷ 5 ∷ 6 ∷ 7 ∷ 8 ∷ 9 ∷ 10 ∷ 13 ∷ [])) refl refl refl refl refl refl refl refl refl refl refl (places-exactly .publish k a r x p n .0 e);
-  read = λ k a r x p n e. whole-in (In (1 ∷ 2 ∷ 3 ∷ 4 ∷ 5 ∷ 6 ∷ 7 ∷ 8 ∷ 9 ∷ 10 ∷ 13 ∷ [])) refl refl refl refl refl refl refl refl refl refl refl (places-exactly .read k a r x p n .0 e);
+  check-huffman = λ k a r x p n e. check-image-in (In (1 ∷ 3 ∷ 4 ∷ 8 ∷ [])) refl refl refl refl (places-exactly .check-huffman k a r x p n .0 e);
+  stage = λ k a r x p n e. whole-in (In (1 ∷ 2 ∷ 3 ∷ 4 ∷ 5 ∷ 6 ∷ 7 ∷ 8 ∷ 9 ∷ 13 ∷ [])) refl refl refl refl refl refl refl refl refl refl (places-exactly .stage k a r x p n .0 e);
+  publish = λ k a r x p n e. publish-in (In (1 ∷ 2 ∷ 3 ∷ 4 ∷ 5 ∷ 6 ∷ 7 ∷ 8 ∷ 9 ∷ 13 ∷ [])) refl refl refl refl refl refl refl refl refl refl (places-exactly .publish k a r x p n .0 e);
+  read = λ k a r x p n e. whole-in (In (1 ∷ 2 ∷ 3 ∷ 4 ∷ 5 ∷ 6 ∷ 7 ∷ 8 ∷ 9 ∷ 13 ∷ [])) refl refl refl refl refl refl refl refl refl refl (places-exactly .read k a r x p n .0 e);
 }

@@ -33,6 +33,8 @@ use Rattle.lerc_image.specs.declared.WalkAnswer.{WalkAnswer}
 use Rattle.lerc_image.specs.declared.WalkAnswer.the-variants as walk
 use Rattle.lerc_image.specs.declared.FillAnswer.{FillAnswer}
 use Rattle.lerc_image.specs.declared.FillAnswer.the-variants as fill
+use Rattle.lerc_byte_image.specs.declared.EndAnswer.{EndAnswer}
+use Rattle.lerc_byte_image.specs.declared.EndAnswer.the-variants as end
 use Rattle.lerc.specs.declared.Staged.{Staged}
 use Rattle.lerc.specs.declared.StageAnswer.{StageAnswer}
 use Rattle.lerc.specs.declared.StageAnswer.the-variants as stage
@@ -54,9 +56,10 @@ use Rattle.lerc_header.specs.Header.{Opened, openSaid, headerSaid, heldSaid}
 use Rattle.lerc_mask.specs.Mask.{runsSaid}
 use Rattle.lerc_validity.specs.Validity.{maskSaid}
 use Rattle.lerc_ranges.specs.Ranges.{pairsSaid}
-use Rattle.lerc_sweep.specs.Sweep.{Way, rawFrom, blocksFrom, waySaid}
+use Rattle.lerc_sweep.specs.Sweep.{Way, rawFrom, blocksFrom, huffmanFrom, waySaid}
 use Rattle.lerc_image.specs.Walk.{Walk, walkSaid}
 use Rattle.lerc_image.specs.Fill.{fillSaid}
+use Rattle.lerc_byte_image.specs.Image.{endSaid}
 use Rattle.lerc.specs.Read.{ReadTold, readSaid}
 use Rattle.lerc.specs.Stage.{stageSaid, PublishTold, publishSaid}
 
@@ -223,6 +226,7 @@ pairs-same = back-same pairsSaid pairs-back (λ a. go a)
 way-back : Res Way → WayAnswer
 way-back (ok (rawFrom at)) = way.Raw at
 way-back (ok (blocksFrom at)) = way.Blocks at
+way-back (ok (huffmanFrom delta mode)) = way.Huffman delta mode
 way-back (fail r) = way.Refused r
 
 pub way-same : (a b : WayAnswer) → waySaid a ≡ waySaid b → a ≡ b
@@ -232,6 +236,7 @@ way-same = back-same waySaid way-back (λ a. go a)
     go : (a : WayAnswer) → way-back (waySaid a) ≡ a
     go (way.Raw at) = refl
     go (way.Blocks at) = refl
+    go (way.Huffman delta mode) = refl
     go (way.Refused r) = refl
 
 walk-back : Res Walk → WalkAnswer
@@ -257,6 +262,18 @@ fill-same = back-same fillSaid fill-back (λ a. go a)
     go : (a : FillAnswer) → fill-back (fillSaid a) ≡ a
     go (fill.Filled n) = refl
     go (fill.Refused r) = refl
+
+end-back : Res ℕ → EndAnswer
+end-back (ok n) = end.End n
+end-back (fail r) = end.Refused r
+
+pub end-same : (a b : EndAnswer) → endSaid a ≡ endSaid b → a ≡ b
+unfolding end-back
+end-same = back-same endSaid end-back (λ a. go a)
+  where
+    go : (a : EndAnswer) → end-back (endSaid a) ≡ a
+    go (end.End n) = refl
+    go (end.Refused r) = refl
 
 stage-back : Res Staged → StageAnswer
 stage-back (ok s) = stage.Staged s

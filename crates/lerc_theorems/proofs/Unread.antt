@@ -38,6 +38,11 @@ use Rattle.lerc_image.specs.Walk.{Walk, walkSays, walkCount, walkOf, walkList}
 use Rattle.lerc_image.specs.Fill.{fillSays, fillCount, fillImage}
 use Rattle.lerc_image.specs.Own.{ownTiles}
 use Rattle.lerc_image.specs.Tiles.{checkedTiles, roomToList, listedTiles, tilesListed, roomToFill, filledTiles, writtenList, writtenImage, tilesSays, tilesImage}
+use Rattle.lerc_byte_image.specs.declared.EndAnswer.{EndAnswer}
+use Rattle.lerc_byte_image.specs.declared.EndAnswer.the-variants as end-answer
+use Rattle.lerc_byte_image.specs.Symbols.{Coded}
+use Rattle.lerc_byte_image.specs.Image.{checkedImage, ended, endSaid, writeTable, writtenImage as writtenBytes}
+use Rattle.lerc_byte_image.proofs.Front.{image-front, image-bounds}
 use Rattle.lerc_fills.specs.Each.{filledOf, fillEach}
 use Rattle.lerc.specs.Meaning.{Meaning, meaningFrom}
 use Rattle.lerc.specs.Read.{Lent, room, Masked, masked, readSays, readCount, published}
@@ -46,7 +51,7 @@ use Rattle.lerc.specs.declared.PublishAnswer.{PublishAnswer}
 use Rattle.lerc.specs.Stage.{stagedOf, stagedSpare, stagedList, publishSays, bodyTold, StageRead, Publishing}
 use Rattle.lerc_theorems.specs.Calls.{WalkCall, FillCall}
 use Rattle.lerc_theorems.specs.Unread.{declared, SameDeclared, SameBelow, SameWithin, Unread}
-use Rattle.lerc_theorems.proofs.SameAnswers.{header-same, open-same, mask-same, walk-same, fill-same, read-same}
+use Rattle.lerc_theorems.proofs.SameAnswers.{header-same, open-same, mask-same, walk-same, fill-same, end-same, read-same}
 use Rattle.lerc_theorems.proofs.Determined.{staged-same, published-same}
 use Rattle.lerc_theorems.proofs.Calls.{header-call, prepare-call, ranges-call, walk-call, fill-call, each-call, tiles-call, read-call}
 use Rattle.lerc_theorems.proofs.Bodies.{swept-in, block-in, chain-in}
@@ -187,6 +192,14 @@ module _ (b c : List ℕ) (h : Header) (same : SameBelow h b c) where
   unfolding writtenImage roomToFill
   written-image-as m maxima at entries image = rw (held-as, same)
 
+  checked-image-as : (mode : ℕ) → checkedImage b h mode ≡ checkedImage c h mode
+  unfolding checkedImage
+  checked-image-as mode = rw (held-as, same)
+
+  written-bytes-as : (mode : ℕ) (delta : Bool) (m image : List ℕ) → writtenBytes b h mode delta m image ≡ writtenBytes c h mode delta m image
+  unfolding writtenBytes writeTable
+  written-bytes-as mode delta m image = rw (held-as, same)
+
 -- ---- the mask section's and the ranges' own bytes
 
 module _ (b c : List ℕ) (h : Header) (long-b : h .size ≤ length b) (long-c : h .size ≤ length c) where
@@ -296,6 +309,25 @@ fill-own b c h r m list n words told old new other k is long same p q =
       fill-call q .image ∙ ap (λ (y : Res Block). after y old (λ u. scattered (shapeOf h) m n (u .words) old)) (f ∙ sym e) ∙ sym (fill-call p .image),
     )
 
+-- ---- a Huffman image's own bytes
+
+module _ (b c : List ℕ) (h : Header) (mode : ℕ) (long : h .size ≤ length c) where
+  image-other : (x : Coded) → SameWithin (mode + 1) (x .end) b c → checkedImage b h mode ≡ ok x → checkedImage c h mode ≡ ok x
+  unfolding checkedImage
+  image-other x same e =
+      let (k, d, e) = bind-is (held h (length b)) _ e in
+      let i : k ≡ extentOf h = held-is h (length b) d in
+      let kept : held h (length b) ≡ ok (extentOf h) = d ∙ ap ok i in
+      let all = length-take-le (h .size) b (long-b b c h long kept) in
+      let in-size : x .end ≤ h .size = omega (arith, image-bounds (take (h .size) b) h mode e .1, all) in
+      rw (held-c b c h long kept) (image-front (take (h .size) b) (take (h .size) c) h mode e (cut (h .size) b c in-size same) (rw (length-take-le (h .size) c long) in-size))
+
+  image-own : (end : ℕ) (told : EndAnswer) → SameWithin (mode + 1) end b c → ok end ≡ ended (checkedImage b h mode) → endSaid told ≡ ended (checkedImage c h mode) → told ≡ end-answer.End end
+  image-own end told same p q =
+      let (x, e, z) = bind-counts (checkedImage b h mode) _ (sym p) in
+      let i : x .end ≡ end = sym z in
+      end-same told (end-answer.End end) (q ∙ ap ended (image-other x (rw (i) same) e) ∙ ap ok i)
+
 -- ---- each operation
 
 pub unread : Unread
@@ -391,6 +423,25 @@ unread = record {
         ∙ ap (λ (z : Header × (RefT (List ℕ) × (RefT (List ℕ) × (ℕ × (RefT (List ℕ) × (RefT (List ℕ) × Unit {0})))))). writtenImage (c .0 .now) (z .0) (z .1 .0 .now) (z .1 .1 .0 .now) (z .1 .1 .1 .0) (length (z .1 .1 .1 .1 .0 .now)) (z .1 .1 .1 .1 .1 .0 .now)) e
         ∙ sym (t .1),
   );
+  check-huffman = λ k a c r q x y e s p t. (
+    end-same r q (
+        p
+        ∙ ap ended (checked-image-as (a .0 .now) (c .0 .now) (a .1 .0) s (a .1 .1 .0))
+        ∙ ap (λ (z : Header × (ℕ × Unit {0})). ended (checkedImage (c .0 .now) (z .0) (z .1 .0))) e
+        ∙ sym t
+        ),
+    refl,
+  );
+  write-huffman = λ k a c r q x y e s p t. (
+    refl,
+    p
+        ∙ written-bytes-as (a .0 .now) (c .0 .now) (a .1 .0) s (a .1 .1 .0) (a .1 .1 .1 .0) (a .1 .1 .1 .1 .0 .now) (a .1 .1 .1 .1 .1 .0 .now)
+        ∙ ap (λ (z : Header × (ℕ × (Bool × (RefT (List ℕ) × (RefT (List ℕ) × Unit {0}))))). writtenBytes (c .0 .now) (z .0) (z .1 .0) (z .1 .1 .0) (z .1 .1 .1 .0 .now) (z .1 .1 .1 .1 .0 .now)) e
+        ∙ sym t,
+  );
+  huffman-own = λ k a c end told x y e l s p t.
+      image-own (a .0 .now) (c .0 .now) (a .1 .0) (a .1 .1 .0) l end told s p
+      (t ∙ ap (λ (z : Header × (ℕ × Unit {0})). ended (checkedImage (c .0 .now) (z .0) (z .1 .0))) (sym e));
   header-own = λ b c h told l x s t p q. header-same told (header-answer.Read h) (header-call q ∙ header-other b c s t h l x (sym (header-call p)));
   prepare-own = λ b c h reuse kept said told old new other l m s p q.
       let e = prepare-other b c h l m s reuse kept (length old) in (

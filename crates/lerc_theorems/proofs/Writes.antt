@@ -35,17 +35,19 @@ use Rattle.lerc_image.proofs.Painting.{length-painted, painted-cell}
 use Rattle.lerc_ranges.specs.Ranges.{rangesSays}
 use Rattle.lerc_image.specs.declared.WalkAnswer.{WalkAnswer}
 use Rattle.lerc_image.specs.Geometry.{isValidCell}
-use Rattle.lerc_sweep.specs.Sweep.{Way, rawFrom, blocksFrom, swept}
+use Rattle.lerc_sweep.specs.Sweep.{Way, rawFrom, blocksFrom, huffmanFrom, swept}
 use Rattle.lerc_image.specs.Blocks.{blockAt, Chain, chain}
 use Rattle.lerc_image.specs.Walk.{walkSays, walkList, BlocksWalked}
 use Rattle.lerc_image.specs.Fill.{fillSays, fillImage}
 use Rattle.lerc_image.specs.Tiles.{blockEnd, headStarts, roomToList, listedTiles, isListed, listedImage, roomToFill, filledTiles, startsFrom, imageFrom, writtenList, writtenImage, tilesSays, Tiled}
 use Rattle.lerc_image.proofs.Chain.{chain-lengths}
+use Rattle.lerc_byte_image.specs.Prediction.{byteWord}
+use Rattle.lerc_byte_image.specs.Image.{symbolNo, writeTable, byTable, writtenImage as writtenBytes}
 use Rattle.lerc_fills.specs.Each.{fillEach}
 use Rattle.lerc.specs.declared.ReadAnswer.the-variants as read
 use Rattle.lerc.specs.Meaning.{Meaning, Body, startsOf, bodyFrom, blockBody, sweptBody, bodySays, meaningFrom}
 use Rattle.lerc.specs.Read.{Lent, room, Masked, masked, readSays, published, readAfter, ReadTold, readCount, WholeRead}
-use Rattle.lerc.proofs.Endings.{constant-starts, raw-starts}
+use Rattle.lerc.proofs.Endings.{constant-starts, raw-starts, huffman-starts}
 use Rattle.lerc_theorems.specs.Writes.{AlikeFrom, AlikeBut, inSome, WritesOnly, WholeWrites}
 use Rattle.lerc_theorems.proofs.Refusals.{masked-is}
 use Rattle.lerc_theorems.proofs.Meanings.{rooms}
@@ -265,6 +267,12 @@ module _ (b : List ℕ) (h : Header) where
       go (fail r) = but-same _ refl
       go (ok t) = from-writes (take (h .size) b) maxima m (blockCount (shapeOf h)) 0 at image
 
+  -- every valid cell of a Huffman image, or none
+  written-bytes : (mode : ℕ) (delta : Bool) (m image : List ℕ) → AlikeBut (isValidCell (shapeOf h) m) image (writtenBytes b h mode delta m image)
+  unfolding writtenBytes byTable
+  written-bytes mode delta m image =
+      but-after (writeTable b h mode (length m) (length image)) (isValidCell (shapeOf h) m) (λ t. byteWord (shapeOf h) (h .kind) delta m (symbolNo (take (h .size) b) t 0)) refl
+
   tiles-starts : (m maxima : List ℕ) (at entries words : ℕ) (c : Chain) → tilesSays b h m maxima at entries words ≡ ok c → (length (c .starts) ≡ blockCount (shapeOf h)) × (blockCount (shapeOf h) ≤ entries)
   unfolding tilesSays
   tiles-starts m maxima at entries words c e =
@@ -300,6 +308,7 @@ writes-only = record {
   write-image = λ k a r x p. rw (p .1) (written-image _ _ _ _ _ _ _);
   tiles-list = λ k a r x p. tiles-write _ _ _ _ _ p .0;
   tiles-image = λ k a r x p. tiles-write _ _ _ _ _ p .1;
+  write-huffman = λ k a r x p. rw (p) (written-bytes _ _ _ _ _ _);
 }
 
 -- ---- whole read
@@ -324,6 +333,7 @@ module _ (s : List ℕ) (h : Header) (m : List ℕ) where
           let (c, d, e) = bind-is (chain s h (r .max) m (blockCount (shapeOf h)) 0 at) _ e in
           let l = chain-lengths s h (r .max) m (blockCount (shapeOf h)) 0 at c d .0 in
           rw (← ok-is e) (omega arith)
+      on (huffmanFrom delta mode) e = none y (huffman-starts s h delta mode y e)
 
   body-starts : Few (bodySays s h m)
   unfolding bodySays

@@ -139,7 +139,7 @@ pub record DemandTwo : Type 0 where
   pub walk-is-read : (b : List ℕ) (reuse : Bool) (kept : List ℕ) (h : Header) (said : MaskAnswer) (spare prepared m q : List ℕ) (r : Ranges) (n end : ℕ) (old new : List ℕ)
       → HeaderCall b (header-answer.Read h) → PrepareCall b h reuse kept said spare prepared → HandedCall kept prepared said m → ReadRanges b h r
       → take (maskLength (shapeOf h)) q ≡ m → WalkCall b h r q (walk-answer.Walked n end) old new → WalkMeans b reuse kept h m n end old new
-  -- in a whole read 9 comes from a constant body alone: a block's values are clamped to a maximum that was read in the blob's own kind, and so always fit
+  -- in a whole read 9 comes from a constant body alone: a block's values are clamped to a maximum that was read in the blob's own kind, and so always fit, and a Huffman image has bytes alone
   pub nine-only-constant : (b : List ℕ) (reuse : Bool) (kept : List ℕ) (why : Refusal) → meaning b reuse kept ≡ fail why → why .number ≡ 9 → Unstored b reuse kept
   -- and such a body is refused 9, at place 0
   pub nine-constant : (b : List ℕ) (reuse : Bool) (kept : List ℕ) → Unstored b reuse kept → meaning b reuse kept ≡ fail (refuse 9)

@@ -6,6 +6,7 @@ pub mod Refusals
 pub mod Writes
 pub mod BlockTable
 pub mod MaskTable
+pub mod HuffmanTable
 pub mod Table
 pub mod Numbers
 pub mod DemandOne

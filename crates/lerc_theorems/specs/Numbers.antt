@@ -61,6 +61,8 @@ use Rattle.lerc_image.specs.declared.FillAnswer.the-variants as fill-answer
 use Rattle.lerc_image.proofs.check_tiles.Reads as check-tiles
 use Rattle.lerc_image.proofs.check_own_tiles.Reads as check-own-tiles
 use Rattle.lerc_image.proofs.decode_tiles.Reads as decode-tiles
+use Rattle.lerc_byte_image.proofs.check.Reads as check-huffman
+use Rattle.lerc_byte_image.specs.declared.EndAnswer.the-variants as end-answer
 use Rattle.lerc.specs.declared.StageAnswer.the-variants as stage-answer
 use Rattle.lerc.specs.declared.PublishAnswer.the-variants as publish-answer
 use Rattle.lerc.specs.declared.ReadAnswer.the-variants as read-answer
@@ -70,7 +72,7 @@ use Rattle.lerc.proofs.publish.Reads as publish
 use Rattle.lerc.proofs.read.Reads as read
 use Rattle.lerc_theorems.specs.Promises.{lent}
 use Rattle.lerc_theorems.specs.BlockTable.{At, WordRefused, IntegerRefused, KindRefused, SampleRefused, StoredRefused, PlanRefused, CountsRefused, PlannedRefused, ConstantsRefused, BlockPlanRefused, ReadBlockRefused}
-use Rattle.lerc_theorems.specs.Table.{HeldRefused, HeaderRefused, RunsRefused, PrepareRefused, FindRefused, PairsRefused, RangesInRefused, ReadRangesRefused, SweepRefused, WalkRefused, FillRefused, CheckRefused, OwnRefused, TilesRefused, WholeRefused, PublishRefused}
+use Rattle.lerc_theorems.specs.Table.{HeldRefused, HeaderRefused, RunsRefused, PrepareRefused, FindRefused, PairsRefused, RangesInRefused, ReadRangesRefused, SweepRefused, WalkRefused, FillRefused, CheckRefused, OwnRefused, TilesRefused, CheckImageRefused, WholeRefused, PublishRefused}
 
 -- an answer that is this refusal
 abbrev pub By : {R : Type 0} → (Refusal → R) → R → Refusal → Type 0
@@ -130,6 +132,7 @@ pub record EachRefusing (Agree : (Refusal → Type 0) → (Refusal → Type 0) �
   pub check-tiles : Promised Agree check-tiles.Post (By walk-answer.Refused) (λ a. CheckRefused (a .0 .now) (a .1 .0) (a .1 .1 .0 .now) (a .1 .1 .1 .0 .now) (a .1 .1 .1 .1 .0))
   pub check-own-tiles : Promised Agree check-own-tiles.Post (By walk-answer.Refused) (λ a. OwnRefused (a .0 .now) (a .1 .0) (a .1 .1 .0 .now) (a .1 .1 .1 .0))
   pub decode-tiles : Promised Agree decode-tiles.Post (By walk-answer.Refused) (λ a. TilesRefused (a .0 .now) (a .1 .0) (a .1 .1 .0 .now) (a .1 .1 .1 .0 .now) (a .1 .1 .1 .1 .0) (length (a .1 .1 .1 .1 .1 .0 .now)) (length (a .1 .1 .1 .1 .1 .1 .0 .now)))
+  pub check-huffman : Promised Agree check-huffman.Post (By end-answer.Refused) (λ a. CheckImageRefused (a .0 .now) (a .1 .0) (a .1 .1 .0))
   pub stage : Promised Agree stage.Post (By stage-answer.Refused) (λ a. WholeRefused (a .0 .now) (a .1 .0) (lent a))
   pub publish : Promised Agree publish.Post (By publish-answer.Refused) (λ a. PublishRefused (a .0 .now) (a .1 .0) (a .1 .1 .0) (record { kept = a .1 .1 .1 .0 .now; spare = a .1 .1 .1 .1 .0 .now; list = a .1 .1 .1 .1 .1 .0 .now; image = a .1 .1 .1 .1 .1 .1 .0 .now }))
   pub read : Promised Agree read.Post (By read-answer.Refused) (λ a. WholeRefused (a .0 .now) (a .1 .0) (lent a))
@@ -170,12 +173,15 @@ pub record NumbersOnly : Type 0 where
   pub block-end : Only block-end.Post (By block-answer.Refused) (1 ∷ 8 ∷ [])
   pub read-block : Only read-block.Post (By block-answer.Refused) (1 ∷ 8 ∷ 9 ∷ [])
   pub check-block : Only check-block.Post (By block-answer.Refused) (1 ∷ 8 ∷ 9 ∷ [])
-  pub read-sweep : Only read-sweep.Post (By way-answer.Refused) (1 ∷ 8 ∷ 10 ∷ [])
+  pub read-sweep : Only read-sweep.Post (By way-answer.Refused) (1 ∷ 8 ∷ [])
   pub walk : Only walk.Post (By walk-answer.Refused) (1 ∷ 3 ∷ 4 ∷ 5 ∷ 7 ∷ 8 ∷ 9 ∷ 10 ∷ [])
   pub fill : Only fill.Post (By fill-answer.Refused) (1 ∷ 3 ∷ 4 ∷ 5 ∷ 7 ∷ 8 ∷ 9 ∷ 11 ∷ [])
   pub check-tiles : Only check-tiles.Post (By walk-answer.Refused) (1 ∷ 3 ∷ 4 ∷ 5 ∷ 8 ∷ 9 ∷ [])
   pub check-own-tiles : Only check-own-tiles.Post (By walk-answer.Refused) (1 ∷ 3 ∷ 4 ∷ 8 ∷ 9 ∷ [])
   pub decode-tiles : Only decode-tiles.Post (By walk-answer.Refused) (1 ∷ 3 ∷ 4 ∷ 5 ∷ 8 ∷ 9 ∷ [])
-  pub stage : Only stage.Post (By stage-answer.Refused) (1 ∷ 2 ∷ 3 ∷ 4 ∷ 5 ∷ 6 ∷ 7 ∷ 8 ∷ 9 ∷ 10 ∷ 13 ∷ [])
-  pub publish : Only publish.Post (By publish-answer.Refused) (1 ∷ 2 ∷ 3 ∷ 4 ∷ 5 ∷ 6 ∷ 7 ∷ 8 ∷ 9 ∷ 10 ∷ 13 ∷ [])
-  pub read : Only read.Post (By read-answer.Refused) (1 ∷ 2 ∷ 3 ∷ 4 ∷ 5 ∷ 6 ∷ 7 ∷ 8 ∷ 9 ∷ 10 ∷ 13 ∷ [])
+  -- no Huffman image is refused 9
+  pub check-huffman : Only check-huffman.Post (By end-answer.Refused) (1 ∷ 3 ∷ 4 ∷ 8 ∷ [])
+  -- a mode byte of 1 or 2 decodes: none of these is refused 10
+  pub stage : Only stage.Post (By stage-answer.Refused) (1 ∷ 2 ∷ 3 ∷ 4 ∷ 5 ∷ 6 ∷ 7 ∷ 8 ∷ 9 ∷ 13 ∷ [])
+  pub publish : Only publish.Post (By publish-answer.Refused) (1 ∷ 2 ∷ 3 ∷ 4 ∷ 5 ∷ 6 ∷ 7 ∷ 8 ∷ 9 ∷ 13 ∷ [])
+  pub read : Only read.Post (By read-answer.Refused) (1 ∷ 2 ∷ 3 ∷ 4 ∷ 5 ∷ 6 ∷ 7 ∷ 8 ∷ 9 ∷ 13 ∷ [])

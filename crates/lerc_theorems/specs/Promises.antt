@@ -103,6 +103,9 @@ use Rattle.lerc_image.proofs.are_listed.Reads as are-listed
 use Rattle.lerc_image.proofs.fill_tiles.Reads as fill-tiles
 use Rattle.lerc_image.proofs.write_tiles.Reads as write-tiles
 use Rattle.lerc_image.proofs.decode_tiles.Reads as decode-tiles
+use Rattle.lerc_byte_image.proofs.EndAnswer.refusal.Reads as end-refusal
+use Rattle.lerc_byte_image.proofs.check.Reads as check-huffman
+use Rattle.lerc_byte_image.proofs.write.Reads as write-huffman
 use Rattle.lerc_fills.proofs.fill_each.Reads as fill-each
 use Rattle.lerc.specs.Read.{Lent}
 use Rattle.lerc.proofs.StageAnswer.refusal.Reads as stage-refusal
@@ -257,6 +260,10 @@ pub record NoRoom : Type 0 where
   pub fill-tiles : Writes fill-tiles.Pre fill-tiles.Post (λ o. o .1 .1 .1 .1 .1 .0 .now)
   pub write-tiles : Writes {S = List ℕ × List ℕ} write-tiles.Pre write-tiles.Post (λ o. (o .1 .1 .1 .1 .1 .0 .now, o .1 .1 .1 .1 .1 .1 .0 .now))
   pub decode-tiles : Writes {S = List ℕ × List ℕ} decode-tiles.Pre decode-tiles.Post (λ o. (o .1 .1 .1 .1 .1 .0 .now, o .1 .1 .1 .1 .1 .1 .0 .now))
+  -- lerc_byte_image
+  pub end-refusal : Answers end-refusal.Pre end-refusal.Post
+  pub check-huffman : Answers check-huffman.Pre check-huffman.Post
+  pub write-huffman : Writes write-huffman.Pre write-huffman.Post (λ o. o .1 .1 .1 .1 .1 .0 .now)
   -- lerc_fills
   pub fill-each : Writes fill-each.Pre fill-each.Post (λ o. o .1 .1 .1 .1 .1 .1 .0 .now)
   -- lerc

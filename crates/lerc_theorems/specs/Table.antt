@@ -20,7 +20,7 @@ use Rattle.lerc_mask.specs.Mask.{validBelow, maskBytes}
 use Rattle.lerc_ranges.specs.declared.Ranges.{Ranges}
 use Rattle.lerc_validity.specs.Validity.{bytesOf}
 use Rattle.lerc_ranges.specs.Ranges.{maximaAt, rangesEnd, codedRanges, pairsRight, rangesSays}
-use Rattle.lerc_sweep.specs.Sweep.{rawFrom, blocksFrom, hasModeByte, swept}
+use Rattle.lerc_sweep.specs.Sweep.{rawFrom, blocksFrom, huffmanFrom, hasModeByte, swept}
 use Rattle.lerc_image.specs.Geometry.{tileOf, validInTile}
 use Rattle.lerc_image.specs.Blocks.{Chain, chain}
 use Rattle.lerc_image.specs.Own.{ownMask}
@@ -29,6 +29,7 @@ use Rattle.lerc.specs.Meaning.{Meaning}
 use Rattle.lerc.specs.Read.{Lent, room, Masked, masked, readSays}
 use Rattle.lerc.specs.Stage.{wasStaged}
 use Rattle.lerc_theorems.specs.MaskTable.{CodedWrong}
+use Rattle.lerc_theorems.specs.HuffmanTable.{HuffmanRefused}
 use Rattle.lerc_theorems.specs.BlockTable.{At, ConstantsRefused, BlockRefused}
 
 -- ---- tests that fail. Demands with one number have no order among themselves, but for ranges that are read: there the place tells which comes first
@@ -164,13 +165,12 @@ pub data ReadRangesRefused (b : List ℕ) (h : Header) : Refusal → Type 0 wher
 pub data PairsRefused (depth : ℕ) (r : Ranges) : Refusal → Type 0 where
   pair-wrong : SomePairWrong (min depth depthLimit) r → PairsRefused depth r (refuse 7)
 
--- ---- sweep and mode byte: "the sweep or mode byte for a fault in it, 10 included, or where the missing one should be"
+-- ---- sweep and mode byte: "the sweep or mode byte for a fault in it .., or where the missing one should be"
 
--- "0 blocks; 1, 2 refused 10; others 8"
+-- "0 blocks; .. others 8"; "Mode bytes 1 (delta) and 2 now decode"
 pub data ModeRefused (s : List ℕ) (at : ℕ) : Refusal → Type 0 where
   mode-cut : length s < at + 1 → ModeRefused s at (placed at (refuse 1))
   mode-wrong : (v : ℕ) → wordAt 1 s at ≡ ok v → 3 ≤ v → ModeRefused s at (placed at (refuse 8))
-  mode-coded : (v : ℕ) → wordAt 1 s at ≡ ok v → 1 ≤ v → v ≤ 2 → ModeRefused s at (placed at (refuse 10))
 
 -- "1 is raw words ..; 0 goes on; others are 8. Kinds 0 and 1 with error exactly 0.5 have a mode byte"
 pub data SweepRefused (s : List ℕ) (kind error at : ℕ) : Refusal → Type 0 where
@@ -197,6 +197,8 @@ pub data ChainRefused (s : List ℕ) (h : Header) (maxima m : List ℕ) (f n at 
 pub data WalkBodyRefused (s : List ℕ) (h : Header) (r : Ranges) (m : List ℕ) : Refusal → Type 0 where
   walk-sweep : {n : Refusal} → SweepRefused s (h .kind) (h .error) (r .at) n → WalkBodyRefused s h r m n
   walk-raw : (at : ℕ) → swept s (h .kind) (h .error) (r .at) ≡ ok (rawFrom at) → WalkBodyRefused s h r m (placed (r .at) (refuse 10))
+  -- "a walk still answers 10", at the mode byte
+  walk-huffman : (delta : Bool) (mode : ℕ) → swept s (h .kind) (h .error) (r .at) ≡ ok (huffmanFrom delta mode) → WalkBodyRefused s h r m (placed mode (refuse 10))
   walk-blocks : {n : Refusal} (at : ℕ) → swept s (h .kind) (h .error) (r .at) ≡ ok (blocksFrom at) → ChainRefused s h (r .max) m (blockCount (shapeOf h)) 0 at n
       → WalkBodyRefused s h r m n
 
@@ -253,9 +255,16 @@ pub data TilesRefused (b : List ℕ) (h : Header) (m maxima : List ℕ) (at entr
   tiles-blocks : {j : Refusal} → HeldRight h (length b) → FillRoom h m entries words → ChainRefused (take (h .size) b) h maxima m (blockCount (shapeOf h)) 0 at j
       → TilesRefused b h m maxima at entries words j
 
+-- ---- a Huffman image
+
+-- behind a header by value: 3, 4, 1, then the image
+pub data CheckImageRefused (b : List ℕ) (h : Header) (mode : ℕ) : Refusal → Type 0 where
+  image-held : {j : Refusal} → HeldRefused h (length b) j → CheckImageRefused b h mode j
+  image-wrong : {j : Refusal} → HeldRight h (length b) → HuffmanRefused (take (h .size) b) h mode j → CheckImageRefused b h mode j
+
 -- ---- whole read
 
--- "Valid 0: the body is empty"; else ranges, then a constant, raw or block body
+-- "Valid 0: the body is empty"; else ranges, then a constant, raw or block body, or a Huffman image
 pub data BodyRefused (s : List ℕ) (h : Header) (m : List ℕ) : Refusal → Type 0 where
   body-ranges : {n : Refusal} → h .valid ≢ 0 → RangesRefused s h n → BodyRefused s h m n
   -- a minimum does not fit the kind
@@ -267,6 +276,8 @@ pub data BodyRefused (s : List ℕ) (h : Header) (m : List ℕ) : Refusal → Ty
       → BodyRefused s h m (placed (at + k * typeSize (h .kind)) (refuse 1))
   body-blocks : {n : Refusal} (r : Ranges) (at : ℕ) → h .valid ≢ 0 → rangesSays s h ≡ ok r → r .constant ≡ false → swept s (h .kind) (h .error) (r .at) ≡ ok (blocksFrom at)
       → ChainRefused s h (r .max) m (blockCount (shapeOf h)) 0 at n → BodyRefused s h m n
+  body-huffman : {n : Refusal} (r : Ranges) (delta : Bool) (mode : ℕ) → h .valid ≢ 0 → rangesSays s h ≡ ok r → r .constant ≡ false
+      → swept s (h .kind) (h .error) (r .at) ≡ ok (huffmanFrom delta mode) → HuffmanRefused s h mode n → BodyRefused s h m n
 
 -- the header's; "Room is judged right after the header's refusals": 5; the mask section: 6; the body's
 pub data WholeRefused (b : List ℕ) (reuse : Bool) (l : Lent) : Refusal → Type 0 where

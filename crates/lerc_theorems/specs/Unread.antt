@@ -1,7 +1,7 @@
 -- What is not looked at: "Bytes after size .. are never looked at." Two calls on blobs that differ there alone have one outcome. Between the body's end and the size, the checksum of
 -- a header that is read, or of a whole read, is all that looks.
 -- Assumes nothing.
-use Prim.Native.Nat.{ℕ, _≤_, _<_, max}
+use Prim.Native.Nat.{ℕ, _+_, _≤_, _<_, max}
 use mathlib.Core.Path.{_≡_}
 use mathlib.Core.Bool.{Bool, true}
 use mathlib.Core.List.{List}
@@ -29,6 +29,10 @@ use Rattle.lerc_image.proofs.list_tiles.Reads as listing
 use Rattle.lerc_image.proofs.are_listed.Reads as comparing
 use Rattle.lerc_image.proofs.fill_tiles.Reads as filling
 use Rattle.lerc_image.proofs.write_tiles.Reads as writing
+use Rattle.lerc_byte_image.specs.declared.EndAnswer.{EndAnswer}
+use Rattle.lerc_byte_image.specs.declared.EndAnswer.the-variants as end-answer
+use Rattle.lerc_byte_image.proofs.check.Reads as checking-image
+use Rattle.lerc_byte_image.proofs.write.Reads as writing-image
 use Rattle.lerc.specs.declared.ReadAnswer.{ReadAnswer}
 use Rattle.lerc.specs.Read.{Lent}
 use Rattle.lerc.proofs.stage.Reads as staging
@@ -89,6 +93,8 @@ pub record Unread : Type 0 where
   pub fill-tiles : BehindSize filling.Post (λ o. o .1 .1 .1 .1 .1 .0 .now)
   pub write-list : BehindSize writing.Post (λ o. o .1 .1 .1 .1 .1 .0 .now)
   pub write-image : BehindSize writing.Post (λ o. o .1 .1 .1 .1 .1 .1 .0 .now)
+  pub check-huffman : BehindSize {S = Unit {0}} checking-image.Post (λ o. tt)
+  pub write-huffman : BehindSize writing-image.Post (λ o. o .1 .1 .1 .1 .1 .0 .now)
   -- where the checksum is right, an accepted header depends on the other bytes of the header alone
   pub header-own : (b c : List ℕ) (h : Header) (told : HeaderAnswer) → h .size ≤ length c → checksumRight c (h .size) ≡ true → SameWithin 0 10 b c → SameWithin 14 headerBytes b c
       → HeaderCall b (header-answer.Read h) → HeaderCall c told → told ≡ header-answer.Read h
@@ -104,3 +110,6 @@ pub record Unread : Type 0 where
   pub fill-own : (b c : List ℕ) (h : Header) (r : Ranges) (m list : List ℕ) (n words : ℕ) (told : FillAnswer) (old new other : List ℕ) (k : Block)
       → blockAt (take (h .size) b) h (r .max) m n (getD list n 0) ≡ ok k → h .size ≤ length c → SameWithin (getD list n 0) (k .next) b c
       → FillCall b h r m list n (fill-answer.Filled words) old new → FillCall c h r m list n told old other → (told ≡ fill-answer.Filled words) × (other ≡ new)
+  -- an accepted check of a Huffman image looks at the bytes behind the mode byte up to its end alone
+  pub huffman-own : (k : _) (a c : RefT (List ℕ) × (Header × (ℕ × Unit {0}))) (end : ℕ) (told : EndAnswer) (x y : _) → a .1 ≡ c .1 → a .1 .0 .size ≤ length (c .0 .now)
+      → SameWithin (a .1 .1 .0 + 1) end (a .0 .now) (c .0 .now) → checking-image.Post k a (end-answer.End end) x → checking-image.Post k c told y → told ≡ end-answer.End end

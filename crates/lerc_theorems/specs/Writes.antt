@@ -27,6 +27,7 @@ use Rattle.lerc_image.proofs.list_tiles.Reads as list-tiles
 use Rattle.lerc_image.proofs.fill_tiles.Reads as fill-tiles
 use Rattle.lerc_image.proofs.write_tiles.Reads as write-tiles
 use Rattle.lerc_image.proofs.decode_tiles.Reads as decode-tiles
+use Rattle.lerc_byte_image.proofs.write.Reads as write-huffman
 use Rattle.lerc_fills.proofs.fill_each.Reads as fill-each
 use Rattle.lerc.specs.Meaning.{Meaning}
 use Rattle.lerc.specs.Read.{Lent, readSays}
@@ -72,6 +73,8 @@ pub record WritesOnly : Type 0 where
   pub tiles-list : (k : _) (a : _) (r : _) (x : _) → decode-tiles.Post k a r x → AlikeFrom (blockCount (shapeOf (a .1 .0))) (a .1 .1 .1 .1 .1 .0 .now) (x .1 .1 .1 .1 .1 .0 .now)
   pub tiles-image : (k : _) (a : _) (r : _) (x : _) → decode-tiles.Post k a r x
       → AlikeBut (isValidCell (shapeOf (a .1 .0)) (a .1 .1 .0 .now)) (a .1 .1 .1 .1 .1 .1 .0 .now) (x .1 .1 .1 .1 .1 .1 .0 .now)
+  pub write-huffman : (k : _) (a : _) (r : _) (x : _) → write-huffman.Post k a r x
+      → AlikeBut (isValidCell (shapeOf (a .1 .0)) (a .1 .1 .1 .1 .0 .now)) (a .1 .1 .1 .1 .1 .0 .now) (x .1 .1 .1 .1 .1 .0 .now)
 
 -- a whole read that reports n blocks
 pub record WholeWrites (b : List ℕ) (reuse : Bool) (n : ℕ) (old after : Lent) : Type 0 where

@@ -178,6 +178,10 @@ refused cells b = refusalOf (readSays b false (lent 3 cells))
 abbrev pub fill : ℕ → List ℕ → Refusal
 fill n starts = refusalOf (readRangesSays whole-blob (headerOf whole-blob) >>= λ r. fillSays whole-blob (headerOf whole-blob) r (255 ∷ []) starts n 3)
 
+-- a walk with the ranges that were read
+abbrev pub readWalked : List ℕ → Refusal
+readWalked b = refusalOf (readRangesSays b (headerOf b) >>= λ r. walkSays b (headerOf b) r (255 ∷ []) 3)
+
 abbrev pub refusals : List Refusal
 refusals =
     refused 3 []
@@ -189,7 +193,8 @@ refusals =
     ∷ refused 3 (row 8 3 ten twelve [] (0x0C ∷ 0x0A ∷ []))
     ∷ refused 3 (row 8 3 ten twelve [] (0x0A ∷ 0x0C ∷ 0x00 ∷ 0x00 ∷ 0x05 ∷ []))
     ∷ refused 3 (row 8 3 threeHundred threeHundred [] [])
-    ∷ refused 3 (row 8 3 ten twelve [] (0x0A ∷ 0x0C ∷ 0x00 ∷ 0x01 ∷ []))
+    -- a walk alone is refused 10: here by the mode byte
+    ∷ readWalked (row 8 3 ten twelve [] (0x0A ∷ 0x0C ∷ 0x00 ∷ 0x01 ∷ []))
     ∷ fill 1 (74 ∷ [])
     ∷ fill 0 (74 ∷ [])
     ∷ refused 3 (resealed 0)
@@ -271,10 +276,6 @@ rawRow words = blob (record {
 -- a walk with ranges by value
 abbrev pub walked : List ℕ → Ranges → Refusal
 walked b r = refusalOf (walkSays b (headerOf b) r (255 ∷ []) 3)
-
--- as they were read
-abbrev pub readWalked : List ℕ → Refusal
-readWalked b = refusalOf (readRangesSays b (headerOf b) >>= λ r. walkSays b (headerOf b) r (255 ∷ []) 3)
 
 -- block 0 of a blob, whose ranges by value go from 10 up to a maximum
 abbrev pub filledUpTo : ℕ → List ℕ → Refusal

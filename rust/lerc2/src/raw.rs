@@ -35,8 +35,8 @@ pub const STORED: usize = 1;
 /// Numbers that [`read`] says: the header's, how many blocks, the body's end.
 pub const READ: usize = 13;
 /// Numbers of a staged answer: the header's, how many blocks, the body's end,
-/// the body (0 empty, 1 constant, 2 raw, 3 blocks), 1 for the kept mask or 2 for
-/// the spare, and the mask's length.
+/// the body (0 empty, 1 constant, 2 raw, 3 blocks, 4 Huffman), 1 for the kept
+/// mask or 2 for the spare, and the mask's length.
 pub const STAGED: usize = 16;
 /// Numbers that [`publish`] says: the body's end, and how many words were
 /// written.

@@ -23,7 +23,7 @@ pub struct Refusal {
     /// |---|---|
     /// | 1, 8, 9 inside a block | its flag byte, or where that should be: in a fill the listed start as given |
     /// | 1, 8, 10 of the sweep byte | that byte, or where it should be: in a walk the body's place as given |
-    /// | 1, 8, 10 of the mode byte | the byte behind it |
+    /// | 1, 8, 10 of the mode byte, 1, 8 of a Huffman image | the byte behind it |
     /// | 1 of a raw body | the first byte of the first word that is not whole within the size |
     /// | 1 of the ranges | their first byte, behind the mask section |
     /// | 6 | 66, the count of mask bytes |
@@ -51,11 +51,12 @@ pub enum Why {
     WrongMask = 6,
     /// 7: a range number is not finite, or a maximum less than its minimum.
     WrongRange = 7,
-    /// 8: a block, sweep or mode byte is wrong.
+    /// 8: a block, sweep or mode byte is wrong, or a Huffman image: its table, or
+    /// bits that begin no code.
     WrongBlock = 8,
     /// 9: a value does not fit its integer kind.
     DoesNotFit = 9,
-    /// 10: a walk on a body not in blocks, or a mode that is not read.
+    /// 10: a walk on a body not in blocks.
     NotBlocks = 10,
     /// 11: the block number is at or above the count.
     NoSuchBlock = 11,
@@ -104,7 +105,7 @@ impl fmt::Display for Why {
             Why::NoRoom => "a lent slice is too short",
             Why::WrongMask => "the mask section is wrong",
             Why::WrongRange => "a range is not finite or is crossed",
-            Why::WrongBlock => "a block, sweep or mode byte is wrong",
+            Why::WrongBlock => "a block, sweep or mode byte or a Huffman image is wrong",
             Why::DoesNotFit => "a value does not fit its integer kind",
             Why::NotBlocks => "the body is not in blocks",
             Why::NoSuchBlock => "there is no block of this number",
@@ -140,7 +141,8 @@ impl Refusal {
                 "the length of the blob and the size at 34, or a start that was given as 0".into()
             }
             (Why::PassesSize, at) => format!(
-                "what begins at {at}: a block, the sweep or mode byte, a raw word, or the ranges"
+                "what begins at {at}: a block, the sweep or mode byte, a Huffman image, a raw word, \
+                 or the ranges"
             ),
             (Why::WrongKey, _) => "the key at 0 and the version at 6".into(),
             (Why::WrongField, _) => "the header's fields, in a blob from 14 to 69; \
@@ -154,7 +156,7 @@ impl Refusal {
             (Why::WrongRange, 0) => "the ranges that were given".into(),
             (Why::WrongRange, at) => format!("the number that begins at {at}"),
             (Why::WrongBlock, at) => {
-                format!("the byte at {at}, and what follows it where a block begins there")
+                format!("the byte at {at}, and what follows it where a block or Huffman image begins there")
             }
             (Why::DoesNotFit, 0) => {
                 "the minimum of a constant body, or the number that was given".into()

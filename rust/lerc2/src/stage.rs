@@ -17,15 +17,18 @@ pub enum BodyKind {
     Raw = 2,
     /// In blocks.
     Blocks = 3,
+    /// A Huffman image of bytes.
+    Huffman = 4,
 }
 
 impl BodyKind {
     /// All of them, in the order of their numbers.
-    pub const ALL: [BodyKind; 4] = [
+    pub const ALL: [BodyKind; 5] = [
         BodyKind::Empty,
         BodyKind::Constant,
         BodyKind::Raw,
         BodyKind::Blocks,
+        BodyKind::Huffman,
     ];
 }
 
@@ -93,7 +96,7 @@ impl Staged {
             header: Header::from_record(record),
             blocks: number(0),
             end: number(1),
-            // At most 3.
+            // At most 4.
             body: BodyKind::ALL[number(2)],
             mask: match number(3) {
                 1 => StagedMask::Kept(number(4)),

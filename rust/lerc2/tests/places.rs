@@ -255,8 +255,6 @@ fn the_mode_byte() {
         let place = row.sweep() + 1;
         for (body, why) in [
             (&[0][..], Why::PassesSize),
-            (&[0, 1], Why::NotBlocks),
-            (&[0, 2], Why::NotBlocks),
             (&[0, 3], Why::WrongBlock),
             (&[0, 255], Why::WrongBlock),
         ] {
@@ -264,6 +262,38 @@ fn the_mode_byte() {
             assert_eq!(row.refused(), at(why, place));
             assert_eq!(row.walk_refused(|_| {}), at(why, place));
         }
+    }
+}
+
+/// A walk does not look at the table; a whole read has its faults, and those of
+/// the symbols, at the mode byte.
+#[test]
+fn a_huffman_image_is_at_its_mode_byte() {
+    // 10, 11 and 12 have the codes 0, 10 and 11.
+    let image = [
+        [2, 0, 0, 0, 13, 0, 0, 0, 10, 0, 0, 0, 13, 0, 0, 0].as_slice(),
+        &[0x82, 3, 0x29, 0, 0, 0, 0x58],
+        &[0, 0, 0, 0x58, 0, 0, 0, 0],
+    ]
+    .concat();
+    let error = 0.5;
+    let row = Row { error, ..ROW };
+    let place = row.sweep() + 1;
+    for mode in [1, 2] {
+        let body = |image: &[u8]| [&[0, mode], image].concat();
+        let refused = |image: &[u8]| row.with(&body(image)).refused();
+        for length in 0..image.len() {
+            assert_eq!(refused(&image[..length]), at(Why::PassesSize, place));
+        }
+        // The version, the size, no length above 0, a length above 32, a code that
+        // begins another.
+        for (byte, value) in [(0, 1), (5, 1), (18, 0), (16, 0x86), (22, 0x48)] {
+            let mut image = image.clone();
+            image[byte] = value;
+            assert_eq!(refused(&image), at(Why::WrongBlock, place), "{byte}");
+        }
+        let walked = row.with(&body(&image)).walk_refused(|_| {});
+        assert_eq!(walked, at(Why::NotBlocks, place));
     }
 }
 

@@ -61,11 +61,21 @@ const RAW: Row = Row {
     ..TWO
 };
 
+/// By differences: 1 and 11 have the codes 0 and 1, and the bits say 11, then 1.
+const HUFFMAN: Row = Row {
+    after: &[
+        10, 12, 0, 1, 2, 0, 0, 0, 13, 0, 0, 0, 1, 0, 0, 0, 12, 0, 0, 0, 0x81, 11, 1, 4, 0, 0, 0,
+        0x40, 0, 0, 0, 0x80, 0, 0, 0, 0,
+    ],
+    ..RAW
+};
+
 /// Bodies without blocks: kind, end and words.
-const WITHOUT: [(Row, BodyKind, usize, usize); 3] = [
+const WITHOUT: [(Row, BodyKind, usize, usize); 4] = [
     (EMPTY, BodyKind::Empty, 70, 0),
     (CONSTANT, BodyKind::Constant, 70, 10),
     (RAW, BodyKind::Raw, 80, 2),
+    (HUFFMAN, BodyKind::Huffman, 111, 2),
 ];
 
 impl Row<'_> {
@@ -207,7 +217,13 @@ fn publishing_writes_image_and_kept_mask() {
 
 #[test]
 fn once_more_is_accepted_and_changes_nothing() {
-    for (row, reuse) in [(TWO, false), (REUSED, true), (RAW, false), (EMPTY, false)] {
+    for (row, reuse) in [
+        (TWO, false),
+        (REUSED, true),
+        (RAW, false),
+        (HUFFMAN, false),
+        (EMPTY, false),
+    ] {
         let mut after = lent();
         let answer = after.stage(&row.blob(), reuse).unwrap();
         let published = after.publish(&row.blob(), reuse, &answer);
@@ -238,7 +254,7 @@ fn fills_between_change_nothing() {
 
 /// Right ones, wrong ones, and all that are cut.
 fn blobs() -> Vec<Vec<u8>> {
-    let rows = [TWO, SPOILT, REUSED, CONSTANT, EMPTY, RAW];
+    let rows = [TWO, SPOILT, REUSED, CONSTANT, EMPTY, RAW, HUFFMAN];
     let mut blobs: Vec<Vec<u8>> = rows.iter().map(Row::blob).collect();
     let wrong = [
         Row {
@@ -402,7 +418,8 @@ fn a_forged_answer() {
     for end in [0, 83, 85, 84 + (1 << 32), usize::MAX] {
         forged.push(Staged { end, ..answer });
     }
-    for body in [BodyKind::Empty, BodyKind::Constant, BodyKind::Raw] {
+    let others = BodyKind::ALL.into_iter();
+    for body in others.filter(|&body| body != answer.body) {
         forged.push(Staged { body, ..answer });
     }
     for mask in [

@@ -301,7 +301,7 @@ fn before_5() {
 
 /// And so before all that is read of mask and body.
 #[test]
-fn before_6_to_10() {
+fn before_6_to_9() {
     let mask = Blob {
         valid: 2,
         ..Blob::row(3, &[])
@@ -311,8 +311,8 @@ fn before_6_to_10() {
         max: 300f64.to_bits(),
         ..Blob::row(3, &[])
     };
-    let mode = Blob {
-        body: hex("0A 0C 00 01"),
+    let table = Blob {
+        body: hex("0A 0C 00 01 01000000"),
         ..Blob::whole()
     };
     let blobs = [
@@ -321,7 +321,7 @@ fn before_6_to_10() {
         (Blob::row(3, &hex("0A 0C 02")), 8),
         (Blob::row(3, &hex("0A 0C")), 1),
         (constant, 9),
-        (mode, 10),
+        (table, 8),
     ];
     for (blob, number) in blobs {
         let bytes = blob.bytes();

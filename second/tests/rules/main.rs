@@ -7,6 +7,7 @@ mod bodies;
 mod by_value;
 mod checksum;
 mod given;
+mod huffman;
 mod inflate;
 mod lent;
 mod pack;

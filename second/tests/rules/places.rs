@@ -308,8 +308,6 @@ fn the_sweep_byte_where_it_is_said_to_be() {
 fn the_mode_byte() {
     let faults = [
         ("0A 0C 00", 1),
-        ("0A 0C 00 01", 10),
-        ("0A 0C 00 02", 10),
         ("0A 0C 00 03", 8),
         ("0A 0C 00 FF 01 0A 82 03 24", 8),
     ];
@@ -323,6 +321,15 @@ fn the_mode_byte() {
             assert_eq!(refused_at(&blob.bytes(), &[255]), AT(number, 73));
             assert_eq!(Given::of(&blob).walk_at(), Err(AT(number, 73)));
         }
+    }
+    // What is missing behind it is told by it; a walk does not look there.
+    for body in ["0A 0C 00 01", "0A 0C 00 02 04000000 00"] {
+        let blob = Blob {
+            body: hex(body),
+            ..Blob::whole()
+        };
+        assert_eq!(refused_at(&blob.bytes(), &[255]), AT(1, 73));
+        assert_eq!(Given::of(&blob).walk_at(), Err(AT(10, 73)));
     }
 }
 

@@ -2,6 +2,7 @@
 
 use crate::blob::{header_bytes, sealed, Blob};
 use crate::bodies::packed;
+use crate::huffman::{counts, words, Coded};
 use crate::lent::{whole_and_steps, Lent, IMAGE, LIST};
 use crate::random::Random;
 use crate::refusals::OFFSET_KINDS;
@@ -63,17 +64,18 @@ fn random_changes_do_no_harm() {
         }
     }
     assert!(accepted > 1_000);
-    for number in [1, 2, 3, 4, 6, 7, 8, 10, 13] {
+    for number in [1, 2, 3, 4, 6, 7, 8, 13] {
         assert!(refused[number] > 10, "number {number}: {refused:?}");
     }
-    // Room is never short here, and fill is given only numbers in the list.
-    assert_eq!((refused[0], refused[5], refused[11]), (0, 0, 0));
+    // Room is never short here, fill is given only numbers in the list, and a
+    // whole read takes a body of any sort.
+    assert_eq!([0, 5, 10, 11].map(|number| refused[number]), [0; 4]);
 }
 
 #[test]
 fn random_forgeries_are_refused() {
     let mut random = Random::new(14);
-    let mut bodies = [0; 4];
+    let mut bodies = [0; 5];
     for _ in 0..2_000 {
         let bytes = made(&mut random).blob.bytes();
         let mut lent = Lent::to_read(&bytes);
@@ -234,6 +236,28 @@ fn any_error(random: &mut Random, kind: u32) -> u64 {
     }
 }
 
+/// A code for each of some symbols, as bits; none where there are no bits. A
+/// tree is split at random, and some of its ends stay without a symbol.
+fn any_codes(random: &mut Random) -> Vec<String> {
+    let wanted = 1 + random.below(60);
+    let mut ends = vec![String::new()];
+    while ends.len() < wanted || ends.len() < 2 {
+        // The last one again and again makes long codes.
+        let any = random.below(ends.len());
+        let at = random.pick(&[any, ends.len() - 1]);
+        if ends[at].len() < 32 {
+            let end = ends.swap_remove(at);
+            ends.extend(["0", "1"].map(|bit| format!("{end}{bit}")));
+        }
+    }
+    let kept = 1 + random.below(ends.len());
+    ends.truncate(kept);
+    for _ in 0..random.below(9) {
+        ends.insert(random.below(ends.len() + 1), String::new());
+    }
+    ends
+}
+
 fn any_finite_word(random: &mut Random, kind: u32) -> u64 {
     let mask = u64::MAX >> (64 - 8 * word_size(kind));
     loop {
@@ -299,9 +323,64 @@ impl Made {
         }
         self.blob.body.push(0);
         if kind < 2 && self.blob.error == 0.5f64.to_bits() {
+            if random.chance(2) {
+                return self.put_huffman(random);
+            }
             self.blob.body.push(0);
         }
         self.put_blocks(random, ranges);
+    }
+
+    /// Symbols at random, and the cells that they stand for.
+    fn put_huffman(&mut self, random: &mut Random) {
+        let mode = 1 + random.below(2);
+        let codes = any_codes(random);
+        let size = codes.len() + random.below(257 - codes.len());
+        let first = random.below(size);
+        let coded: Vec<usize> = (0..codes.len())
+            .filter(|&nth| !codes[nth].is_empty())
+            .collect();
+        let mut bits = String::new();
+        for cell in self.order(mode == 1) {
+            let nth = random.pick(&coded);
+            bits += &codes[nth];
+            let symbol = (first + nth) % size;
+            let base = if self.blob.kind == 0 { 128 } else { 0 };
+            let predicted = if mode == 1 { self.predicted(cell) } else { 0 };
+            self.image[cell] = (symbol as u64 + base + predicted) % 256;
+        }
+        let lengths: Vec<u64> = codes.iter().map(|code| code.len() as u64).collect();
+        let coded = Coded {
+            integers: [2, size, first, first + codes.len()].map(|n| n as u32),
+            lengths: counts(&lengths),
+            codes: words(&codes.concat()),
+            symbols: [words(&bits), vec![7; 4]].concat(),
+        };
+        self.blob.body.push(mode as u8);
+        self.blob.body.extend(coded.bytes());
+    }
+
+    /// The valid cells, depth by depth or pixel by pixel.
+    fn order(&self, by_depth: bool) -> Vec<usize> {
+        let depths = self.blob.depth as usize;
+        let mut cells: Vec<usize> = (0..self.image.len())
+            .filter(|cell| self.pixels[cell / depths])
+            .collect();
+        if by_depth {
+            cells.sort_by_key(|cell| (cell % depths, cell / depths));
+        }
+        cells
+    }
+
+    /// What is told of a cell by those before it, looked for one by one.
+    fn predicted(&self, cell: usize) -> u64 {
+        let (columns, depths) = (self.blob.columns as usize, self.blob.depth as usize);
+        let pixel = cell / depths;
+        let left = (pixel % columns > 0).then(|| pixel - 1);
+        let above = pixel.checked_sub(columns);
+        let mut nearest = left.into_iter().chain(above).chain((0..pixel).rev());
+        let known = nearest.find(|&pixel| self.pixels[pixel]);
+        known.map_or(0, |pixel| self.image[pixel * depths + cell % depths])
     }
 
     fn set_all(&mut self, words: &[u64]) {

@@ -665,15 +665,3 @@ fn r9_not_for_an_empty_image() {
     let (_, blocks, end, _) = accepted(&sealed(bytes));
     assert_eq!((blocks, end), (0, 70));
 }
-
-#[test]
-fn r10_modes_not_read_here() {
-    for mode in [1, 2] {
-        for kind in [0, 1] {
-            let mut blob = Blob::whole();
-            blob.kind = kind;
-            blob.body[3] = mode;
-            assert_eq!(refused_after(&blob.bytes(), &ALL_VALID), 10);
-        }
-    }
-}

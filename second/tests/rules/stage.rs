@@ -3,6 +3,7 @@
 //! in steps, too.
 
 use crate::blob::{hex, sealed, Blob};
+use crate::huffman::Coded;
 use crate::lent::{check_two, Lent, IMAGE, KEPT, LIST, SPARE};
 use second::{fill, read_ranges, BodyKind, Header, Mask, Published, Refusal, StageAnswer, Staged};
 
@@ -37,7 +38,7 @@ fn two_reused() -> Blob {
 }
 
 /// Bodies without blocks: kind, end and words.
-fn without_blocks() -> [(Blob, BodyKind, usize, usize); 4] {
+fn without_blocks() -> [(Blob, BodyKind, usize, usize); 5] {
     let ten = Blob::row(10, &[]);
     [
         (
@@ -74,6 +75,15 @@ fn without_blocks() -> [(Blob, BodyKind, usize, usize); 4] {
             BodyKind::Raw,
             80,
             2,
+        ),
+        (
+            Blob {
+                body: [hex("0A 0C 00 01"), Coded::three("0 10 11").bytes()].concat(),
+                ..Blob::whole()
+            },
+            BodyKind::Huffman,
+            108,
+            3,
         ),
     ]
 }

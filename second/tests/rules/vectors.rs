@@ -1,13 +1,13 @@
 //! Blobs from elsewhere, with the cells that are expected of them.
 
-use std::collections::{HashMap, HashSet};
+use std::collections::HashMap;
 use std::fs;
 use std::io::{stderr, Write};
 use std::path::{Path, PathBuf};
 
 use crate::inflate;
 use crate::lent::{whole_and_steps, Lent, IMAGE};
-use second::{is_valid, program_text, read_header, word_size, MOST_BYTES, MOST_CELLS};
+use second::{is_valid, program_text, read_header, word_size, Refusal, MOST_BYTES, MOST_CELLS};
 
 /// The folder, or nothing and a message that the test harness does not hide.
 fn folder(name: &str) -> Option<PathBuf> {
@@ -149,38 +149,14 @@ fn compare(path: &Path, reuse: bool, kept: Option<&[u8]>) -> Vec<u8> {
     after.kept
 }
 
-/// Blobs whose body is not read here, by the list of all blobs.
-fn not_read(vectors: &Path) -> HashSet<String> {
-    let manifest = fs::read_to_string(vectors.join("manifest.tsv")).unwrap();
-    let mut lines = manifest.lines().map(|line| line.split('\t'));
-    let body = lines.next().unwrap().position(|name| name == "body");
-    lines
-        .filter_map(|mut line| Some((line.next()?, line.nth(body? - 1)?)))
-        .filter(|(_, body)| body.starts_with("huffman"))
-        .map(|(file, _)| file.to_string())
-        .collect()
-}
-
 fn compare_folder(name: &str) {
     let Some(folder) = folder(name) else { return };
-    let not_read = not_read(folder.parent().unwrap());
     let files = blobs(&folder);
-    let mut refused = 0;
     for path in &files {
-        let file = path.file_name().unwrap().to_string_lossy();
-        if not_read.contains(&format!("{name}/{file}")) {
-            refuse(path, 10);
-            refused += 1;
-        } else {
-            compare(path, false, None);
-        }
+        compare(path, false, None);
     }
-    let accepted = files.len() - refused;
-    assert!(accepted > 0);
-    let _ = writeln!(
-        stderr(),
-        "{name}: {accepted} blobs with all cells, {refused} refused 10"
-    );
+    assert!(!files.is_empty());
+    let _ = writeln!(stderr(), "{name}: {} blobs with all cells", files.len());
 }
 
 #[test]
@@ -201,6 +177,11 @@ fn v4_published() {
 #[test]
 fn v4_large() {
     compare_folder("v4-large");
+}
+
+#[test]
+fn v4_huffman() {
+    compare_folder("v4-huffman");
 }
 
 /// Bands in order, each with the kept mask of the one before.
@@ -243,14 +224,7 @@ fn refuse(path: &Path, number: u32) {
     let lent = Lent::to_read(&bytes);
     let answer = whole_and_steps(&bytes, false, &lent);
     let refusal = answer.expect_err("a refusal");
-    assert_eq!(refusal.number, number, "{path:?}");
-    // The mode byte is the second one of the body; no other has a place here.
-    assert_eq!(refusal.place > 71, number == 10, "{path:?}");
-}
-
-#[test]
-fn modes_not_read_here() {
-    refuse_folder("v4-huffman", 10);
+    assert_eq!(refusal, Refusal::of(number), "{path:?}");
 }
 
 #[test]
@@ -277,8 +251,6 @@ fn probes() {
         let name = path.file_stem().unwrap().to_string_lossy().to_string();
         let answer = if name.starts_with("v5-") || name.starts_with("made-v5-") {
             "refused 2"
-        } else if name.starts_with("huff-") {
-            "refused 10"
         } else if name == "made-checksum" {
             "82 5 160 140"
         } else if name == "checksum-wrong" {

@@ -21,23 +21,23 @@ returns-2 c =
     let a = c .before .before .before .before .before .before .args in
     rw (read-ok (now (a .s)) (a .at) 1 (omega arith) (c .before .before .before .before .word .ensures) (c .before .before .a .given .1), le-ltb _ 3 (c .if1 .taken))
 
+add-t8 : tie.Need-add-t8
+add-t8 c =
+    let a = c .before .before .before .before .before .before .before .args in
+    let w = wordAt-is 1 (now (a .s)) (a .at) _ (read-ok (now (a .s)) (a .at) 1 (omega arith) (c .before .before .before .before .before .word .ensures) (c .before .before .before .a .given .1)) .inside in
+    omega (arith, c .before .before .before .before .before .before .before .good)
+
 returns-3 : tie.Need-returns-3
 unfolding modeByte
 returns-3 c =
     let a = c .before .before .before .before .before .before .before .args in
-    rw (read-ok (now (a .s)) (a .at) 1 (omega arith) (c .before .before .before .before .before .word .ensures) (c .before .before .before .a .given .1), lt-ltb _ 3 (c .before .if1 .left), ne-eqb _ 0 (c .if2 .taken))
-
-add-t9 : tie.Need-add-t9
-add-t9 c =
-    let a = c .before .before .before .before .before .before .before .args in
-    let w = wordAt-is 1 (now (a .s)) (a .at) _ (read-ok (now (a .s)) (a .at) 1 (omega arith) (c .before .before .before .before .before .word .ensures) (c .before .before .before .a .given .1)) .inside in
-    omega (arith, c .before .before .before .before .before .before .before .good)
+    rw (read-ok (now (a .s)) (a .at) 1 (omega arith) (c .before .before .before .before .before .word .ensures) (c .before .before .before .a .given .1), lt-ltb _ 3 (c .before .if1 .left), eq-eqb _ 0 (c .if2 .taken))
 
 returns-4 : tie.Need-returns-4
 unfolding modeByte
 returns-4 c =
     let a = c .before .before .before .before .before .before .before .args in
-    rw (read-ok (now (a .s)) (a .at) 1 (omega arith) (c .before .before .before .before .before .word .ensures) (c .before .before .before .a .given .1), lt-ltb _ 3 (c .before .if1 .left), eq-eqb _ 0 (c .if2 .left))
+    rw (read-ok (now (a .s)) (a .at) 1 (omega arith) (c .before .before .before .before .before .word .ensures) (c .before .before .before .a .given .1), lt-ltb _ 3 (c .before .if1 .left), ne-eqb _ 0 (c .if2 .left))
 
 pub read-mode-spec : {M : Type 1} → statement M
 read-mode-spec =
@@ -49,6 +49,6 @@ read-mode-spec =
     (λ c κs. search needs)
     returns
     returns-2
+    add-t8
     returns-3
-    add-t9
     returns-4)

@@ -1,26 +1,8 @@
 use denote.Ref.{now}
-use Rattle.lerc.proofs.Writing.{holds-refused, holds-empty, holds-constant, holds-raw, blocks-hold}
+use Rattle.lerc.proofs.Writing.{holds-refused, holds-empty, holds-constant, holds-raw, holds-huffman, blocks-hold}
 use borrow.Author.Needs.{needs}
 use Rattle.lerc.proofs.body.is_listed.Statement.{statement}
 use Rattle.lerc.proofs.body.is_listed.Tie as tie
-
-enum-known-found : tie.Need-enum-known-found
-enum-known-found c = search needs
-
-are-listed-requires : tie.Need-are-listed-requires
-are-listed-requires c κs = search needs
-
-enum-told : tie.Need-enum-told
-enum-told c = search needs
-
-enum-known-found-2 : tie.Need-enum-known-found-2
-enum-known-found-2 c = search needs
-
-enum-known-found-3 : tie.Need-enum-known-found-3
-enum-known-found-3 c = search needs
-
-enum-known-found-4 : tie.Need-enum-known-found-4
-enum-known-found-4 c = search needs
 
 returns : tie.Need-returns
 returns c =
@@ -37,20 +19,25 @@ returns-4 : tie.Need-returns-4
 returns-4 c = let s = c .before .before .before .before .before .before in holds-raw (s .pre .0) (now (s .args .list)) (c .before .found3 .given .1)
 
 returns-5 : tie.Need-returns-5
-returns-5 c = let s = c .before .before .before .before .before .before in holds-refused (s .pre .0) (now (s .args .list)) (c .before .found4 .given .1)
+returns-5 c = let s = c .before .before .before .before .before .before in holds-huffman (s .pre .0) (now (s .args .list)) (c .before .found4 .given .1)
+
+returns-6 : tie.Need-returns-6
+returns-6 c = let s = c .before .before .before .before .before .before in holds-refused (s .pre .0) (now (s .args .list)) (c .before .found5 .given .1)
 
 pub is-listed-spec : {M : Type 1} → statement M
 is-listed-spec =
     tie.close
     (tie.spec
-    enum-known-found
-    are-listed-requires
-    enum-told
-    enum-known-found-2
-    enum-known-found-3
-    enum-known-found-4
+    (λ c. search needs)
+    (λ c κs. search needs)
+    (λ c. search needs)
+    (λ c. search needs)
+    (λ c. search needs)
+    (λ c. search needs)
+    (λ c. search needs)
     returns
     returns-2
     returns-3
     returns-4
-    returns-5)
+    returns-5
+    returns-6)

@@ -4,7 +4,7 @@ use native.Mathlib.Omega.{arith}
 use lib.ListN.{length}
 use Rattle.lerc_header.specs.Limits.{depthLimit}
 use denote.Ref.{now}
-use Rattle.lerc.proofs.Writing.{shaped, raw-asked, image-refused, image-none, image-constant, image-written, blocks-filled}
+use Rattle.lerc.proofs.Writing.{shaped, raw-asked, image-refused, image-none, image-constant, image-written, image-huffman, blocks-filled}
 use borrow.Author.Needs.{needs}
 use Rattle.lerc.proofs.body.write_body.Statement.{statement}
 use Rattle.lerc.proofs.body.write_body.Tie as tie
@@ -52,14 +52,20 @@ returns-3 c =
 
 returns-4 : tie.Need-returns-4
 returns-4 c =
+    let w = c .before .before in
+    let s = c .before .before .before .before .before .before .before .before .before .before .before .before .before .before in
+    image-huffman (s .pre .body) (now (s .args .image)) (c .before .before .before .before .before .found4 .given .1) (s .pre .room) (w .write .ensures)
+
+returns-5 : tie.Need-returns-5
+returns-5 c =
     let s = c .before .before .before .before .before .before .before .before .before in
     let told = c .enum-told .given .1 in
     image-none (s .pre .body) (now (s .args .image)) told
 
-returns-5 : tie.Need-returns-5
-returns-5 c =
+returns-6 : tie.Need-returns-6
+returns-6 c =
     let s = c .before .before .before .before .before .before .before .before .before .before in
-    let told = c .before .found4 .given .1 in
+    let told = c .before .found5 .given .1 in
     image-refused (s .pre .body) (now (s .args .image)) told
 
 pub write-body-spec : {M : Type 1} → statement M
@@ -76,6 +82,8 @@ write-body-spec =
     (λ c. search needs)
     (λ c κs. search needs)
     (λ c. search needs)
+    (λ c κs. search needs)
+    (λ c. search needs)
     (λ c. search needs)
     (λ c. search needs)
     returns
@@ -83,5 +91,7 @@ write-body-spec =
     returns-2
     (λ c. search needs)
     returns-3
+    (λ c. search needs)
     returns-4
-    returns-5)
+    returns-5
+    returns-6)

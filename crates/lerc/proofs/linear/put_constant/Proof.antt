@@ -7,7 +7,7 @@ use denote.Ref.{now}
 use lib.ListN.{length, getD, take, drop, length-take}
 use lib.Seq.{take-take}
 use Rattle.lerc_slices.proofs.Parts.{part-copied}
-use Rattle.lerc.proofs.Pixels.{cell-put, cells-pasted}
+use Rattle.lerc_image.proofs.Pixels.{cell-put, cells-pasted}
 use Rattle.lerc.proofs.linear.put_constant.Statement.{statement}
 use Rattle.lerc.proofs.linear.put_constant.Tie as tie
 

@@ -10,8 +10,8 @@ use lib.ListN.{length}
 use Rattle.lerc_words.specs.Res.{little}
 use Rattle.lerc_image.specs.Paint.{painted}
 use Rattle.lerc_image.proofs.Painting.{length-painted}
-use Rattle.lerc.specs.Linear.{within}
-use Rattle.lerc.proofs.Pixels.{cells-none, cell-more}
+use Rattle.lerc_image.specs.Cells.{within}
+use Rattle.lerc_image.proofs.Pixels.{cells-none, cell-more}
 use Rattle.lerc.proofs.linear.put_raw.Statement.{statement}
 use Rattle.lerc.proofs.linear.put_raw.Tie as tie
 

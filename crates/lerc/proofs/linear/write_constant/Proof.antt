@@ -13,10 +13,11 @@ use borrow.Author.Tests.{eqb-true}
 use mathlib.Core.Bool.{true}
 use Rattle.lerc_image.specs.Paint.{painted}
 use Rattle.lerc_image.proofs.Painting.{length-painted}
-use Rattle.lerc.specs.Linear.{validUpto, depthWord}
+use Rattle.lerc_image.specs.Cells.{validUpto}
+use Rattle.lerc.specs.Linear.{depthWord}
 use Rattle.lerc_mask.specs.Mask.{pixelValid}
 use Rattle.lerc_words.proofs.Counts.{count-full}
-use Rattle.lerc.proofs.Pixels.{upto-none, upto-all, pixel-skips, pixel-adds, pixel-fits, pixels-few, pixel-depth}
+use Rattle.lerc_image.proofs.Pixels.{upto-none, upto-all, pixel-skips, pixel-adds, pixel-fits, pixels-few, pixel-depth}
 use Rattle.lerc.proofs.linear.write_constant.Statement.{statement}
 use Rattle.lerc.proofs.linear.write_constant.Tie as tie
 

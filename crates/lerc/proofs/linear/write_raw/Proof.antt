@@ -5,7 +5,8 @@ use denote.Ref.{now}
 use lib.ListN.{length-take}
 use Rattle.lerc_words.proofs.Row.{row-front}
 use Rattle.lerc_header.specs.Shape.{cells}
-use Rattle.lerc.proofs.Pixels.{pixels-few, full-painted}
+use Rattle.lerc_image.proofs.Pixels.{pixels-few}
+use Rattle.lerc.proofs.RawWords.{full-painted}
 use Rattle.lerc.proofs.linear.write_raw.Statement.{statement}
 use Rattle.lerc.proofs.linear.write_raw.Tie as tie
 

@@ -14,8 +14,10 @@ use Rattle.lerc_words.proofs.Counts.{count-zero}
 use Rattle.lerc_mask.specs.Mask.{pixelValid, validBelow}
 use Rattle.lerc_image.specs.Paint.{painted}
 use Rattle.lerc_image.proofs.Painting.{length-painted}
-use Rattle.lerc.specs.Linear.{validUpto, rawWord}
-use Rattle.lerc.proofs.Pixels.{upto-none, upto-all, pixel-skips, pixel-adds, pixel-fits, pixels-few, valid-less, raw-next, raw-fits, raw-word}
+use Rattle.lerc_image.specs.Cells.{validUpto}
+use Rattle.lerc_image.proofs.Pixels.{upto-none, upto-all, pixel-skips, pixel-adds, pixel-fits, pixels-few, valid-less}
+use Rattle.lerc.specs.Linear.{rawWord}
+use Rattle.lerc.proofs.RawWords.{raw-next, raw-fits, raw-word}
 use Rattle.lerc.proofs.linear.write_raw_masked.Statement.{statement}
 use Rattle.lerc.proofs.linear.write_raw_masked.Tie as tie
 

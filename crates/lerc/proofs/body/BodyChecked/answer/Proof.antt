@@ -15,7 +15,10 @@ returns-4 : tie.Need-returns-4
 returns-4 c = rw (c .before .before .found3 .given .1) (c .tell4 .ensures)
 
 returns-5 : tie.Need-returns-5
-returns-5 c = rw (c .before .found4 .given .1)
+returns-5 c = rw (c .before .before .found4 .given .1) (c .tell5 .ensures)
+
+returns-6 : tie.Need-returns-6
+returns-6 c = rw (c .before .found5 .given .1)
 
 pub answer-spec : {M : Type 1} → statement M
 answer-spec =
@@ -30,8 +33,11 @@ answer-spec =
     (λ c. search needs)
     (λ c κs. search needs)
     (λ c. search needs)
+    (λ c κs. search needs)
+    (λ c. search needs)
     returns
     returns-2
     returns-3
     returns-4
-    returns-5)
+    returns-5
+    returns-6)

@@ -1,30 +1,27 @@
 -- Cells pixel by pixel: what one cell, and what one pixel, adds to a painted image.
 -- Assumes nothing.
 use mathlib.Core.Path.{_≡_, _∙_, sym, ap, refl}
-use mathlib.Core.Bool.{Bool, true, false, cond, _&&_, _||_, and-false, and-eq-true-iff}
+use mathlib.Core.Bool.{Bool, true, false, _&&_, _||_, and-false, and-eq-true-iff}
 use mathlib.Core.Logic.{_≢_}
-use mathlib.Core.List.{List, _++_}
+use mathlib.Core.List.{List}
 use Prim.Native.Nat.{ℕ, zero, suc, _+_, _-_, _*_, _/_, _%_, _≤_, _<_}
 use native.Mathlib.Decide.{decLt, decLe}
 use native.Mathlib.Omega.{arith}
 use lib.Arith.{digits-div, digits-mod, digits-lt}
 use lib.Dec.{ltb, leb}
-use lib.ListN.{length, getD, set, drop}
+use lib.ListN.{length, getD, set}
 use lib.Seq.{paste, paste-zero, paste-suc}
 use borrow.Author.Tests.{lt-ltb, le-ltb, le-leb, lt-leb, ltb-true, leb-true}
 use Rattle.lerc_header.specs.declared.Shape.{Shape}
-use native.Mathlib.Nat.{mul-le-mul, mul-le-mul-right, suc-mul, add-mul, add-zero, add-assoc, div-add-mod', div-lt-iff-lt-mul}
+use native.Mathlib.Nat.{mul-le-mul, mul-le-mul-right, suc-mul, add-zero, div-lt-iff-lt-mul}
 use native.Mathlib.Numerals.{add-one}
-use Rattle.lerc_words.specs.Res.{little}
-use Rattle.lerc_words.specs.Lists.{tabulate}
-use Rattle.lerc_words.proofs.Tables.{length-table, table-front, table-behind}
-use Rattle.lerc_words.proofs.Counts.{count-more, count-mono, count-all, count-full}
-use Rattle.lerc_header.specs.Shape.{cells, Shaped}
+use Rattle.lerc_words.proofs.Counts.{count-more, count-mono}
+use Rattle.lerc_header.specs.Shape.{pixels, cells, Shaped}
 use Rattle.lerc_mask.specs.Mask.{pixelValid, validBelow}
 use Rattle.lerc_image.specs.Geometry.{isValidCell}
 use Rattle.lerc_image.specs.Paint.{painted}
-use Rattle.lerc_image.proofs.Painting.{is-painted, painted-none, painted-same, painted-set, painted-twice, painted-words}
-use Rattle.lerc.specs.Linear.{within, validUpto, rawWord}
+use Rattle.lerc_image.proofs.Painting.{painted-none, painted-same, painted-set, painted-twice, painted-words}
+use Rattle.lerc_image.specs.Cells.{within, validUpto}
 
 -- ---- the cells of one pixel
 
@@ -170,7 +167,7 @@ pixel-depth p depth c a b =
     let e : p * depth + (c - p * depth) ≡ c = omega arith in
     rw (e) at (digits-mod p r)
 
--- ---- the words of a raw body: depth by depth, valid pixel by valid pixel
+-- ---- valid pixels
 
 -- a valid pixel is one more
 pub valid-more : (m : List ℕ) (p : ℕ) → pixelValid m p ≡ true → validBelow (p + 1) m ≡ validBelow p m + 1
@@ -179,54 +176,24 @@ valid-more m p e = rw (count-more p (pixelValid m), e)
 pub valid-less : (m : List ℕ) (p : ℕ) → pixelValid m p ≡ false → validBelow (p + 1) m ≡ validBelow p m
 valid-less m p e = rw (count-more p (pixelValid m), e) (add-zero _)
 
--- where the words behind a valid pixel's begin
-pub raw-next : (m : List ℕ) (p depth size : ℕ) → pixelValid m p ≡ true → validBelow (p + 1) m * depth * size ≡ validBelow p m * depth * size + depth * size
-raw-next m p depth size e = rw (valid-more m p e, add-one, suc-mul (validBelow p m) depth) (add-mul (validBelow p m * depth) depth size)
+-- ---- a valid cell
 
--- a valid pixel's words lie among those of all
-pub raw-fits : (m : List ℕ) (pixels p depth size : ℕ) → pixelValid m p ≡ true → p < pixels → validBelow p m * depth * size + depth * size ≤ validBelow pixels m * depth * size
-raw-fits m pixels p depth size e l =
-    let k : p + 1 ≤ pixels = omega arith in
-    rw (← raw-next m p depth size e) (mul-le-mul-right size (mul-le-mul-right depth (count-mono (p + 1) pixels (pixelValid m) k)))
+pub record ValidAt (h : Shape) (m : List ℕ) (c : ℕ) : Type 0 where
+  pub below : c < cells h
+  pub valid : pixelValid m (c / h .depth) ≡ true
 
--- the word of a valid pixel's cell
-pub raw-word : (s : List ℕ) (at size : ℕ) (h : Shape) (m : List ℕ) (p c : ℕ) → p * h .depth ≤ c → c < p * h .depth + h .depth
-    → little size s (at + validBelow p m * h .depth * size + (c - p * h .depth) * size) ≡ rawWord s at size h m c
-raw-word s at size h m p c a b =
-    let r : c - p * h .depth < h .depth = omega arith in
-    let e : p * h .depth + (c - p * h .depth) ≡ c = omega arith in
-    let d : c / h .depth ≡ p = rw (e) at (digits-div p r) in
-    let g : (validBelow p m * h .depth + (c - p * h .depth)) * size ≡ validBelow p m * h .depth * size + (c - p * h .depth) * size = add-mul (validBelow p m * h .depth) (c - p * h .depth) size in
-    rw (d, pixel-depth p (h .depth) c a b, g, add-assoc)
+pub valid-at : (h : Shape) (m : List ℕ) (c : ℕ) → isValidCell h m c ≡ true → ValidAt h m c
+unfolding isValidCell
+valid-at h m c e =
+    let u = and-eq-true-iff _ _ .0 e in
+    record { below = ltb-true _ _ (u .0); valid = u .1 }
 
--- ---- a raw body without an invalid pixel
+-- its pixel is one of the image's
+pub valid-pixel : (h : Shape) (m : List ℕ) (c : ℕ) → 0 < h .depth → ValidAt h m c → c / h .depth < pixels h
+valid-pixel h m c d v = div-lt-iff-lt-mul d .1 (v .below)
 
-module _ (h : Shape) (m : List ℕ) (shaped : Shaped h) (full : validBelow (h .rows * h .columns) m ≡ h .rows * h .columns) where
-  pixel-of : (c : ℕ) → c < cells h → c / h .depth < h .rows * h .columns
-  pixel-of c l = div-lt-iff-lt-mul (shaped .depth .0) .1 l
-
-  every : (p : ℕ) → p < h .rows * h .columns → pixelValid m p ≡ true
-  every = count-full (h .rows * h .columns) (pixelValid m) full
-
-  -- its words stand in the order of the cells
-  full-word : (s : List ℕ) (at size c : ℕ) → c < cells h → rawWord s at size h m c ≡ little size s (at + c * size)
-  full-word s at size c l =
-      let p = pixel-of c l in
-      let v : validBelow (c / h .depth) m ≡ c / h .depth = count-all (c / h .depth) (pixelValid m) (λ i k. every i (omega arith)) in
-      rw (v, div-add-mod' c (h .depth))
-
-  pub full-painted : (s : List ℕ) (at size : ℕ) (im : List ℕ) → cells h ≤ length im
-      → tabulate (cells h) (λ k. little size s (at + k * size)) ++ drop (cells h) im ≡ painted im (isValidCell h m) (rawWord s at size h m)
-  unfolding isValidCell
-  full-painted s at size im room =
-      is-painted im (rawWord s at size h m) (isValidCell h m) all (length-table (cells h) word im room) (λ c l. go c (decLt c (cells h)))
-    where
-      word : ℕ → ℕ
-      word k = little size s (at + k * size)
-
-      all : List ℕ
-      all = tabulate (cells h) word ++ drop (cells h) im
-
-      go : (c : ℕ) → Dec (c < cells h) → getD all c 0 ≡ cond (isValidCell h m c) (rawWord s at size h m c) (getD im c 0)
-      go c (yes p) = rw (lt-ltb c (cells h) p, every (c / h .depth) (pixel-of c p), full-word s at size c p) (table-front (cells h) word im c p)
-      go c (no p) = rw (le-ltb c (cells h) (omega arith)) (table-behind (cells h) word im c (omega arith))
+-- a valid pixel has fewer valid pixels before it than there are
+pub valid-before : (m : List ℕ) (p n : ℕ) → p < n → pixelValid m p ≡ true → validBelow p m < validBelow n m
+valid-before m p n l e =
+    let k : p + 1 ≤ n = omega arith in
+    omega (arith, valid-more m p e, count-mono (p + 1) n (pixelValid m) k)

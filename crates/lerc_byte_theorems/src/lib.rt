@@ -1,0 +1,1 @@
+// What is claimed of Huffman images; there is no code here.
