@@ -16,6 +16,13 @@ needed() { # TOOL...
     done
 }
 
+needed_esri() {
+    if ! echo 'int main(void) { return 0; }' | cc -x c - -lLerc -o /dev/null 2>/dev/null; then
+        echo "${0##*/}: Esri's library is not there (Debian: liblerc-dev)" >&2
+        exit 2
+    fi
+}
+
 # Cargo's words for Esri's library as `features`, where ESRI=1 asks for it.
 # shellcheck disable=SC2034
 read_esri() {
@@ -24,10 +31,7 @@ read_esri() {
     0) ;;
     1)
         features=(--features esri)
-        if ! echo 'int main(void) { return 0; }' | cc -x c - -lLerc -o /dev/null 2>/dev/null; then
-            echo "${0##*/}: Esri's library is not there (Debian: liblerc-dev)" >&2
-            exit 2
-        fi
+        needed_esri
         ;;
     *) wrong "ESRI=$ESRI: 1 or nothing" ;;
     esac

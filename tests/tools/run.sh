@@ -249,7 +249,7 @@ gives 'an image, to be explained' 0 tell "$decodes" --explain
 writes 'an image, to be explained' "$decodes"
 is_silent 'an image, to be explained'
 # each number, and whether its sentence names the place
-for told in '1 0 no' '1 72 yes' '2 0 no' '3 0 no' '4 0 no' '5 0 no' '6 66 yes' '7 78 yes' '8 74 yes' '9 0 no' '9 74 yes' '10 73 yes' '13 0 no'; do
+for told in '1 0 no' '1 72 yes' '2 0 no' '3 0 no' '4 0 no' '5 0 no' '6 66 yes' '7 78 yes' '8 74 yes' '9 0 no' '9 74 yes' '13 0 no'; do
     number=${told%% *} place=${told#* } text="refused $number at ${place% *}"
     gives "$text" 1 tell "$text"
     writes "$text" "$text"

@@ -3,6 +3,7 @@
 use crate::block::Blocks;
 use crate::bytes::byte;
 use crate::given::{check_ranges, held};
+use crate::huffman::write_huffman;
 use crate::linear::{write_constant, write_raw};
 use crate::tile::{Tile, MOST_PIXELS};
 use crate::Refusal;
@@ -116,6 +117,7 @@ fn read_body(
     let bytes = &blob[..header.size as usize];
     match body_at(bytes, ranges.place, header)? {
         Body::Raw(at) => Ok((0, write_raw(bytes, at, header, mask, image)?)),
+        Body::Huffman(at) => Ok((0, write_huffman(bytes, at, header, mask, image)?)),
         Body::Blocks(at) => {
             let mut staged = Vec::with_capacity(header.valid as usize * header.depth as usize);
             let stage = |words: &[u64]| staged.extend_from_slice(words);
@@ -128,9 +130,10 @@ fn read_body(
 }
 
 /// The bodies with bytes of their own, and where the first word or block
-/// begins.
+/// begins; of Huffman codes it is the mode byte.
 enum Body {
     Raw(usize),
+    Huffman(usize),
     Blocks(usize),
 }
 
@@ -147,7 +150,7 @@ fn body_at(bytes: &[u8], place: usize, header: &Header) -> Result<Body, Refusal>
     }
     match byte(bytes, at)? {
         0 => Ok(Body::Blocks(at + 1)),
-        1 | 2 => Err(NOT_BLOCKS),
+        1 | 2 => Ok(Body::Huffman(at)),
         _ => Err(WRONG_BLOCK),
     }
 }

@@ -10,6 +10,7 @@ mod block;
 mod body;
 mod bytes;
 mod given;
+mod huffman;
 mod linear;
 mod packed;
 mod tile;

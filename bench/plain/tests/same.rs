@@ -81,7 +81,7 @@ fn calls_of_the_comparison() {
         let come_up = |&&number: &&u32| answers.contains_key(&(op, number));
         assert_eq!(numbers.iter().filter(come_up).count(), numbers.len());
     };
-    only("read", &[0, 1, 2, 3, 4, 5, 6, 7, 8, 9, 10]);
+    only("read", &[0, 1, 2, 3, 4, 5, 6, 7, 8, 9]);
     only("walk", &[0, 1, 3, 4, 5, 7, 8, 9, 10]);
     only("fill", &[0, 1, 3, 4, 5, 7, 8, 9, 11]);
 }

@@ -60,7 +60,7 @@ pub struct Line {
     name: String,
     way: Way,
     cells: usize,
-    /// Against the plain reader, where it has such a way.
+    /// Against the plain reader, where it has such a way and the body a bar.
     bar: Option<f64>,
     sized: bool,
     /// Nanoseconds a cell and instructions a cell, by reader.
@@ -256,7 +256,10 @@ fn line(image: &Image, way: Way, how: &How) -> Result<Result<Line, String>, Box<
         name: image.name.clone(),
         way,
         cells: count,
-        bar: Reader::Plain.has(way).then(|| bar(&task, &image.blob)),
+        bar: Reader::Plain
+            .has(way)
+            .then(|| bar(&task, &image.blob))
+            .flatten(),
         sized: image.sized,
         times: a_cell(times, 1e9),
         counts: a_cell(counts, 1.0),
@@ -284,13 +287,19 @@ fn instructions_by(
 }
 
 /// By the kind of a body in blocks; raw and constant bodies have their own.
-fn bar(task: &Task, blob: &[u8]) -> f64 {
-    let constant = second::read_ranges(blob, &task.header).is_ok_and(|ranges| ranges.constant);
+/// Huffman images have none here: theirs is against Esri's library
+/// (bench/huffman.sh).
+fn bar(task: &Task, blob: &[u8]) -> Option<f64> {
+    let ranges = second::read_ranges(blob, &task.header).ok();
+    let constant = ranges.as_ref().is_some_and(|ranges| ranges.constant);
+    let sweep = ranges.and_then(|ranges| blob.get(ranges.place).copied());
     let mut probe = Task::new(blob).expect("it was accepted");
-    match task.header.kind {
-        _ if constant || probe.go(Way::Steps, Reader::Plain).is_err() => LINEAR,
-        0..=5 => INTEGERS,
-        _ => FLOATS,
+    let blocks = !constant && probe.go(Way::Steps, Reader::Plain).is_ok();
+    match (blocks, task.header.kind) {
+        (true, 0..=5) => Some(INTEGERS),
+        (true, _) => Some(FLOATS),
+        (false, _) if !constant && sweep == Some(0) => None,
+        (false, _) => Some(LINEAR),
     }
 }
 

@@ -69,6 +69,7 @@ pub fn blob(sort: &Sort, rows: usize, columns: usize) -> Vec<u8> {
         slack: Vec::new(),
         mask: Vec::new(),
         starts: Vec::new(),
+        cells: Vec::new(),
     };
     form.bytes()
 }

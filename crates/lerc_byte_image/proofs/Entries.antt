@@ -1,22 +1,23 @@
 -- The symbol at a place by any code that agrees there, and as one number.
 -- Assumes nothing.
 use Prim.Native.Nat.{ℕ, _+_, _-_, _/_, _%_, _^_, _≤_, _<_}
-use mathlib.Core.Path.{_≡_, _∙_, sym, ap}
-use mathlib.Core.Bool.{true}
+use mathlib.Core.Path.{_≡_, _∙_, sym, ap, refl}
+use mathlib.Core.Bool.{Bool, true, false, cond}
 use mathlib.Core.Logic.{_≢_, ⊎-elim}
 use mathlib.Core.List.{List}
 use native.Mathlib.Omega.{arith}
 use native.Mathlib.Decide.{decLt}
 use native.Mathlib.Nat.{mod-lt, div-one}
-use borrow.Author.Tests.{lt-ltb, le-ltb, le-leb, lt-leb}
+use borrow.Author.Tests.{lt-ltb, le-ltb, le-leb, lt-leb, ltb-true}
 use lib.ListN.{getD}
+use lib.Dec.{ltb}
 use Rattle.lerc_words.specs.Res.{ok, fail, refuse}
 use Rattle.lerc_byte_image.specs.Table.{Table, lengthOf, codeOf, symbolOf, bitsAt}
 use Rattle.lerc_byte_image.specs.Symbols.{firstOf, bitsThere, agrees, Symbol, symbolAt}
 use Rattle.lerc_byte_image.specs.Image.{orNone, symbolOn}
 use Rattle.lerc_byte_image.specs.Parts.{Kept, entryOf, entryBy, Short, Quick}
-use Rattle.lerc_byte_image.specs.SymbolParts.{Found, one, none}
-use Rattle.lerc_byte_image.proofs.BitLaws.{bits-cut}
+use Rattle.lerc_byte_image.specs.SymbolParts.{Found, one, none, glanced}
+use Rattle.lerc_byte_image.proofs.BitLaws.{bits-cut, bits-lt}
 use Rattle.lerc_byte_image.proofs.Finding.{first-has, first-le, first-lt}
 use Rattle.lerc_byte_image.proofs.OneCode.{Alike, agrees-is, is-agrees, one-code}
 
@@ -180,3 +181,14 @@ module _ (s : List ℕ) (t : Table) (p : ℕ) where
       let w : p + lengthOf t k ≤ there = omega (arith, short .few) in
       d ∙ sym (entry-one kept k (short .there) (is-agrees s t p k a) w))
       (q .right v h)
+
+  pub glance-entry : Kept t → (entries : List ℕ) → Quick t entries → 256 ≤ glanced s (t .start) entries p → glanced s (t .start) entries p ≡ entryOf s t p
+  unfolding glanced
+  glance-entry kept entries q = go (ltb p (there - 32)) refl
+    where
+      v : ℕ
+      v = bitsAt s (t .start) p 12
+
+      go : (b : Bool) → ltb p (there - 32) ≡ b → 256 ≤ cond b (getD entries v 0) 0 → cond b (getD entries v 0) 0 ≡ entryOf s t p
+      go true e big = quick-entry kept entries q (ltb-true p (there - 32) e) v refl (bits-lt s (t .start) p 12) big
+      go false e big = absurd (omega arith)

@@ -2,14 +2,14 @@
 -- Assumes nothing.
 use Prim.Native.Nat.{ℕ, _-_, _/_, _^_, _≤_, _<_, min}
 use mathlib.Core.Path.{_≡_}
-use mathlib.Core.Bool.{Bool, true, false, _&&_}
+use mathlib.Core.Bool.{Bool, true, false, cond, _&&_}
 use mathlib.Core.List.{List}
 use lib.ListN.{length, getD}
 use lib.Dec.{leb, ltb, eqb}
 use Rattle.lerc_words.specs.Res.{Res, ok, fail, _>>=_, require}
 use Rattle.lerc_byte_image.specs.declared.symbols.BitsAnswer.{BitsAnswer}
 use Rattle.lerc_byte_image.specs.declared.symbols.BitsAnswer.the-variants as bits-answer
-use Rattle.lerc_byte_image.specs.Table.{Table}
+use Rattle.lerc_byte_image.specs.Table.{Table, bitsAt}
 use Rattle.lerc_byte_image.specs.Symbols.{firstOf, bitsThere, agrees, Run, symbolsFrom, endOf}
 
 -- a code agrees with the 32 bits of w, of which only the first `there` count
@@ -60,3 +60,7 @@ endWithin len start bits = do
 -- n symbols behind a table, and that word
 abbrev pub endFrom : List ℕ → Table → ℕ → Res ℕ
 endFrom s t n = bitsIn (symbolsFrom s t n 0) >>= endWithin (length s) (t .start)
+
+-- what a table by the first 12 bits has for those from bit p on, where a whole word stands behind theirs
+unfoldable pub glanced : List ℕ → ℕ → List ℕ → ℕ → ℕ
+glanced s start entries p = cond (ltb p (bitsThere s start - 32)) (getD entries (bitsAt s start p 12) 0) 0

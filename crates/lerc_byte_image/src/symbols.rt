@@ -7,7 +7,7 @@ ghost use Rattle.lerc_byte_image.specs.Table.{bitsAt, lengthOf, codeOf};
 ghost use Rattle.lerc_byte_image.specs.Symbols.{firstOf, bitsThere, agrees, symbolAt, symbolsFrom, codedAt};
 ghost use Rattle.lerc_byte_image.specs.Image.{ended, endSaid};
 ghost use Rattle.lerc_byte_image.specs.Parts.{tableBy, Kept, Behind, entryOf, Quick, Ready};
-ghost use Rattle.lerc_byte_image.specs.SymbolParts.{begun, Found, Put, bitsSaid, bitsIn, endWithin, endFrom};
+ghost use Rattle.lerc_byte_image.specs.SymbolParts.{glanced, begun, Found, Put, bitsSaid, bitsIn, endWithin, endFrom};
 use super::EndAnswer;
 use super::bits;
 use super::table;
@@ -187,6 +187,17 @@ pub(crate) fn stop_of(len: usize, start: usize) -> usize
     words * 32 - 32
 }
 
+// what the table has for the 12 bits from bit p on; 0 where a whole word behind theirs is not there
+fn glance(s: &[u8], start: usize, quick: &[u16], stop: usize, p: usize) -> usize
+    requires { ⌜ (start ≤ length (now s)) × (length (now s) ≤ 16777216) × (stop ≡ bitsThere (now s) start - 32) × (length (now quick) ≡ 4096) ⌝ }
+    ensures { λ r. ⌜ r ≡ glanced (now (s .entry)) start (now (quick .entry)) p ⌝ }
+{
+    if p < stop {
+        return quick[bits::twelve(s, start, p)] as usize;
+    }
+    0
+}
+
 // the entry of the code at bit p; 0 where there is none, or not all of it
 pub(crate) fn entry(
     s: &[u8],
@@ -201,16 +212,11 @@ pub(crate) fn entry(
     requires { ⌜ Ready (now s) (tableBy range start (now lengths) (now codes)) (now quick) p × (stop ≡ bitsThere (now s) start - 32) ⌝ }
     ensures { λ r. ⌜ r ≡ entryOf (now (s .entry)) (tableBy range start (now (lengths .entry)) (now (codes .entry))) p ⌝ }
 {
-    let mut hint = 0;
-    if p < stop {
-        let v = bits::twelve(s, start, p);
-        let e = quick[v] as usize;
-        if 256 <= e {
-            return e;
-        }
-        hint = e;
+    let e = glance(s, start, quick, stop, p);
+    if 256 <= e {
+        return e;
     }
-    seek_entry(s, range, start, lengths, codes, p, hint)
+    seek_entry(s, range, start, lengths, codes, p, e)
 }
 
 // ---- all symbols
@@ -238,11 +244,16 @@ fn count_bits(
     let mut left = n;
     let mut p = 0;
     while 0 < left {
-        let e = entry(s, range, start, lengths, codes, quick, stop, p);
-        if e == 0 {
-            return BitsAnswer::Refused(missing(s, range, start, lengths, codes, p));
+        let e = glance(s, start, quick, stop, p);
+        if 256 <= e {
+            p += e / 256;
+        } else {
+            let f = seek_entry(s, range, start, lengths, codes, p, e);
+            if f == 0 {
+                return BitsAnswer::Refused(missing(s, range, start, lengths, codes, p));
+            }
+            p += f / 256;
         }
-        p += e / 256;
         left -= 1;
     }
     BitsAnswer::Bits(p)

@@ -1,10 +1,12 @@
 use borrow.Author.Needs.{needs}
-use Prim.Native.Nat.{_-_}
-use mathlib.Core.Path.{_∙_, sym}
+use Prim.Native.Nat.{_≤_}
+use mathlib.Core.Path.{_≡_, _∙_, sym}
+use mathlib.Core.Logic.{⊎-elim}
 use native.Mathlib.Omega.{arith}
 use denote.Ref.{now}
-use Rattle.lerc_byte_image.specs.Parts.{tableBy}
+use Rattle.lerc_byte_image.specs.Parts.{tableBy, entryOf}
 use Rattle.lerc_byte_image.specs.SymbolParts.{Counted}
+use Rattle.lerc_byte_image.proofs.Entries.{glance-entry}
 use Rattle.lerc_byte_image.proofs.Coded.{behind-at, count-none, count-done, count-refused, count-inside, count-more}
 use Rattle.lerc_byte_image.proofs.symbols.count_bits.Statement.{statement}
 use Rattle.lerc_byte_image.proofs.symbols.count_bits.Tie as tie
@@ -23,34 +25,67 @@ loop-holds c =
     let a = c .before .before .before .before .before .args in
     count-none (now (a .s)) (tableBy (a .range) (a .start) (now (a .lengths)) (now (a .codes))) (a .n)
 
-entry-requires : tie.Need-entry-requires Inv-loop μ-loop
-entry-requires c κs =
-    let h = c .before .before .before .before .before .before .before .pre in
-    (record { behind = behind-at (h .behind) (c .before .loop .inv .inside); quick = h .quick }, c .before .before .stop-of .ensures)
+glance-requires : tie.Need-glance-requires Inv-loop μ-loop
+glance-requires c κs =
+    let b = c .before .before .before .before .before .before .before in
+    let h = b .pre .behind in
+    (h .inside, h .short, c .before .before .stop-of .ensures, b .pre .quick .wide)
 
-missing-requires : tie.Need-missing-requires Inv-loop μ-loop
-missing-requires c κs =
-    let l = c .before .before .before in
-    let h = l .before .before .before .before .before .before .pre in
-    (behind-at (h .behind) (l .loop .inv .inside), sym (c .before .entry .ensures) ∙ c .if1 .taken)
-
-returns : tie.Need-returns Inv-loop μ-loop
-returns c =
-    let e = c .before .before in
-    count-refused (e .before .before .loop .inv) (e .before .loop-test .taken) (c .missing .ensures)
+-- a glance that tells a symbol tells the right one
+seen : (c : tie.After-glance Inv-loop μ-loop) → 256 ≤ c .glance .result →
+    let l = c .before .before in
+    let a = l .before .before .before .before .before .before .args in
+    c .glance .result ≡ entryOf (now (a .s)) (tableBy (a .range) (a .start) (now (a .lengths)) (now (a .codes))) (l .loop .p)
+seen c big =
+    let l = c .before .before in
+    let b = l .before .before .before .before .before .before in
+    let a = b .args in
+    let h = b .pre in
+    let g = c .glance .ensures in
+    g ∙ glance-entry (now (a .s)) (tableBy (a .range) (a .start) (now (a .lengths)) (now (a .codes))) (l .loop .p) (h .behind .kept) (now (a .quick)) (h .quick) (rw (g) at big)
 
 add-p : tie.Need-add-p Inv-loop μ-loop
 add-p c =
     let l = c .before .before .before in
     let h = l .before .before .before .before .before .before .pre .behind in
-    let i = count-inside (h .kept) (l .loop .inv) (c .before .entry .result) (c .before .entry .ensures) (c .if1 .left) in
+    let big : 256 ≤ c .before .glance .result = c .if1 .taken in
+    let i = count-inside (h .kept) (l .loop .inv) (c .before .glance .result) (seen (c .before) big) (λ z. omega arith) in
+    record { fits = omega (arith, i, h .short) }
+
+seek-entry-requires : tie.Need-seek-entry-requires Inv-loop μ-loop
+seek-entry-requires c κs =
+    let l = c .before .before .before in
+    let h = l .before .before .before .before .before .before .pre in
+    behind-at (h .behind) (l .loop .inv .inside)
+
+missing-requires : tie.Need-missing-requires Inv-loop μ-loop
+missing-requires c κs =
+    let l = c .before .before .before .before .before in
+    let h = l .before .before .before .before .before .before .pre in
+    (behind-at (h .behind) (l .loop .inv .inside), sym (c .before .seek-entry .ensures) ∙ c .if2 .taken)
+
+returns : tie.Need-returns Inv-loop μ-loop
+returns c =
+    let t = c .before .before .before .before .before in
+    count-refused (t .before .loop .inv) (t .loop-test .taken) (c .missing .ensures)
+
+add-p-2 : tie.Need-add-p-2 Inv-loop μ-loop
+add-p-2 c =
+    let l = c .before .before .before .before .before in
+    let h = l .before .before .before .before .before .before .pre .behind in
+    let i = count-inside (h .kept) (l .loop .inv) (c .before .seek-entry .result) (c .before .seek-entry .ensures) (c .if2 .left) in
     record { fits = omega (arith, i, h .short) }
 
 loop-again : tie.Need-loop-again Inv-loop μ-loop
 loop-again c =
-    let l = c .before .before .before in
+    let g = c .before in
+    let l = g .before .before in
     let h = l .before .before .before .before .before .before .pre .behind in
-    count-more (h .kept) (l .loop .inv) (c .before .entry .result) (c .before .entry .ensures) (c .if1 .left) (c .before .before .loop-test .taken)
+    let some = g .before .loop-test .taken in
+    ⊎-elim
+    (λ w. let big : 256 ≤ g .glance .result = w .0 .taken in rw (w .1) (count-more (h .kept) (l .loop .inv) (g .glance .result) (seen g big) (λ z. omega arith) some))
+    (λ w. rw (w .3) (count-more (h .kept) (l .loop .inv) (w .1 .result) (w .1 .ensures) (w .2 .left) some))
+    (c .if1 .came)
 
 returns-2 : tie.Need-returns-2 Inv-loop μ-loop
 returns-2 c = count-done (c .before .loop .inv) (c .loop-test .left)
@@ -63,10 +98,12 @@ count-bits-spec =
     μ-loop
     stop-of-requires
     loop-holds
-    entry-requires
+    glance-requires
+    add-p
+    seek-entry-requires
     missing-requires
     returns
-    add-p
+    add-p-2
     (λ c. search needs)
     (λ c. search needs)
     loop-again
