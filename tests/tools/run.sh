@@ -348,6 +348,8 @@ wrong_words 'usage: bench/whole.sh' bench/whole.sh --svg "$ROOM/x.svg"
 wrong_words 'usage: bench/whole.sh' bench/whole.sh --rounds many
 wrong_words 'usage: bench/whole.sh' bench/whole.sh --plot "$ROOM/nosuch/x.svg"
 wrong_words 'usage: bench/mask.sh' bench/mask.sh nosuch
+wrong_words 'usage: bench/huffman.sh' bench/huffman.sh
+wrong_words 'usage: bench/huffman.sh' bench/huffman.sh --nosuch
 wrong_words 'usage: bench/mask.sh' bench/mask.sh --rounds 3
 wrong_words 'usage: bench/sum.sh' bench/sum.sh nosuch
 wrong_words 'usage: bench/arm64.sh' bench/arm64.sh nosuch
