@@ -261,7 +261,7 @@ for told in '1 0 no' '1 72 yes' '2 0 no' '3 0 no' '4 0 no' '5 0 no' '6 66 yes' '
     if [ "${told##* }" = yes ]; then says "$text, explained" " at ${place% *}"; fi
     sed 's/^lerc2: refused [0-9]*: //' "$err" >>"$ROOM/sentences"
 done
-holds 'each number has its own sentence' [ "$(sort -u "$ROOM/sentences" | wc -l)" -eq 13 ]
+holds 'each number has its own sentence' [ "$(sort -u "$ROOM/sentences" | wc -l)" -eq 12 ]
 lost_words() { printf 'refused 8 at 74\n' | "$repo/lerc2" --explain >/dev/full; }
 gives 'a refusal to be explained, to a full device' 3 lost_words
 holds 'what is lost is not explained' [ "$(cat "$err")" = 'lerc2: the output could not be written' ]
