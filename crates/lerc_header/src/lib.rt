@@ -1,4 +1,5 @@
 // The header of a blob: its fields, the rules it is held to, and the sizes that follow from it.
+#![tactic(auto)]
 ghost use Rattle.std.specs.Prelude.{◌≡◌, ℕ, ◌+◌, ◌*◌, ◌<◌, ◌≤◌, length};
 ghost use Rattle.lerc_words.specs.Res.{little};
 ghost use Rattle.lerc_header.specs.Shape as Sizes;

@@ -1,5 +1,6 @@
 // Packs: many tiles in one, a table of contents first, then the bodies. "A breach is new refusal 12", at 0.
 // The pack reader holds the lent pack and its count, and is thin over the plain functions, which do all of the judging.
+#![tactic(auto)]
 ghost use Rattle.std.specs.Prelude.{◌≡◌};
 ghost use Rattle.lerc_pack.specs.Pack as Reading;
 

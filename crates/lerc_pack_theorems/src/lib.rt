@@ -1,1 +1,2 @@
 // What packs promise together, in calls; there is no code here.
+#![tactic(auto)]

@@ -1,4 +1,5 @@
 // Numbers of a kind out of bytes, values as stored words, and the kinds that a block's offset may have.
+#![tactic(auto)]
 ghost use Rattle.std.specs.Prelude.{◌≡◌};
 ghost use Rattle.lerc_words.specs.Res.{marked};
 ghost use Rattle.lerc_samples.specs.Samples as Sample;

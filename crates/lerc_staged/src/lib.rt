@@ -1,1 +1,2 @@
 // What staging and publishing do together, in calls; there is no code here.
+#![tactic(auto)]

@@ -5,7 +5,7 @@ use mathlib.Core.List.{List}
 use mathlib.Core.Bool.{Bool, true, false, cond}
 use Prim.Native.Nat.{ℕ}
 use native.Mathlib.Omega.{arith}
-use Rattle.lerc_words.specs.Res.{Res, ok, fail, ◌>>=◌, refuse, placed, marked, require, after, accepts}
+use Rattle.lerc_words.specs.Res.{Res, ok, fail, ◌>>=◌, placed, marked, require, after, accepts}
 use Rattle.lerc_words.specs.declared.Refusal.{Refusal}
 
 -- ---- from the answer to the marked one, and back

@@ -1,4 +1,6 @@
 // Little-endian words, and the refusal that every answer carries.
+#![tactic(auto)]
+
 ghost use Rattle.std.specs.Prelude.{◌≡◌, ℕ, ◌+◌, ◌-◌, ◌*◌, ◌^◌, ◌≤◌, ◌<◌, min, length};
 ghost use Rattle.lerc_words.specs.Res.{little, placed, marked, word_said, word_says, refusal_of_word};
 ghost use Rattle.lerc_words.specs.Lists.{tabulate};
