@@ -1,5 +1,6 @@
 // Packed counts: bit-stuffed runs and lookup tables.
 #![tactic(auto)]
+
 ghost use Rattle.std.specs.Prelude.{◌≡◌, ◌++◌, true, ◌+◌, ◌-◌, ◌%◌, ◌^◌, ◌≤◌, length, drop};
 ghost use Rattle.std.proofs.lemmas.List.Edits.{sets};
 ghost use Rattle.lerc_words.specs.Res.{placed, marked};

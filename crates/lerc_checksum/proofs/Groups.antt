@@ -6,12 +6,12 @@ use mathlib.Core.Logic.{◌≢◌}
 use mathlib.Core.List.{List}
 use native.Mathlib.Omega.{arith}
 use native.Mathlib.Decide.{dec_lt}
-use native.Mathlib.Nat.{suc-mul, add_assoc, add-zero, add-suc, mul-le-mul_right, mul-le-mul, add-mul, mul_comm, mul_assoc, mul-add, le_refl}
+use native.Mathlib.Nat.{suc-mul, add_assoc, add-zero, add-suc, mul-le-mul_right, mul-le-mul, le_refl}
 use native.Mathlib.Numerals.{add-one}
 use lib.ListN.{length, get_or, get_or-eq_default}
 use borrow.Author.Tests.{eq-eqb, ne_eqb}
 use Rattle.lerc_checksum.specs.declared.Sums.{Sums}
-use Rattle.lerc_checksum.specs.Checksum.{word, start, counted, fold, folded, sums_to, closed_to, group_words}
+use Rattle.lerc_checksum.specs.Checksum.{word, start, counted, folded, sums_to, closed_to, group_words}
 use Rattle.lerc_checksum.specs.Parts.{run, up_to_lem, RoomFor, Small}
 use Rattle.lerc_checksum.specs.Laws.{Bytes}
 use Rattle.lerc_checksum.proofs.Bounds.{word_lt, up_to-add, up_to-mono}

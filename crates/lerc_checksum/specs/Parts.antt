@@ -1,6 +1,6 @@
 -- What private functions promise and ask; not part of the rule.
 -- Assumes nothing.
-use Rattle.std.specs.Prelude.{ℕ, zero, suc, ◌+◌, ◌-◌, ◌*◌, ◌/◌, ◌%◌, ◌^◌, ◌≤◌, ◌<◌, List, length}
+use Rattle.std.specs.Prelude.{ℕ, zero, suc, ◌+◌, ◌-◌, ◌*◌, ◌/◌, ◌%◌, ◌^◌, ◌≤◌, ◌<◌, List}
 use Rattle.lerc_checksum.specs.declared.Sums.{Sums}
 use Rattle.lerc_checksum.specs.declared.Lanes.{Lanes}
 use Rattle.lerc_words.specs.Lists.{total}

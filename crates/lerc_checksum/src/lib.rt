@@ -1,5 +1,6 @@
 // The checksum of a blob's bytes: two sums of 16-bit words, in one pass.
 #![tactic(auto)]
+
 ghost use Rattle.std.specs.Prelude.{◌≡◌, ◌+◌, ◌*◌, ◌^◌, ◌≤◌, ◌<◌, min, length};
 ghost use Rattle.lerc_checksum.specs.Checksum as Rule;
 ghost use Rattle.lerc_checksum.specs.Parts.{run, four_words, low_words, lanes_of, lane_sum, gathered, Gathers, RoomFor, Small};

@@ -5,7 +5,7 @@
 use Rattle.std.specs.Prelude.{ℕ, ◌+◌, ◌-◌, ◌*◌, ◌%◌, ◌^◌, ◌≤◌, ◌<◌, ◌≡◌, ◌≢◌, true, false, cond, ltb, pos}
 use Rattle.std.specs.Bool.{beq}
 use Rattle.std.specs.Float.{binary64}
-use Rattle.std.specs.Float.Ieee.{add, mul, lt, of_int, of_bits, to_bits_lem}
+use Rattle.std.specs.Float.Ieee.{add, mul, lt, of_int, of_bits, to_bits}
 use Rattle.lerc_words.specs.Res.{ok}
 use Rattle.lerc_numeric.specs.Numeric.{negative, field, finite, infinite, mag, bits64, bits32, signed, absorbs, sum, scaled, less, lesser}
 use Rattle.lerc_numeric.specs.Numeric as Numeric
@@ -103,8 +103,8 @@ pub record Order : Type 0 where
 
 pub record ByMachine : Type 0 where
   -- "the language's own binary64 add and multiply, each rounding once, .. agree bit for bit with the definitions": all finite words, zeros, subnormal ones, ties and overflow included, with twice any count of 32 bits
-  pub machine-sum : (a b : ℕ) → field a < 2047 → field b < 2047 → to_bits_lem binary64 (add binary64 (of_bits binary64 a) (of_bits binary64 b)) ≡ sum a b
-  pub machine-scaled : (a q : ℕ) → field a < 2047 → q < 2 ^ 32 → to_bits_lem binary64 (mul binary64 (of_bits binary64 a) (of_int binary64 (pos (2 * q)))) ≡ scaled a q
+  pub machine-sum : (a b : ℕ) → field a < 2047 → field b < 2047 → to_bits binary64 (add binary64 (of_bits binary64 a) (of_bits binary64 b)) ≡ sum a b
+  pub machine-scaled : (a q : ℕ) → field a < 2047 → q < 2 ^ 32 → to_bits binary64 (mul binary64 (of_bits binary64 a) (of_int binary64 (pos (2 * q)))) ≡ scaled a q
   -- so does its order, of a sum, which may be infinite, and a finite word
   pub machine-less : (w t : ℕ) → IsNumber w → field t < 2047 → lt (of_bits binary64 w) (of_bits binary64 t) ≡ less w t
 

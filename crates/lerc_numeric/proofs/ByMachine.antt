@@ -10,7 +10,7 @@ use lib.IntN.{ℤ, pos}
 use lib.Dec.{T, ltb, le→leb, lit≤, lit<}
 use lib.Pow.{pow_pos, pow_mono, shl_lt}
 use lib.Ieee as Ieee
-use lib.Ieee.{Float, nan, inf, fin, binary64, up, down, round, of_fields, of_bits, to_bits_lem}
+use lib.Ieee.{Float, nan, inf, fin, binary64, up, down, round, of_fields, of_bits, to_bits}
 use lib.Ieee.Fits.{down_pos, add-fits, mul-fits}
 use lib.Ieee.Bits.{of_bits-to_bits, nan_bits_is}
 use lib.Ieee.Exact.{HasValue, round_exact}
@@ -103,11 +103,11 @@ mul-value (fin u m e) (fin v n k) s t a b c d hc hd p q =
     cross = rw (mul-mul-mul_comm (m * up e) (n * up k) c d, p.1, q.1) (mul-mul-mul_comm a (down e) b (down k))
 
 -- ---- the sum of two finite words
-to_bits-cond : (b : Bool) (x y : Float) → to_bits_lem binary64 (cond b x y) ≡ cond b (to_bits_lem binary64 x) (to_bits_lem binary64 y)
+to_bits-cond : (b : Bool) (x y : Float) → to_bits binary64 (cond b x y) ≡ cond b (to_bits binary64 x) (to_bits binary64 y)
 to_bits-cond true x y = refl
 to_bits-cond false x y = refl
 
-counted-bits : (a b : ℕ) → to_bits_lem binary64 (Ieee.sum binary64 (negative a) (mag a) (negative b) (mag b) (2 ^ 1074)) ≡ counted_sum a b
+counted-bits : (a b : ℕ) → to_bits binary64 (Ieee.sum binary64 (negative a) (mag a) (negative b) (mag b) (2 ^ 1074)) ≡ counted_sum a b
 unfolding Ieee.sum counted_sum
 counted-bits a b =
     rw (
@@ -118,7 +118,7 @@ counted-bits a b =
       round-bits (negative a && ltb (mag b) (mag a)) (mag a - mag b),
     )
 
-pub machine-sum : (a b : ℕ) → field a < 2047 → field b < 2047 → to_bits_lem binary64 (Ieee.add binary64 (of_bits binary64 a) (of_bits binary64 b)) ≡ sum a b
+pub machine-sum : (a b : ℕ) → field a < 2047 → field b < 2047 → to_bits binary64 (Ieee.add binary64 (of_bits binary64 a) (of_bits binary64 b)) ≡ sum a b
 machine-sum a b ha hb =
     rw (add-value (of_bits binary64 a) (of_bits binary64 b) (negative a) (negative b) (mag a) (mag b) (2 ^ 1074) (pow_pos 1074) (word_value a ha) (word_value b hb), finite-sum a b ha hb)
     (counted-bits a b)
@@ -139,7 +139,7 @@ unlike-false : (s : Bool) → Ieee.unlike s false ≡ s
 unlike-false true = refl
 unlike-false false = refl
 
-pub machine-scaled : (a q : ℕ) → field a < 2047 → 2 * q < 2 ^ 53 → to_bits_lem binary64 (product a q) ≡ scaled a q
+pub machine-scaled : (a q : ℕ) → field a < 2047 → 2 * q < 2 ^ 53 → to_bits binary64 (product a q) ≡ scaled a q
 unfolding scaled
 machine-scaled a q h l =
     rw (
@@ -176,7 +176,7 @@ machine-less w t h ht = go (eq-or-lt_of_le h)
     go (inr l) = lt-value (of_bits binary64 w) (of_bits binary64 t) (negative w) (negative t) (mag w) (mag t) (2 ^ 1074) (pow_pos 1074) (word_value w (omega arith)) (word_value t ht)
 
 -- ---- no result is a NaN: its bits are a number's
-no_nan : (x : Float) (w : ℕ) → T (Ieee.fits binary64 x) → to_bits_lem binary64 x ≡ w → IsNumber w → T (not (Ieee.is_nan x))
+no_nan : (x : Float) (w : ℕ) → T (Ieee.fits binary64 x) → to_bits binary64 x ≡ w → IsNumber w → T (not (Ieee.is_nan x))
 no_nan x w f e h = rw (sym (of_bits-to_bits binary64 x f) ∙ ap (of_bits binary64) e, ← nan_bits_is binary64 w) (no-nan-bits w h)
 
 pub signed-number : (s : Bool) (n : ℕ) → IsNumber (signed s (bits64 n))

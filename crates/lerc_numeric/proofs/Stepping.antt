@@ -9,7 +9,7 @@ use lib.Dec.{T, lit≤, lit<}
 use borrow.Author.Tests.{lt-leb}
 use lib.Pow.{pow-add, pow_pos, pow_mono, shl_lt}
 use lib.Ieee as Ieee
-use lib.Ieee.{Float, binary64, round, of_bits, to_bits_lem}
+use lib.Ieee.{Float, binary64, round, of_bits, to_bits}
 use lib.IntN.{pos}
 use lib.Ieee.Exact.{HasValue, round_exact}
 use lib.Ieee.Fits.{add-fits}
@@ -71,7 +71,7 @@ module _ (offset error q : ℕ) (fo : field offset < 2047) (fe : error < error_e
   product_is : product error q ≡ of_bits binary64 (scaled error q)
   product_is = sym (of_bits-to_bits binary64 (product error q) (product-fits error q)) ∙ ap (of_bits binary64) (machine-scaled error q (omega arith) (omega arith))
 
-  pub moved-bits : to_bits_lem binary64 moved ≡ reached
+  pub moved-bits : to_bits binary64 moved ≡ reached
   moved-bits = rw (product_is) (machine-sum offset (scaled error q) fo finite-product)
 
   moved-is : moved ≡ of_bits binary64 reached
@@ -84,7 +84,7 @@ module _ (offset error q : ℕ) (fo : field offset < 2047) (fe : error < error_e
     pub test-is : Ieee.lt moved (of_bits binary64 top) ≡ less reached top
     test-is = rw (moved-is) (machine-less reached top (sum_number offset (scaled error q) fo finite-product) ft)
 
-    pub taken-bits : Ieee.lt moved (of_bits binary64 top) ≡ true → to_bits_lem binary64 moved ≡ lesser reached top
+    pub taken-bits : Ieee.lt moved (of_bits binary64 top) ≡ true → to_bits binary64 moved ≡ lesser reached top
     unfolding lesser
     taken-bits e = rw (sym test-is ∙ e) moved-bits
 

@@ -1,5 +1,6 @@
 // Arithmetic of binary64 words over whole numbers, and the kinds of samples as binary64. Every function takes any bits.
 #![tactic(auto)]
+
 ghost use Rattle.std.specs.Prelude.{◌≡◌};
 ghost use Rattle.lerc_numeric.specs.Kinds as Kind;
 ghost use Rattle.lerc_numeric.specs.Kinds.{integer_said, refusal_of_integer};

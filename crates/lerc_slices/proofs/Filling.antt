@@ -8,7 +8,7 @@ use native.Mathlib.Decide.{dec_le}
 use native.Mathlib.Nat.{not-suc-le-zero, le_of_suc-le-suc}
 use lib.ListN.{length, get_or, take, drop, replicate, length-take}
 use lib.Seq.{take_all, drop-length}
-use Rattle.lerc_words.specs.Lists.{from, tabulate, over}
+use Rattle.lerc_words.specs.Lists.{from, tabulate}
 use Rattle.lerc_words.proofs.Tables.{from-shift}
 use Rattle.lerc_words.proofs.Filling.{Filling, filling-done}
 use Rattle.lerc_slices.specs.Slices.{copied}

@@ -7,7 +7,6 @@ use native.Mathlib.Omega.{arith}
 use lib.ListN.{length, take, drop, replicate, length-replicate, length-take}
 use lib.Seq.{paste, take_all, drop-length}
 use borrow.Rule.Slice.PartMut.{mid_of, put_mid, mid_len, Post-is}
-use Rattle.lerc_words.specs.Lists.{over}
 use Rattle.lerc_slices.specs.Slices.{copied}
 
 -- as many entries as there is room for, and no more

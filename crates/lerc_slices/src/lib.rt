@@ -1,5 +1,6 @@
 // Lent slices copied, filled and compared; a caller lends the part that is meant.
 #![tactic(auto)]
+
 ghost use Rattle.std.specs.Prelude.{◌≡◌, ℕ, ◌≤◌, ◌<◌, min, length, get_or, replicate};
 ghost use Rattle.lerc_slices.specs.Slices.{copied, begins_with};
 
