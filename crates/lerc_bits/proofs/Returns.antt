@@ -10,7 +10,7 @@ use lib.ListN.{length, get_or, drop}
 use Rattle.lerc_words.specs.declared.Refusal.{Refusal}
 use Rattle.lerc_words.specs.Lists.{over}
 use lib.Dec.{leb, ltb, eqb}
-use Rattle.lerc_words.specs.Res.{Res, ok, fail, refuse, placed, marked, require, word_at_lem}
+use Rattle.lerc_words.specs.Res.{Res, ok, fail, refuse, placed, marked, word_at_lem}
 use Rattle.lerc_words.proofs.Little.{word_at-bare}
 use Rattle.lerc_words.proofs.Marking.{Bare, marked-is, marked-no, marked-fails, marked-tells, marked-after, bare-bind, bare-then, bare-cond, bare-no}
 use Rattle.lerc_bits.specs.declared.Plan.{Plan}

@@ -14,7 +14,7 @@ mod checks;
 pub use checks::{check, check_plan};
 
 // where packed counts stand: n values, or n indices into a table of `entries` values
-#[derive(Drop)]
+#[derive(Clone, Copy)]
 pub struct Plan {
     pub n: usize,
     // the width of a value

@@ -1,0 +1,6 @@
+use mathlib.Core.Path.{◌∙◌, ap}
+use Rattle.lerc_words.specs.Res.{marked}
+use Rattle.lerc_bits.proofs.inspect.Goals as goal
+
+pub returns : goal.returns
+returns c = c.at.ensures ∙ ap (marked c.args.start) c.find-found.ensures
