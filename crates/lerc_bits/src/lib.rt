@@ -14,7 +14,7 @@ mod checks;
 pub use checks::{check, check_plan};
 
 // where packed counts stand: n values, or n indices into a table of `entries` values
-#[derive(Drop)]
+#[derive(Clone, Copy)]
 pub struct Plan {
     pub n: usize,
     // the width of a value
@@ -30,7 +30,7 @@ pub struct Plan {
     pub next: usize,
 }
 
-#[derive(Drop)]
+#[derive(Clone, Copy)]
 pub enum PlanAnswer {
     Plan(Plan),
     Refused(Refusal),
@@ -58,7 +58,7 @@ impl PlanAnswer {
     }
 }
 
-#[derive(Drop)]
+#[derive(Clone, Copy)]
 pub enum CountsAnswer {
     Counts { n: usize, next: usize },
     Refused(Refusal),
