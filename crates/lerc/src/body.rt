@@ -19,7 +19,7 @@ use lerc_validity::MaskAnswer;
 use lerc_words::Refusal;
 
 // What a body is, where its words or blocks begin, and where it ends.
-#[derive(Drop)]
+#[derive(Clone, Copy)]
 pub(crate) enum BodyFound {
     Empty,
     Constant {
@@ -43,7 +43,7 @@ pub(crate) enum BodyFound {
 }
 
 // A body that was checked. `words` are the words of a constant body, and the maxima of another.
-#[derive(Drop)]
+#[derive(Clone, Copy)]
 pub(crate) struct BodyChecked {
     found: BodyFound,
     words: [u64; DEPTHS],

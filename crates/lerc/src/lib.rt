@@ -21,7 +21,7 @@ mod body;
 mod linear;
 
 // Which kind of body a blob has.
-#[derive(Drop)]
+#[derive(Clone, Copy)]
 pub enum BodyKind {
     Empty,
     Constant,
@@ -31,7 +31,7 @@ pub enum BodyKind {
 }
 
 // What staging found: the header, the kind of body, how many blocks it has and where it ends, and the mask in force.
-#[derive(Drop)]
+#[derive(Clone, Copy)]
 pub struct Staged {
     pub header: Header,
     pub body: BodyKind,
@@ -40,21 +40,21 @@ pub struct Staged {
     pub mask: MaskAnswer,
 }
 
-#[derive(Drop)]
+#[derive(Clone, Copy)]
 pub enum StageAnswer {
     Staged(Staged),
     Refused(Refusal),
 }
 
 // Where the body ends, and how many words were written.
-#[derive(Drop)]
+#[derive(Clone, Copy)]
 pub enum PublishAnswer {
     Published { end: usize, words: usize },
     Refused(Refusal),
 }
 
 // The header that was read, how many blocks the body has, and where it ends.
-#[derive(Drop)]
+#[derive(Clone, Copy)]
 pub enum ReadAnswer {
     Whole {
         header: Header,

@@ -30,7 +30,7 @@ pub struct Plan {
     pub next: usize,
 }
 
-#[derive(Drop)]
+#[derive(Clone, Copy)]
 pub enum PlanAnswer {
     Plan(Plan),
     Refused(Refusal),
@@ -58,7 +58,7 @@ impl PlanAnswer {
     }
 }
 
-#[derive(Drop)]
+#[derive(Clone, Copy)]
 pub enum CountsAnswer {
     Counts { n: usize, next: usize },
     Refused(Refusal),

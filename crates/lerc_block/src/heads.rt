@@ -13,7 +13,7 @@ use lerc_samples::OffsetAnswer;
 const ROOM: usize = 11;
 
 // What such a head says. `end` is where the block ends, and 0 where the head is another one.
-#[derive(Drop)]
+#[derive(Clone, Copy)]
 pub(crate) struct Head {
     pub offset: StoredOffset,
     pub n: usize,

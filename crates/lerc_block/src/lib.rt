@@ -23,7 +23,7 @@ pub use checks::check_block;
 pub use plan::{BlockPlan, BlockPlanAnswer, Form, Steps, StoredOffset, block_end, inspect_block};
 
 // Where the next block begins.
-#[derive(Drop)]
+#[derive(Clone, Copy)]
 pub enum BlockAnswer {
     Block(usize),
     Refused(Refusal),

@@ -14,21 +14,21 @@ use lerc_samples::OffsetAnswer;
 use lerc_words::{Refusal, WordAnswer};
 
 // An offset as it stands in the blob: a word of a kind.
-#[derive(Drop)]
+#[derive(Clone, Copy)]
 pub struct StoredOffset {
     pub word: u64,
     pub kind: u32,
 }
 
 // An offset, and the packed counts of steps from it.
-#[derive(Drop)]
+#[derive(Clone, Copy)]
 pub struct Steps {
     pub offset: StoredOffset,
     pub counts: Plan,
 }
 
 // How a block's words are coded: raw from a place on, zeros, one offset, or an offset and counts.
-#[derive(Drop)]
+#[derive(Clone, Copy)]
 pub enum Form {
     Raw(usize),
     Zero,
@@ -36,14 +36,14 @@ pub enum Form {
     Stepped(Steps),
 }
 
-#[derive(Drop)]
+#[derive(Clone, Copy)]
 pub struct BlockPlan {
     pub form: Form,
     // where the next block begins
     pub next: usize,
 }
 
-#[derive(Drop)]
+#[derive(Clone, Copy)]
 pub enum BlockPlanAnswer {
     Plan(BlockPlan),
     Refused(Refusal),

@@ -19,7 +19,7 @@ use super::{symbols, table};
 use lerc_header::{Header, Shape};
 
 // What the symbols are found by, and the kind of the words.
-#[derive(Drop)]
+#[derive(Clone, Copy)]
 struct Coding {
     range: Range,
     start: usize,

@@ -12,7 +12,7 @@ mod symbols;
 mod table;
 
 // Where the image ends.
-#[derive(Drop)]
+#[derive(Clone, Copy)]
 pub enum EndAnswer {
     End(usize),
     Refused(Refusal),

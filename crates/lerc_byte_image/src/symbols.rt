@@ -218,7 +218,7 @@ pub(crate) fn entry(
 // ---- all symbols
 
 // The bit behind the last symbol.
-#[derive(Drop)]
+#[derive(Clone, Copy)]
 pub(crate) enum BitsAnswer {
     Bits(usize),
     Refused(Refusal),

@@ -10,14 +10,14 @@ use lerc_bits::CountsAnswer;
 use lerc_words::{Refusal, WordAnswer};
 
 // How many symbols there are, the first that has a length, and how many have one.
-#[derive(Drop)]
+#[derive(Clone, Copy)]
 pub(crate) struct Range {
     pub(crate) size: usize,
     pub(crate) first: usize,
     pub(crate) count: usize,
 }
 
-#[derive(Drop)]
+#[derive(Clone, Copy)]
 pub(crate) enum RangeAnswer {
     Range(Range),
     Refused(Refusal),
@@ -36,14 +36,14 @@ impl RangeAnswer {
 }
 
 // Where the codes stand, and how many bits they have.
-#[derive(Drop)]
+#[derive(Clone, Copy)]
 pub(crate) enum LengthsAnswer {
     Lengths { next: usize, bits: usize },
     Refused(Refusal),
 }
 
 // Lengths and codes stand in slices of their own; the symbols' bits begin at `start`.
-#[derive(Drop)]
+#[derive(Clone, Copy)]
 pub(crate) enum TableAnswer {
     Table { range: Range, start: usize },
     Refused(Refusal),

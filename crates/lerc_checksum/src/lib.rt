@@ -12,7 +12,7 @@ const GROUP: usize = 359;
 const LANE: u64 = 0x1_0000_0000;
 
 // The sum of the words, and the sum of the running sums.
-#[derive(Drop)]
+#[derive(Clone, Copy)]
 struct Sums {
     first: u32,
     second: u32,
@@ -20,7 +20,7 @@ struct Sums {
 
 // Sums of quads of words, two lanes of 32 bits to a number: the first and third word of each quad,
 // the second and fourth, and the running sums of both.
-#[derive(Drop)]
+#[derive(Clone, Copy)]
 struct Lanes {
     even: u64,
     odd: u64,

@@ -1,5 +1,6 @@
 // The header of a blob: its fields, the rules it is held to, and the sizes that follow from it.
 #![tactic(auto)]
+
 ghost use Rattle.std.specs.Prelude.{◌≡◌, ℕ, ◌+◌, ◌*◌, ◌<◌, ◌≤◌, length};
 ghost use Rattle.lerc_words.specs.Res.{little};
 ghost use Rattle.lerc_header.specs.Shape as Sizes;
@@ -33,7 +34,7 @@ const SIGN: u64 = 0x8000_0000_0000_0000;
 
 const INFINITE: u64 = 0x7FF0_0000_0000_0000;
 
-#[derive(Drop)]
+#[derive(Clone, Copy)]
 pub struct Header {
     pub rows: u32,
     pub columns: u32,
@@ -49,7 +50,7 @@ pub struct Header {
 }
 
 // All that the geometry of an image depends on.
-#[derive(Drop)]
+#[derive(Clone, Copy)]
 pub struct Shape {
     pub rows: usize,
     pub columns: usize,
@@ -58,7 +59,7 @@ pub struct Shape {
 }
 
 // What follows from a header that keeps the rules.
-#[derive(Drop)]
+#[derive(Clone, Copy)]
 pub struct Extent {
     pub shape: Shape,
     pub pixels: usize,
@@ -69,19 +70,19 @@ pub struct Extent {
     pub size: usize,
 }
 
-#[derive(Drop)]
+#[derive(Clone, Copy)]
 pub enum HeaderAnswer {
     Read(Header),
     Refused(Refusal),
 }
 
-#[derive(Drop)]
+#[derive(Clone, Copy)]
 pub enum HeldAnswer {
     Held(Extent),
     Refused(Refusal),
 }
 
-#[derive(Drop)]
+#[derive(Clone, Copy)]
 pub enum OpenAnswer {
     Open { header: Header, extent: Extent },
     Refused(Refusal),

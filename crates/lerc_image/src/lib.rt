@@ -28,7 +28,7 @@ mod put;
 pub use decode::{are_listed, check_tiles, decode_tiles, fill_tiles, list_tiles, write_tiles};
 pub use own::check_own_tiles;
 
-#[derive(Drop)]
+#[derive(Clone, Copy)]
 pub struct Tile {
     pub x: usize,
     pub y: usize,
@@ -37,7 +37,7 @@ pub struct Tile {
     pub d: usize,
 }
 
-#[derive(Drop)]
+#[derive(Clone, Copy)]
 pub struct Position {
     pub x: usize,
     pub y: usize,
@@ -45,20 +45,20 @@ pub struct Position {
 }
 
 // A pixel of a tile, and its column there.
-#[derive(Drop)]
+#[derive(Clone, Copy)]
 struct Cursor {
     pixel: usize,
     column: usize,
 }
 
-#[derive(Drop)]
+#[derive(Clone, Copy)]
 pub enum WalkAnswer {
     Walked { blocks: usize, end: usize },
     Refused(Refusal),
 }
 
 // How many words were written.
-#[derive(Drop)]
+#[derive(Clone, Copy)]
 pub enum FillAnswer {
     Filled(usize),
     Refused(Refusal),

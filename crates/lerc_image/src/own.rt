@@ -19,7 +19,7 @@ use lerc_mask::RunPlace;
 const ROWS: usize = 16;
 
 // How many pixels of a row are valid, and where the runs stand behind it.
-#[derive(Drop)]
+#[derive(Clone, Copy)]
 struct RowFound {
     place: RunPlace,
     found: usize,

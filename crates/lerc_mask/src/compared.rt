@@ -9,14 +9,14 @@ use super::{MASK_FIELD, RunsAnswer, Step, bytes_for, check, read_step};
 use lerc_words::Refusal;
 
 // Whether a slice begins with the mask that a section of runs gives, beside how long that is.
-#[derive(Drop)]
+#[derive(Clone, Copy)]
 pub struct RunsFound {
     pub answer: RunsAnswer,
     pub same: bool,
 }
 
 // The second pass between two runs that are held: the place in the section, and in the mask; or whether all are.
-#[derive(Drop)]
+#[derive(Clone, Copy)]
 enum Met {
     On(usize, usize),
     Done(bool),

@@ -5,21 +5,21 @@ ghost use Rattle.lerc_mask.specs.Seek.{begin_at, seek_on, sought};
 use super::{Step, read_step};
 
 // A place between two runs: where the next one stands, and how many bytes of the mask came before it.
-#[derive(Drop)]
+#[derive(Clone, Copy)]
 pub struct RunPlace {
     pub at: usize,
     pub made: usize,
 }
 
 // A byte of the mask, and the place of the run that gives it.
-#[derive(Drop)]
+#[derive(Clone, Copy)]
 pub struct RunFound {
     pub place: RunPlace,
     pub byte: u8,
 }
 
 // One run: it gives the byte, or it ends at a place with so many bytes that come before it, or no run is there.
-#[derive(Drop)]
+#[derive(Clone, Copy)]
 enum Sought {
     Byte(u8),
     Behind(usize, usize),

@@ -8,7 +8,7 @@ use super::parts::{exponent, significand};
 use super::round::{INFINITY, jam, pack};
 
 // Two magnitudes over one power of two: small stands for the lesser one's digits.
-#[derive(Drop)]
+#[derive(Clone, Copy)]
 struct Aligned {
     big: u64,
     small: u64,

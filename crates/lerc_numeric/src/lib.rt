@@ -31,7 +31,7 @@ pub use single::narrow;
 pub use times::scale;
 pub use whole::{raised, twice_whole};
 
-#[derive(Drop)]
+#[derive(Clone, Copy)]
 pub enum IntegerAnswer {
     Word(u64),
     Refused(Refusal),

@@ -17,7 +17,7 @@ pub const HEAD: usize = 8;
 // The bytes of an entry.
 pub const ENTRY: usize = 16;
 
-#[derive(Drop)]
+#[derive(Clone, Copy)]
 pub struct Entry {
     pub row: u16,
     pub column: u16,
@@ -27,13 +27,13 @@ pub struct Entry {
     pub length: usize,
 }
 
-#[derive(Drop)]
+#[derive(Clone, Copy)]
 pub enum PackAnswer {
     Opened(usize),
     Refused(Refusal),
 }
 
-#[derive(Drop)]
+#[derive(Clone, Copy)]
 pub enum EntryAnswer {
     Read(Entry),
     Refused(Refusal),
@@ -135,7 +135,7 @@ pub fn body_in<'a>(pack: &'a [u8], count: usize, i: usize) -> &'a [u8]
 
 // ---- the pack reader
 
-#[derive(Drop)]
+#[derive(Clone, Copy)]
 pub struct Pack<'a> {
     pub bytes: &'a [u8],
     pub count: usize,

@@ -8,7 +8,7 @@ use lerc_words::Refusal;
 
 mod parts;
 
-#[derive(Drop)]
+#[derive(Clone, Copy)]
 pub enum WriteAnswer {
     Written(usize),
     Refused(Refusal),

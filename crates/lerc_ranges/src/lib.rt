@@ -13,7 +13,7 @@ use lerc_numeric::{is_finite, number, same, size};
 use lerc_samples::{StoredAnswer, stored};
 use lerc_words::{Refusal, peek};
 
-#[derive(Drop)]
+#[derive(Clone, Copy)]
 pub struct Ranges {
     pub at: usize,
     pub constant: bool,
@@ -21,31 +21,31 @@ pub struct Ranges {
     pub max: [u64; DEPTHS],
 }
 
-#[derive(Drop)]
+#[derive(Clone, Copy)]
 pub enum RangesAnswer {
     Read,
     Refused(Refusal),
 }
 
-#[derive(Drop)]
+#[derive(Clone, Copy)]
 pub struct RangesRead {
     pub answer: RangesAnswer,
     pub ranges: Ranges,
 }
 
-#[derive(Drop)]
+#[derive(Clone, Copy)]
 pub enum PairsAnswer {
     Right,
     Refused(Refusal),
 }
 
-#[derive(Drop)]
+#[derive(Clone, Copy)]
 pub enum ConstantsAnswer {
     Stored,
     Refused(Refusal),
 }
 
-#[derive(Drop)]
+#[derive(Clone, Copy)]
 pub struct Constants {
     pub answer: ConstantsAnswer,
     pub words: [u64; DEPTHS],

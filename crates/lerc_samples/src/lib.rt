@@ -1,5 +1,6 @@
 // Numbers of a kind out of bytes, values as stored words, and the kinds that a block's offset may have.
 #![tactic(auto)]
+
 ghost use Rattle.std.specs.Prelude.{◌≡◌};
 ghost use Rattle.lerc_words.specs.Res.{marked};
 ghost use Rattle.lerc_samples.specs.Samples as Sample;
@@ -20,7 +21,7 @@ const OFFSET_KINDS: [[u8; 4]; 8] = [
     [7, 6, 4, 2],
 ];
 
-#[derive(Drop)]
+#[derive(Clone, Copy)]
 pub enum OffsetAnswer {
     Kind(u32),
     Refused(Refusal),
@@ -38,7 +39,7 @@ impl OffsetAnswer {
     }
 }
 
-#[derive(Drop)]
+#[derive(Clone, Copy)]
 pub enum SampleAnswer {
     Value(u64),
     Refused(Refusal),
@@ -56,7 +57,7 @@ impl SampleAnswer {
     }
 }
 
-#[derive(Drop)]
+#[derive(Clone, Copy)]
 pub enum StoredAnswer {
     Word(u64),
     Refused(Refusal),

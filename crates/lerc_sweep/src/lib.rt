@@ -6,7 +6,7 @@ ghost use Rattle.lerc_sweep.specs.Sweep.{mode_at, moded, swept, way_said, refusa
 use lerc_words::{Refusal, WordAnswer};
 
 // Where the raw words or the blocks begin, or where the mode byte of a Huffman image stands.
-#[derive(Drop)]
+#[derive(Clone, Copy)]
 pub enum WayAnswer {
     Raw(usize),
     Blocks(usize),

@@ -12,7 +12,7 @@ use lerc_mask::MASK_FIELD;
 use lerc_words::Refusal;
 
 // Which mask is in force, and whether the spare holds it where it is a new one.
-#[derive(Drop)]
+#[derive(Clone, Copy)]
 pub struct MaskFound {
     pub answer: MaskAnswer,
     pub same: bool,

@@ -16,7 +16,7 @@ mod compared;
 pub use compared::{MaskFound, compare_mask};
 
 // Which mask is in force, and how long it is.
-#[derive(Drop)]
+#[derive(Clone, Copy)]
 pub enum MaskAnswer {
     Kept(usize),
     Spare(usize),

@@ -5,7 +5,7 @@ ghost use Rattle.std.specs.Prelude.{◌≡◌, ℕ, ◌+◌, ◌-◌, ◌*◌, �
 ghost use Rattle.lerc_words.specs.Res.{little, placed, marked, word_said, word_says, refusal_of_word};
 ghost use Rattle.lerc_words.specs.Lists.{tabulate};
 
-#[derive(Drop)]
+#[derive(Clone, Copy)]
 pub struct Refusal {
     pub number: u32,
     // where in the bytes; 0 where no place is told
@@ -24,7 +24,7 @@ impl Refusal {
     }
 }
 
-#[derive(Drop)]
+#[derive(Clone, Copy)]
 pub enum WordAnswer {
     Word(u64),
     Refused(Refusal),
