@@ -4,5 +4,4 @@ pub mod Order
 pub mod Fields
 pub mod Opening
 pub mod Passes
-pub mod Held
 pub mod Matching

@@ -3,7 +3,7 @@
 use mathlib.Core.Path.{◌≡◌, ◌∙◌, sym, refl}
 use mathlib.Core.Bool.{Bool, true, false, ◌&&◌}
 use mathlib.Core.List.{List}
-use Prim.Native.Nat.{ℕ, zero, suc, ◌+◌, ◌-◌, ◌≤◌, ◌<◌, min}
+use Prim.Native.Nat.{ℕ, suc, ◌+◌, ◌-◌, ◌≤◌, ◌<◌, min}
 use native.Mathlib.Omega.{arith}
 use lib.ListN.{length, take, drop, length-take, length-drop}
 use lib.Dec.{leb, ltb, eqb}
@@ -16,11 +16,11 @@ use Rattle.lerc_words.proofs.Tables.{all-each, all_true}
 use Rattle.lerc_slices.proofs.Begins.{both_ways}
 use Rattle.lerc_header.proofs.Kept.{header-held, held_kept}
 use Rattle.lerc_pack.specs.declared.Entry.{Entry}
-use Rattle.lerc_pack.specs.Contents.{Tile, tile_limit, depth_most, entry_place, body_end, body_place, rises_at, matches, tiles_right}
+use Rattle.lerc_pack.specs.Contents.{tile_limit, depth_most, entry_place, body_end, body_place, rises_at, matches, tiles_right}
 use Rattle.lerc_pack.specs.Pack.{count_of, head_right, entry_part, entry_at, zeros_right, body_of, tile_of, pack_says, entry_says}
 use Rattle.lerc_pack.specs.Parts.{least_key, key_at, entry_right, entry_matched, entries_right}
 use Rattle.lerc_pack.proofs.Fields.{row_fits, column_fits}
-use Rattle.lerc_pack.proofs.Rules.{Matched, TileKept, TilesKept, matched-is, matched-right, tiles-is, tiles-right}
+use Rattle.lerc_pack.proofs.Rules.{TileKept, TilesKept, matched-is, matched-right, tiles-is, tiles-right}
 use Rattle.lerc_pack.proofs.Order.{rises-is}
 
 -- the tests of an entry, each by itself

@@ -1,6 +1,7 @@
 // Packs: many tiles in one, a table of contents first, then the bodies. "A breach is new refusal 12", at 0.
 // The pack reader holds the lent pack and its count, and is thin over the plain functions, which do all of the judging.
 #![tactic(auto)]
+
 ghost use Rattle.std.specs.Prelude.{◌≡◌};
 ghost use Rattle.lerc_pack.specs.Pack as Reading;
 
@@ -172,7 +173,7 @@ impl<'a> Pack<'a> {
     }
 
     pub fn body(self, i: usize) -> &'a [u8]
-        ensures { (result.now ≡ Reading.body_says self.entry.bytes.now self.entry.count i) × (result.ref_ptr ≡ Reading.behind self.entry.bytes.ptr (Reading.start_says self.entry.bytes.now self.entry.count i)) }
+        ensures { (result.now ≡ Reading.body_says self.entry.bytes.now self.entry.count i) × (result.ref_ptr ≡ Reading.behind self.entry.bytes.ref_ptr (Reading.start_says self.entry.bytes.now self.entry.count i)) }
     {
         body_in(self.bytes, self.count, i)
     }

@@ -1,5 +1,6 @@
 // The bytes in front of a body that is not constant: raw words, blocks, or a Huffman image.
 #![tactic(auto)]
+
 ghost use Rattle.std.specs.Prelude.{◌≡◌};
 ghost use Rattle.lerc_sweep.specs.Sweep.{mode_at, moded, swept, way_said, refusal_of_way};
 

@@ -1,6 +1,7 @@
 // The program's text, put into a lent buffer: each function puts its text at a place, as much as there is room for,
 // and answers the place behind it.
 #![tactic(auto)]
+
 ghost use Rattle.std.specs.Prelude.{◌≡◌, List, [], ◌∷◌, ◌++◌, ℕ, ◌+◌, ◌/◌, ◌<◌, min, get_or};
 ghost use Rattle.lerc_text.specs.Text.{Put, decimal, field, line, refusal_line, shape_line, cell_line, cell_lines, valid_in, word_in};
 

@@ -1,5 +1,6 @@
 // The mask in force: new or reused, and the part of a slice that holds it.
 #![tactic(auto)]
+
 ghost use Rattle.std.specs.Prelude.{◌≡◌, List, ℕ, ◌+◌, ◌≤◌, length};
 ghost use Rattle.lerc_words.specs.Res.{marked};
 ghost use Rattle.lerc_header.specs.Header.{shape_of, ranges_at};
