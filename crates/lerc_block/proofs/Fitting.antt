@@ -24,7 +24,7 @@ use Rattle.lerc_block.specs.Plan.{offset_value, stepped_words, ended}
 use Rattle.lerc_block.specs.Steps.{step_word}
 use Rattle.lerc_block.specs.Check.{steps_fit, OffsetHeld}
 use Rattle.lerc_block.proofs.Returns.{level-ok, offset-is, finite-is}
-use Rattle.lerc_block.proofs.Steps.{steps-by}
+use Rattle.lerc_block.proofs.StepWords.{steps-by}
 
 -- ---- when every step fits
 

@@ -13,7 +13,7 @@ use Rattle.lerc_numeric.specs.Kinds.{narrowed}
 use Rattle.lerc_numeric.specs.Steps.{step_of, mapped}
 use Rattle.lerc_samples.specs.Samples.{stored}
 use Rattle.lerc_block.specs.Steps.{step_word, StepsPut, CountsOf}
-use Rattle.lerc_block.proofs.Steps.{each-table}
+use Rattle.lerc_block.proofs.StepWords.{each-table}
 
 pub stored-single : (kind w : ℕ) → kind ≡ 6 → stored kind w ≡ ok (narrowed w)
 unfolding stored

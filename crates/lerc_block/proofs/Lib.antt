@@ -2,7 +2,7 @@ pub mod Returns
 pub mod Finite
 pub mod Planning
 pub mod Leads
-pub mod Steps
+pub mod StepWords
 pub mod Accepted
 pub mod Fitting
 pub mod Spared

@@ -29,7 +29,7 @@ use Rattle.lerc_block.specs.declared.plan.StoredOffset.{StoredOffset}
 use Rattle.lerc_block.specs.Plan.{offset_value}
 use Rattle.lerc_block.specs.Steps.{step_word, StepsPut, CountsOf}
 use Rattle.lerc_block.specs.Check.{OffsetHeld}
-use Rattle.lerc_block.proofs.Steps.{each-table}
+use Rattle.lerc_block.proofs.StepWords.{each-table}
 
 -- ---- what fits a u64
 

@@ -1,5 +1,6 @@
 // One block: the words of its tile's valid pixels.
 #![tactic(auto)]
+
 ghost use Rattle.std.specs.Prelude.{◌≡◌, ◌≤◌, length};
 ghost use Rattle.lerc_words.specs.Res.{marked, each};
 ghost use Rattle.lerc_bits.specs.Unpacking.{value_bits};

@@ -1,5 +1,6 @@
 // The ranges of each depth: read from a blob, judged by value, stored as words.
 #![tactic(auto)]
+
 ghost use Rattle.std.specs.Prelude.{◌≡◌, false, ℕ, ◌+◌, ◌*◌, ◌≤◌, ◌<◌, ◌^◌, min, get_or};
 ghost use Rattle.lerc_words.specs.Res.{fail};
 ghost use Rattle.lerc_words.specs.Lists.{all_to};

@@ -1,0 +1,6 @@
+use mathlib.Core.Path.{◌∙◌, ap}
+use Rattle.lerc_words.specs.Res.{marked}
+use Rattle.lerc_block.proofs.plan.inspect_block.Goals as goal
+
+pub returns : goal.returns
+returns c = c.at.ensures ∙ ap (marked c.args.at) c.plan_block-found.ensures
