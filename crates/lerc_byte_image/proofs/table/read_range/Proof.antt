@@ -1,6 +1,6 @@
 use Rattle.std.proofs.Common.{◌≡◌, arith, rules, le-leb}
 use borrow.Author.Tests.{lt-leb}
-use Rattle.lerc_words.specs.Res.{ok, word_at_lem}
+use Rattle.lerc_words.specs.Res.{ok, word_at}
 use Rattle.lerc_words.proofs.Little.{read_ok, read-cut}
 use Rattle.lerc_byte_image.specs.Table.{range_at}
 use Rattle.lerc_byte_image.specs.TableParts.{sizes_at}
@@ -8,7 +8,7 @@ use Rattle.lerc_byte_image.proofs.table.read_range.Statement.{statement}
 use Rattle.lerc_byte_image.proofs.table.read_range.Tie as tie
 
 -- the version
-version-read : (c : tie.After-a) → let a = c.before.before.before.before.args in word_at_lem 4 a.s.now a.at ≡ ok c.a.given.0.0
+version-read : (c : tie.After-a) → let a = c.before.before.before.before.args in word_at 4 a.s.now a.at ≡ ok c.a.given.0.0
 version-read c = let a = c.before.before.before.before.args in read_ok a.s.now a.at 4 (omega arith) c.before.before.word.ensures c.a.given.1
 
 returns : tie.Need-returns

@@ -1,19 +1,19 @@
 use Rattle.std.proofs.Common.{◌≡◌, ◌+◌, ◌-◌, ◌<◌, ◌≤◌, arith, rules, le-ltb, lt-ltb, le-leb}
 use borrow.Author.Tests.{lt-leb}
-use Rattle.lerc_words.specs.Res.{ok, word_at_lem}
+use Rattle.lerc_words.specs.Res.{ok, word_at}
 use Rattle.lerc_words.proofs.Little.{read_ok, read-cut}
 use Rattle.lerc_byte_image.specs.TableParts.{sizes_at}
 use Rattle.lerc_byte_image.proofs.table.read_sizes.Statement.{statement}
 use Rattle.lerc_byte_image.proofs.table.read_sizes.Tie as tie
 
 -- the three words
-size-read : (c : tie.After-a) → let a = c.before.before.before.before.args in word_at_lem 4 a.s.now (a.at + 4) ≡ ok c.a.given.0.0
+size-read : (c : tie.After-a) → let a = c.before.before.before.before.args in word_at 4 a.s.now (a.at + 4) ≡ ok c.a.given.0.0
 size-read c = let a = c.before.before.before.before.args in read_ok a.s.now (a.at + 4) 4 (omega arith) c.before.before.word.ensures c.a.given.1
 
-first_read : (c : tie.After-b) → let a = c.before.before.before.before.before.before.before.before.before.args in word_at_lem 4 a.s.now (a.at + 8) ≡ ok c.b.given.0.0
+first_read : (c : tie.After-b) → let a = c.before.before.before.before.before.before.before.before.before.args in word_at 4 a.s.now (a.at + 8) ≡ ok c.b.given.0.0
 first_read c = let a = c.before.before.before.before.before.before.before.before.before.args in read_ok a.s.now (a.at + 8) 4 (omega arith) c.before.before.word2.ensures c.b.given.1
 
-end_read : (c : tie.After-c) → let a = c.before.before.before.before.before.before.before.before.before.before.before.before.before.before.args in word_at_lem 4 a.s.now (a.at + 12) ≡ ok c.c.given.0.0
+end_read : (c : tie.After-c) → let a = c.before.before.before.before.before.before.before.before.before.before.before.before.before.before.args in word_at 4 a.s.now (a.at + 12) ≡ ok c.c.given.0.0
 end_read c = let a = c.before.before.before.before.before.before.before.before.before.before.before.before.before.before.args in read_ok a.s.now (a.at + 12) 4 (omega arith) c.before.before.word3.ensures c.c.given.1
 
 returns : tie.Need-returns
