@@ -2,7 +2,7 @@ use mathlib.Core.Path.{◌≡◌, ◌∙◌, ap}
 use Prim.Native.Nat.{◌-◌}
 use native.Mathlib.Omega.{arith}
 use Rattle.lerc_block.specs.Block.{refusal_of_block, block_said, next_block}
-use Rattle.lerc_image.specs.Blocks.{block_at_lem}
+use Rattle.lerc_image.specs.Blocks.{block_at}
 use Rattle.lerc_image.specs.Parts.{BlockTile}
 use Rattle.lerc_image.proofs.Reading.{said-refused}
 use Rattle.lerc_image.proofs.Rows.{Carried, carried_none}
@@ -29,7 +29,7 @@ tile c = standing-tile c.before.before.before.loop.invariant.0.stands c.before.i
 judged : (c : tie.After-check-at invariant-loop decreases-loop) →
     let l = c.before.before.before.before.before in
     let a = l.before.before.before.before.before.before.args in
-    block_said c.check-at.result ≡ next_block (block_at_lem a.s.now a.h a.maxima.now a.mask.now l.loop.n l.loop.next)
+    block_said c.check-at.result ≡ next_block (block_at a.s.now a.h a.maxima.now a.mask.now l.loop.n l.loop.next)
 judged c = c.check-at.ensures ∙ ap next_block (here-read (tile c.before.before) _ _ _ _ c.before.valid-here.ensures)
 
 loop-holds : tie.Need-loop-init invariant-loop decreases-loop

@@ -3,7 +3,7 @@ use Prim.Native.Nat.{◌-◌}
 use native.Mathlib.Omega.{arith}
 use lib.Dec.{eqb}
 use Rattle.lerc_block.specs.Block.{refusal_of_block, block_said, next_block}
-use Rattle.lerc_image.specs.Blocks.{block_at_lem}
+use Rattle.lerc_image.specs.Blocks.{block_at}
 use Rattle.lerc_image.specs.Parts.{BlockTile}
 use Rattle.lerc_image.specs.Own.{mask_by, RowsOnWay}
 use Rattle.lerc_image.proofs.Reading.{said-refused}
@@ -34,7 +34,7 @@ tile c = standing-tile c.before.before.before.loop.invariant.0.stands c.before.i
 judged : (c : tie.After-judge-at invariant-loop decreases-loop) →
     let l = c.before.before.before.before.before.before.before in
     let a = l.before.before.before.before.before.before.before.before.before.args in
-    block_said c.judge-at.result ≡ next_block (block_at_lem a.s.now a.h a.maxima.now (mask_by (eqb a.h.valid a.e.pixels) a.e.mask a.section.now) l.loop.n l.loop.next)
+    block_said c.judge-at.result ≡ next_block (block_at a.s.now a.h a.maxima.now (mask_by (eqb a.h.valid a.e.pixels) a.e.mask a.section.now) l.loop.n l.loop.next)
 judged c = c.judge-at.ensures ∙ ap next_block (here-read (tile c.before.before.before.before) _ _ _ _ c.before.valid-own.ensures.0)
 
 loop-holds : tie.Need-loop-init invariant-loop decreases-loop

@@ -16,7 +16,7 @@ use Rattle.lerc_ranges.specs.declared.Ranges.{Ranges}
 use Rattle.lerc_ranges.specs.Ranges.{pairs_says}
 use Rattle.lerc_image.specs.declared.FillAnswer.{FillAnswer}
 use Rattle.lerc_image.specs.declared.FillAnswer.TheVariants as answer
-use Rattle.lerc_image.specs.Blocks.{block_at_lem}
+use Rattle.lerc_image.specs.Blocks.{block_at}
 use Rattle.lerc_image.specs.Fill.{Filled, fill_says, fill_image}
 use Rattle.lerc_image.specs.Parts.{FillAsked, BlockFilled, has_room}
 use Rattle.lerc_image.proofs.Held.{pairs-are, Fillable, fillable-listable, fillable-room, listable-asked, listable-size, listable-room}
@@ -57,12 +57,12 @@ module _ {b : List ℕ} {h : Header} {m list : List ℕ} {n : ℕ} {image : List
   no_pairs ranges q = refused (rw (p.ready.kept, lt-ltb _ _ p.below, p.ready.room, sym (pairs-are b h p.ready.kept ranges) ∙ q))
 
   passed-block : (ranges : Ranges) {t : Bool} → pairs_says h.depth ranges ≡ ok t
-      → fill_says b h ranges m list n (length image) ≡ block_at_lem (take h.size b) h ranges.max m n (get_or list n 0)
+      → fill_says b h ranges m list n (length image) ≡ block_at (take h.size b) h ranges.max m n (get_or list n 0)
   unfolding fill_says
   passed-block ranges q = rw (p.ready.kept, lt-ltb _ _ p.below, p.ready.room, sym (pairs-are b h p.ready.kept ranges) ∙ q)
 
   pub filled-block : (ranges : Ranges) {u : Bool} {r : FillAnswer} {result : List ℕ} → pairs_says h.depth ranges ≡ ok u
-      → BlockFilled e.shape m n (block_at_lem (take e.size b) h ranges.max m n (get_or list n 0)) r image result → Filled b h ranges m list n r image result
+      → BlockFilled e.shape m n (block_at (take e.size b) h ranges.max m n (get_or list n 0)) r image result → Filled b h ranges m list n r image result
   unfolding fill_image
   filled-block ranges q w =
       let v = rw (held-is h (length b) p.ready.kept) at w in

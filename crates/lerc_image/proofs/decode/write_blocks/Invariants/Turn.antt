@@ -18,7 +18,7 @@ use Rattle.lerc_block.specs.declared.BlockAnswer.TheVariants as block
 use Rattle.lerc_image.specs.declared.Position.{Position}
 use Rattle.lerc_image.specs.Geometry.{next_of}
 use Rattle.lerc_image.specs.Paint.{scattered}
-use Rattle.lerc_image.specs.Blocks.{block_at_lem}
+use Rattle.lerc_image.specs.Blocks.{block_at}
 use Rattle.lerc_image.specs.Tiles.{starts_from, image_from}
 use Rattle.lerc_image.specs.Parts.{BodyAsked, BlockPut}
 use Rattle.lerc_image.proofs.Painting.{length-painted}
@@ -50,20 +50,20 @@ module _ {s : List ℕ} {h : Header} {maxima m : List ℕ} {at : ℕ} {e : Exten
       let z : e.blocks - n ≡ zero = omega arith in
       (listing-all w.listing (rw (z) (starts_none s h maxima m n next)), sym (w.whole ∙ rw (z) (image-none s h maxima m n next image)))
 
-  module _ (l : n < e.blocks) {got : BlockAnswer} {put : List ℕ} (b : BlockPut e.shape m n (block_at_lem s h maxima m n next) got image put) where
+  module _ (l : n < e.blocks) {got : BlockAnswer} {put : List ℕ} (b : BlockPut e.shape m n (block_at s h maxima m n next) got image put) where
     left : e.blocks - n ≡ suc (e.blocks - suc n)
     left = omega arith
 
     -- it is refused
     pub kept : {why : Refusal} → got ≡ block.Refused why → put ≡ image
     kept {why} q =
-        let r : block_at_lem s h maxima m n next ≡ fail why = said-refused b.says q in
+        let r : block_at s h maxima m n next ≡ fail why = said-refused b.says q in
         rw (r) at b.image
 
     pub writing-no : {why : Refusal} → got ≡ block.Refused why
         → (set list n next ≡ over (starts_from s h maxima m e.blocks 0 at) old-list) × (put ≡ image_from s h maxima m e.blocks 0 at old-image)
     writing-no {why} q =
-        let r : block_at_lem s h maxima m n next ≡ fail why = said-refused b.says q in (
+        let r : block_at s h maxima m n next ≡ fail why = said-refused b.says q in (
           listing-last w.listing l next (rw (left) (starts-last s h maxima m (e.blocks - suc n) n next r)),
           kept q ∙ sym (w.whole ∙ rw (left) (image-last s h maxima m (e.blocks - suc n) n next image r)),
         )
@@ -71,7 +71,7 @@ module _ {s : List ℕ} {h : Header} {maxima m : List ℕ} {at : ℕ} {e : Exten
     -- it is accepted
     pub writing-next : {to : ℕ} → got ≡ block.Block to → Writing s h maxima m at e old-list old-image (set list n next) put (next_of e.shape p) (n + 1) to
     writing-next {to} q =
-        let (k, r, z) = said-accepted {b = block_at_lem s h maxima m n next} b.says q in
+        let (k, r, z) = said-accepted {b = block_at s h maxima m n next} b.says q in
         let is : put ≡ scattered (shape_of h) m n k.words image = rw (r, shape_is w.stands.asked) at b.image in
         record {
           stands = standing-next w.stands l;
