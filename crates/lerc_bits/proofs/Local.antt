@@ -7,7 +7,7 @@ use native.Mathlib.Omega.{arith}
 use native.Mathlib.Nat.{add_assoc, add-zero, zero-add}
 use lib.ListN.{length, length-append}
 use lib.Seq.{get_or-append-add}
-use Rattle.lerc_words.specs.Res.{ok, word_at_lem}
+use Rattle.lerc_words.specs.Res.{ok, word_at}
 use Rattle.lerc_words.proofs.Little.{Stays, word_at-stays, little-same}
 use Rattle.lerc_bits.specs.declared.Plan.{Plan}
 use Rattle.lerc_bits.specs.Bits.{run_bytes, index_width, count_bytes, plain_plan, table_plan, plan, digits, run, unpacked, Counts, counts}
@@ -52,8 +52,8 @@ module _ {s t : List ℕ} {at to k : ℕ} (l : Stays s at t to k) where
 
   headed-stays : (h n : ℕ) → Headed s at h n → 1 + count_bytes h ≤ k → Headed t to h n
   headed-stays h n g i =
-      let y : word_at_lem 1 s (at + 0) ≡ ok h = rw (add-zero) g.first in
-      let f : word_at_lem 1 t to ≡ ok h = rw (add-zero) at (word_at-stays 1 0 y (omega arith) l) in
+      let y : word_at 1 s (at + 0) ≡ ok h = rw (add-zero) g.first in
+      let f : word_at 1 t to ≡ ok h = rw (add-zero) at (word_at-stays 1 0 y (omega arith) l) in
       record { first = f; known = g.known; second = word_at-stays (count_bytes h) 1 g.second i l }
 
   -- THE LOCALITY LAW of plans

@@ -8,7 +8,7 @@ use native.Mathlib.Omega.{arith}
 use borrow.Author.Tests.{ltb-true, leb-true, le-leb, eqb-true, eqb-false}
 use lib.Dec.{ltb, leb, eqb}
 use lib.ListN.{length}
-use Rattle.lerc_words.specs.Res.{ok, fail, refuse, require, word_at_lem}
+use Rattle.lerc_words.specs.Res.{ok, fail, refuse, require, word_at}
 use Rattle.lerc_words.proofs.Binding.{bind_is, require-is, and_is}
 use Rattle.lerc_words.proofs.Little.{Bytes, byte-lt}
 use Rattle.lerc_bits.specs.declared.Plan.{Plan}
@@ -19,7 +19,7 @@ use Rattle.lerc_bits.proofs.Returns.{Headed, fits-ok, tabled-more, plan-plain, p
 -- by the first byte h, what follows at `to` is a run, or a table and a run
 pub data Laid (s : List ℕ) (to h n : ℕ) (p : Plan) : Type 0 where
   laid-plain : h / 32 % 2 ≡ 0 → p ≡ plain_plan n (h % 32) to → Laid s to h n p
-  laid_table : (entries : ℕ) → (h / 32 % 2 ≡ 0 → ⊥) → 0 < h % 32 → word_at_lem 1 s to ≡ ok entries → 2 ≤ entries → p ≡ table_plan n (h % 32) entries (to + 1) → Laid s to h n p
+  laid_table : (entries : ℕ) → (h / 32 % 2 ≡ 0 → ⊥) → 0 < h % 32 → word_at 1 s to ≡ ok entries → 2 ≤ entries → p ≡ table_plan n (h % 32) entries (to + 1) → Laid s to h n p
 
 pub record Planned (s : List ℕ) (at : ℕ) (p : Plan) : Type 0 where
   pub h : ℕ
@@ -48,7 +48,7 @@ tabled-is : (s : List ℕ) (to h n : ℕ) {p : Plan} → (h / 32 % 2 ≡ 0 → �
 unfolding tabled
 tabled-is s to h n t e =
     let b = bind_is (require (ltb 0 (h % 32)) 8) _ e in
-    let b1 = bind_is (word_at_lem 1 s to) _ b.2 in
+    let b1 = bind_is (word_at 1 s to) _ b.2 in
     let b2 = bind_is (require (leb 2 b1.0) 8) _ b1.2 in
     let f = fits-is (length s) (table_plan n (h % 32) b1.0 (to + 1)) b2.2 in
     (laid_table b1.0 t (ltb-true _ _ (require-is _ 8 b.1)) b1.1 (leb-true _ _ (require-is _ 8 b2.1)) f.0, f.1)
@@ -57,10 +57,10 @@ tabled-is s to h n t e =
 pub plan-is : (s : List ℕ) (at : ℕ) {p : Plan} → plan s at ≡ ok p → Planned s at p
 unfolding plan
 plan-is s at {p} e =
-    let b = bind_is (word_at_lem 1 s at) _ e in
+    let b = bind_is (word_at 1 s at) _ e in
     let h = b.0 in
     let b1 = bind_is (require (ltb (h / 64) 3) 8) _ b.2 in
-    let b2 = bind_is (word_at_lem (count_bytes h) s (at + 1)) _ b1.2 in
+    let b2 = bind_is (word_at (count_bytes h) s (at + 1)) _ b1.2 in
     let n = b2.0 in
     let b3 = bind_is (require (leb n 256) 8) _ b2.2 in
     let g : Headed s at h n = record { first = b.1; known = ltb-true _ _ (require-is _ 8 b1.1); second = b2.1 } in

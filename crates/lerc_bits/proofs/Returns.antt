@@ -10,7 +10,7 @@ use lib.ListN.{length, get_or, drop}
 use Rattle.lerc_words.specs.declared.Refusal.{Refusal}
 use Rattle.lerc_words.specs.Lists.{over}
 use lib.Dec.{leb, ltb, eqb}
-use Rattle.lerc_words.specs.Res.{Res, ok, fail, refuse, placed, marked, word_at_lem}
+use Rattle.lerc_words.specs.Res.{Res, ok, fail, refuse, placed, marked, word_at}
 use Rattle.lerc_words.proofs.Little.{word_at-bare}
 use Rattle.lerc_words.proofs.Marking.{Bare, marked-is, marked-no, marked-fails, marked-tells, marked-after, bare-bind, bare-then, bare-cond, bare-no}
 use Rattle.lerc_bits.specs.declared.Plan.{Plan}
@@ -33,15 +33,15 @@ module _ (s : List ℕ) (at n bits : ℕ) where
   unfolding tabled
   tabled-zero e = rw (e)
 
-  pub tabled-no : {r : Refusal} → 0 < bits → word_at_lem 1 s at ≡ fail r → tabled s at n bits ≡ fail r
+  pub tabled-no : {r : Refusal} → 0 < bits → word_at 1 s at ≡ fail r → tabled s at n bits ≡ fail r
   unfolding tabled
   tabled-no h e = rw (lt-ltb 0 bits h, e)
 
-  pub tabled-few : (v : ℕ) → 0 < bits → word_at_lem 1 s at ≡ ok v → v < 2 → tabled s at n bits ≡ fail (refuse 8)
+  pub tabled-few : (v : ℕ) → 0 < bits → word_at 1 s at ≡ ok v → v < 2 → tabled s at n bits ≡ fail (refuse 8)
   unfolding tabled
   tabled-few v h e l = rw (lt-ltb 0 bits h, e, lt-leb 2 v l)
 
-  pub tabled-more : (v : ℕ) → 0 < bits → word_at_lem 1 s at ≡ ok v → 2 ≤ v → tabled s at n bits ≡ fits (length s) (table_plan n bits v (at + 1))
+  pub tabled-more : (v : ℕ) → 0 < bits → word_at 1 s at ≡ ok v → 2 ≤ v → tabled s at n bits ≡ fits (length s) (table_plan n bits v (at + 1))
   unfolding tabled
   tabled-more v h e l = rw (lt-ltb 0 bits h, e, le-leb 2 v l)
 
@@ -66,20 +66,20 @@ count_small h = go (h / 64)
 
 -- the first byte was read, and so was the count
 pub record Headed (s : List ℕ) (at h n : ℕ) : Type 0 where
-  pub first : word_at_lem 1 s at ≡ ok h
+  pub first : word_at 1 s at ≡ ok h
   pub known : h / 64 < 3
-  pub second : word_at_lem (count_bytes h) s (at + 1) ≡ ok n
+  pub second : word_at (count_bytes h) s (at + 1) ≡ ok n
 
 module _ (s : List ℕ) (at : ℕ) where
-  pub plan-no : {r : Refusal} → word_at_lem 1 s at ≡ fail r → plan s at ≡ fail r
+  pub plan-no : {r : Refusal} → word_at 1 s at ≡ fail r → plan s at ≡ fail r
   unfolding plan
   plan-no e = rw (e)
 
-  pub plan-form : (h : ℕ) → word_at_lem 1 s at ≡ ok h → 3 ≤ h / 64 → plan s at ≡ fail (refuse 8)
+  pub plan-form : (h : ℕ) → word_at 1 s at ≡ ok h → 3 ≤ h / 64 → plan s at ≡ fail (refuse 8)
   unfolding plan
   plan-form h e l = rw (e, le-ltb (h / 64) 3 l)
 
-  pub plan-short : (h : ℕ) {r : Refusal} → word_at_lem 1 s at ≡ ok h → h / 64 < 3 → word_at_lem (count_bytes h) s (at + 1) ≡ fail r → plan s at ≡ fail r
+  pub plan-short : (h : ℕ) {r : Refusal} → word_at 1 s at ≡ ok h → h / 64 < 3 → word_at (count_bytes h) s (at + 1) ≡ fail r → plan s at ≡ fail r
   unfolding plan
   plan-short h e l d = rw (e, lt-ltb (h / 64) 3 l, d)
 
@@ -102,15 +102,15 @@ tabled-bare : (s : List ℕ) (at n bits : ℕ) → Bare (tabled s at n bits)
 unfolding tabled
 tabled-bare s at n bits =
     bare-then (ltb 0 bits) 8 _
-    (bare-bind (word_at_lem 1 s at) _ (word_at-bare 1 s at) (λ entries.
+    (bare-bind (word_at 1 s at) _ (word_at-bare 1 s at) (λ entries.
     bare-then (leb 2 entries) 8 _ (bare-then (leb (table_plan n bits entries (at + 1)).next (length s)) 1 _ refl)))
 
 pub plan-bare : (s : List ℕ) (at : ℕ) → Bare (plan s at)
 unfolding plan
 plan-bare s at =
-    bare-bind (word_at_lem 1 s at) _ (word_at-bare 1 s at) (λ h.
+    bare-bind (word_at 1 s at) _ (word_at-bare 1 s at) (λ h.
     bare-then (ltb (h / 64) 3) 8 _
-    (bare-bind (word_at_lem (count_bytes h) s (at + 1)) _ (word_at-bare (count_bytes h) s (at + 1)) (λ n.
+    (bare-bind (word_at (count_bytes h) s (at + 1)) _ (word_at-bare (count_bytes h) s (at + 1)) (λ n.
     let to = at + 1 + count_bytes h in
     bare-then (leb n 256) 8 _ (bare-cond (eqb (h / 32 % 2) 0) (bare-then (leb (plain_plan n (h % 32) to).next (length s)) 1 _ refl) (tabled-bare s to n (h % 32))))))
 

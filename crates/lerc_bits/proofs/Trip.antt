@@ -12,7 +12,7 @@ use lib.Arith.{mod-mul}
 use lib.Dec.{ltb, eqb}
 use lib.Pow.{pow-add, pow_pos, pow_mono}
 use lib.ListN.{length, get_or, length-append, get_or-eq_default}
-use Rattle.lerc_words.specs.Res.{ok, little, word_at_lem}
+use Rattle.lerc_words.specs.Res.{ok, little, word_at}
 use Rattle.lerc_words.specs.Lists.{from, tabulate}
 use Rattle.lerc_words.proofs.Little.{word_at-ok, byte_pow, little-behind}
 use Rattle.lerc_words.proofs.Tables.{length-tabulate, get_d_tabulate, tabulate-same, from-shift, all_true}
@@ -39,7 +39,7 @@ bytes-trip (suc n) x more h =
     let b : little n (x % 256 ∷ (bytes_of n (x / 256) ++ more)) 1 ≡ little n (bytes_of n (x / 256) ++ more) 0 = little-behind n (x % 256 ∷ []) (bytes_of n (x / 256) ++ more) in
     rw (b, bytes-trip n (x / 256) more d) (omega arith)
 
-byte-trip : (x : ℕ) (front more : List ℕ) → word_at_lem 1 (front ++ (x ∷ more)) (length front) ≡ ok x
+byte-trip : (x : ℕ) (front more : List ℕ) → word_at 1 (front ++ (x ∷ more)) (length front) ≡ ok x
 unfolding little
 byte-trip x front more =
     let s = front ++ (x ∷ more) in
@@ -49,7 +49,7 @@ byte-trip x front more =
     word_at-ok 1 s (length front) (omega arith) ∙ ap ok (b ∙ z)
 
 -- behind other bytes they are read as a word
-word-trip : (n x : ℕ) (front more : List ℕ) → x < 256 ^ n → word_at_lem n (front ++ (bytes_of n x ++ more)) (length front) ≡ ok x
+word-trip : (n x : ℕ) (front more : List ℕ) → x < 256 ^ n → word_at n (front ++ (bytes_of n x ++ more)) (length front) ≡ ok x
 word-trip n x front more h =
     let s = front ++ (bytes_of n x ++ more) in
     let l : length s ≡ length front + (n + length more) = simp (length-append, length-bytes) in

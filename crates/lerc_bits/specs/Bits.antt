@@ -4,7 +4,7 @@
 use Rattle.std.specs.Prelude.{ℕ, ◌+◌, ◌*◌, ◌-◌, ◌/◌, ◌%◌, ◌^◌, ◌≤◌, ◌≡◌, Bool, cond, ◌&&◌, List, [], ◌∷◌, length, get_or, leb, ltb, eqb}
 use Rattle.std.specs.Float.Ieee.{size}
 use Rattle.lerc_words.specs.declared.Refusal.{Refusal}
-use Rattle.lerc_words.specs.Res.{Res, ok, fail, ◌>>=◌, refuse, require, word_at_lem, little, after}
+use Rattle.lerc_words.specs.Res.{Res, ok, fail, ◌>>=◌, refuse, require, word_at, little, after}
 use Rattle.lerc_words.specs.Lists.{tabulate, over, all_to}
 use Rattle.lerc_bits.specs.declared.Plan.{Plan}
 use Rattle.lerc_bits.specs.declared.PlanAnswer.{PlanAnswer}
@@ -48,16 +48,16 @@ fits len p = do
 unfoldable pub tabled : List ℕ → ℕ → ℕ → ℕ → Res Plan
 tabled s at n bits = do
   _ ← require (ltb 0 bits) 8
-  entries ← word_at_lem 1 s at
+  entries ← word_at 1 s at
   _ ← require (leb 2 entries) 8
   fits (length s) (table_plan n bits entries (at + 1))
 
 -- "byte h; .. 3 is 8; n above 256 is 8; bits = h%32. Bit 5 clear: n values .. Set: .."
 unfoldable pub plan : List ℕ → ℕ → Res Plan
 plan s at = do
-  h ← word_at_lem 1 s at
+  h ← word_at 1 s at
   _ ← require (ltb (h / 64) 3) 8
-  n ← word_at_lem (count_bytes h) s (at + 1)
+  n ← word_at (count_bytes h) s (at + 1)
   _ ← require (leb n 256) 8
   let to = at + 1 + count_bytes h
   cond (eqb (h / 32 % 2) 0) (fits (length s) (plain_plan n (h % 32) to)) (tabled s to n (h % 32))

@@ -8,7 +8,7 @@ use borrow.Author.Tests.{leb-true, le-leb, ne_eqb}
 use lib.Dec.{leb, eqb}
 use lib.ListN.{length}
 use Rattle.lerc_words.specs.declared.Refusal.{Refusal}
-use Rattle.lerc_words.specs.Res.{Res, ok, fail, ◌>>=◌, refuse, require, little, word_at_lem, each, accepts}
+use Rattle.lerc_words.specs.Res.{Res, ok, fail, ◌>>=◌, refuse, require, little, word_at, each, accepts}
 use Rattle.lerc_words.proofs.Binding.{bind_ok, bind-no, bind_is, require-is, ok-is, cond-elim}
 use Rattle.lerc_words.proofs.Little.{Bytes, word_at-is}
 use Rattle.lerc_numeric.specs.Numeric.{finite}
@@ -91,11 +91,11 @@ module _ (s : List ℕ) (at kind error top flag n : ℕ) where
   no-kind-leads e = rw (e)
 
   module _ {k : ℕ} (e : offset_kind kind (flag / 64) ≡ ok k) where
-    no-word-leads : {r : Refusal} → word_at_lem (type_size k) s at ≡ fail r → OffsetLeads
+    no-word-leads : {r : Refusal} → word_at (type_size k) s at ≡ fail r → OffsetLeads
     unfolding OffsetLeads offset_block finite_offset offset_at sample_at offset_plan finite_word
     no-word-leads d = rw (e, d)
 
-    module _ {w : ℕ} (d : word_at_lem (type_size k) s at ≡ ok w) where
+    module _ {w : ℕ} (d : word_at (type_size k) s at ≡ ok w) where
       endless-leads : finite (value_of k w) ≡ false → OffsetLeads
       unfolding OffsetLeads offset_block finite_offset offset_at sample_at offset_plan finite_word
       endless-leads f = rw (e, d, f)
@@ -111,16 +111,16 @@ module _ (s : List ℕ) (at kind error top flag n : ℕ) where
   offset-leads : OffsetLeads
   offset-leads = kinds (offset_kind kind (flag / 64)) refl
     where
-      judged : {k w : ℕ} → offset_kind kind (flag / 64) ≡ ok k → word_at_lem (type_size k) s at ≡ ok w → (t : Bool) → finite (value_of k w) ≡ t → OffsetLeads
+      judged : {k w : ℕ} → offset_kind kind (flag / 64) ≡ ok k → word_at (type_size k) s at ≡ ok w → (t : Bool) → finite (value_of k w) ≡ t → OffsetLeads
       judged e d true f = finite-leads e d f
       judged e d false f = endless-leads e d f
 
-      words : {k : ℕ} → offset_kind kind (flag / 64) ≡ ok k → (m : Res ℕ) → word_at_lem (type_size k) s at ≡ m → OffsetLeads
+      words : {k : ℕ} → offset_kind kind (flag / 64) ≡ ok k → (m : Res ℕ) → word_at (type_size k) s at ≡ m → OffsetLeads
       words {k} e (ok w) d = judged e d (finite (value_of k w)) refl
       words e (fail r) d = no-word-leads e d
 
       kinds : (m : Res ℕ) → offset_kind kind (flag / 64) ≡ m → OffsetLeads
-      kinds (ok k) e = words e (word_at_lem (type_size k) s at) refl
+      kinds (ok k) e = words e (word_at (type_size k) s at) refl
       kinds (fail r) e = no-kind-leads e
 
 -- ---- the block

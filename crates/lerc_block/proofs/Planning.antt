@@ -8,7 +8,7 @@ use borrow.Author.Tests.{le-leb, lt-leb, eq-eqb, ne_eqb}
 use lib.Dec.{leb}
 use lib.ListN.{length}
 use Rattle.lerc_words.specs.declared.Refusal.{Refusal}
-use Rattle.lerc_words.specs.Res.{ok, fail, ◌>>=◌, refuse, require, word_at_lem}
+use Rattle.lerc_words.specs.Res.{ok, fail, ◌>>=◌, refuse, require, word_at}
 use Rattle.lerc_words.proofs.Binding.{bind_is, bind_ok, bind-no, require-is, ok-is}
 use Rattle.lerc_numeric.specs.Numeric.{finite}
 use Rattle.lerc_numeric.specs.Kinds.{type_size, value_of}
@@ -35,11 +35,11 @@ module _ (len at kind n size : ℕ) (z : size ≡ type_size kind) where
 -- ---- an offset's word
 
 module _ (kind : ℕ) (s : List ℕ) (at : ℕ) where
-  pub word-no : {r : Refusal} → word_at_lem (type_size kind) s at ≡ fail r → fail r ≡ finite_word kind s at
+  pub word-no : {r : Refusal} → word_at (type_size kind) s at ≡ fail r → fail r ≡ finite_word kind s at
   unfolding finite_word
   word-no e = rw e
 
-  module _ {w : ℕ} (e : word_at_lem (type_size kind) s at ≡ ok w) where
+  module _ {w : ℕ} (e : word_at (type_size kind) s at ≡ ok w) where
     pub word-endless : finite (value_of kind w) ≡ false → fail (refuse 8) ≡ finite_word kind s at
     unfolding finite_word
     word-endless f = rw (e, f)
@@ -49,10 +49,10 @@ module _ (kind : ℕ) (s : List ℕ) (at : ℕ) where
     word_ok f = rw (e, f)
 
   -- one that was read
-  pub word-is : {w : ℕ} → finite_word kind s at ≡ ok w → (word_at_lem (type_size kind) s at ≡ ok w) × (finite (value_of kind w) ≡ true)
+  pub word-is : {w : ℕ} → finite_word kind s at ≡ ok w → (word_at (type_size kind) s at ≡ ok w) × (finite (value_of kind w) ≡ true)
   unfolding finite_word
   word-is e =
-      let (v, p, e) = bind_is (word_at_lem (type_size kind) s at) _ e in
+      let (v, p, e) = bind_is (word_at (type_size kind) s at) _ e in
       let (t, q, e) = bind_is (require (finite (value_of kind v)) 8) _ e in
       rw (← ok-is e) (p, require-is _ 8 q)
 

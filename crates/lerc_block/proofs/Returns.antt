@@ -10,7 +10,7 @@ use borrow.Author.Tests.{le-leb, lt-leb, leb-true, eq-eqb, ne_eqb}
 use lib.Dec.{leb, eqb}
 use lib.ListN.{length, drop, replicate}
 use Rattle.lerc_words.specs.declared.Refusal.{Refusal}
-use Rattle.lerc_words.specs.Res.{Res, ok, fail, refuse, marked, require, word_at_lem, each}
+use Rattle.lerc_words.specs.Res.{Res, ok, fail, refuse, marked, require, word_at, each}
 use Rattle.lerc_words.specs.Lists.{over}
 use Rattle.lerc_words.proofs.Marking.{marked-tells, marked-after}
 use Rattle.lerc_words.proofs.Each.{each_none}
@@ -114,11 +114,11 @@ module _ (s : List ℕ) (at x n : ℕ) where
   flag-many h = rw (lt-leb _ _ h)
 
   module _ (h : n ≤ 256) where
-    pub flag-no : {r : Refusal} → word_at_lem 1 s at ≡ fail r → fail r ≡ read_flag s at x n
+    pub flag-no : {r : Refusal} → word_at 1 s at ≡ fail r → fail r ≡ read_flag s at x n
     unfolding read_flag flag_at
     flag-no e = rw (le-leb _ _ h, e)
 
-    module _ (flag : ℕ) (e : word_at_lem 1 s at ≡ ok flag) where
+    module _ (flag : ℕ) (e : word_at 1 s at ≡ ok flag) where
       pub flag-strange : (flag / 4 % 16 ≡ x / 8 % 16 → ⊥) → fail (refuse 8) ≡ read_flag s at x n
       unfolding read_flag flag_at
       flag-strange d = rw (le-leb _ _ h, e, ne_eqb _ _ d)
@@ -129,10 +129,10 @@ module _ (s : List ℕ) (at x n : ℕ) where
 
 -- a flag that was accepted
 module _ (s : List ℕ) (at x : ℕ) {flag : ℕ} where
-  pub flag_is : flag_at s at x ≡ ok flag → (word_at_lem 1 s at ≡ ok flag) × (eqb (flag / 4 % 16) (x / 8 % 16) ≡ true)
+  pub flag_is : flag_at s at x ≡ ok flag → (word_at 1 s at ≡ ok flag) × (eqb (flag / 4 % 16) (x / 8 % 16) ≡ true)
   unfolding flag_at
   flag_is e =
-      let (v, p, e) = bind_is (word_at_lem 1 s at) _ e in
+      let (v, p, e) = bind_is (word_at 1 s at) _ e in
       let (t, q, e) = bind_is (require (eqb (v / 4 % 16) (x / 8 % 16)) 8) _ e in
       rw (← ok-is e) (p, require-is _ 8 q)
 

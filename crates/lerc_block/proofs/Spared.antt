@@ -9,7 +9,7 @@ use borrow.Author.Tests.{eqb-false}
 use lib.Dec.{leb, ltb, eqb}
 use lib.ListN.{length, get_or, replicate}
 use Rattle.lerc_words.specs.declared.Refusal.{Refusal}
-use Rattle.lerc_words.specs.Res.{Res, ok, fail, ◌>>=◌, refuse, require, each, word_at_lem}
+use Rattle.lerc_words.specs.Res.{Res, ok, fail, ◌>>=◌, refuse, require, each, word_at}
 use Rattle.lerc_words.proofs.Each.{each-replicate}
 use Rattle.lerc_numeric.specs.Numeric.{negative, finite}
 use Rattle.lerc_numeric.specs.Kinds.{type_size}
@@ -64,13 +64,13 @@ storable-spared kind w s e = spared-ok s.0 (sym s.1 ∙ e)
 -- ---- words and packed counts
 
 module _ (s : List ℕ) where
-  pub word-spared : (n at : ℕ) → NotNine (word_at_lem n s at)
-  unfolding word_at_lem
+  pub word-spared : (n at : ℕ) → NotNine (word_at n s at)
+  unfolding word_at
   word-spared n at = spared-if (leb (at + n) (length s)) 1 _ refl (λ _. spared-ok _)
 
   sample-spared : (kind at : ℕ) → NotNine (sample_at kind s at)
   unfolding sample_at
-  sample-spared kind at = spared-bind (word_at_lem (type_size kind) s at) _ (word-spared (type_size kind) at) (λ w _. spared-ok _)
+  sample-spared kind at = spared-bind (word_at (type_size kind) s at) _ (word-spared (type_size kind) at) (λ w _. spared-ok _)
 
   fits-spared : (p : Plan) → NotNine (fits (length s) p)
   fits-spared p = spared-if (leb p.next (length s)) 1 _ refl (λ _. spared-ok p)
@@ -79,16 +79,16 @@ module _ (s : List ℕ) where
   unfolding tabled
   tabled-spared at n bits =
       spared-if (ltb 0 bits) 8 _ refl
-      (λ _. spared-bind (word_at_lem 1 s at) _ (word-spared 1 at)
+      (λ _. spared-bind (word_at 1 s at) _ (word-spared 1 at)
       (λ entries _. spared-if (leb 2 entries) 8 _ refl
       (λ _. fits-spared (table_plan n bits entries (at + 1)))))
 
   plan-spared : (at : ℕ) → NotNine (plan s at)
   unfolding plan
   plan-spared at =
-      spared-bind (word_at_lem 1 s at) _ (word-spared 1 at)
+      spared-bind (word_at 1 s at) _ (word-spared 1 at)
       (λ h _. spared-if (ltb (h / 64) 3) 8 _ refl
-      (λ _. spared-bind (word_at_lem (count_bytes h) s (at + 1)) _ (word-spared (count_bytes h) (at + 1))
+      (λ _. spared-bind (word_at (count_bytes h) s (at + 1)) _ (word-spared (count_bytes h) (at + 1))
       (λ n _. spared-if (leb n 256) 8 _ refl
       (λ _.
       let to = at + 1 + count_bytes h in
@@ -162,5 +162,5 @@ module _ (s : List ℕ) (kind error top : ℕ) (high : Storable kind top) (plus 
   unfolding block_says flag_at
   block-spared at x n =
       spared-bind (flag_at s at x) _
-      (spared-bind (word_at_lem 1 s at) _ (word-spared s 1 at) (λ flag _. spared-if (eqb (flag / 4 % 16) (x / 8 % 16)) 8 _ refl (λ _. spared-ok flag)))
+      (spared-bind (word_at 1 s at) _ (word-spared s 1 at) (λ flag _. spared-if (eqb (flag / 4 % 16) (x / 8 % 16)) 8 _ refl (λ _. spared-ok flag)))
       (λ flag _. formed-spared (at + 1) flag n)

@@ -10,7 +10,7 @@ use native.Mathlib.Omega.{arith}
 use borrow.Author.Tests.{ltb-true, eqb-true}
 use lib.Dec.{ltb, eqb}
 use lib.ListN.{length, get_or}
-use Rattle.lerc_words.specs.Res.{ok, little, word_at_lem}
+use Rattle.lerc_words.specs.Res.{ok, little, word_at}
 use Rattle.lerc_words.proofs.Little.{Bytes, little-low, byte_pow, unit, word_at-ok, word_at-is}
 use Rattle.lerc_words.proofs.Binding.{bind_ok}
 use Rattle.lerc_numeric.specs.Numeric.{finite}
@@ -51,11 +51,11 @@ few_bytes s at size bytes l e =
     let h : little 4 s (at + 1) % 256 ^ size ≡ little size s (at + 1) = rw (z) at (little-low size (4 - size) s (at + 1) bytes) in
     rw (unit (8 * size) (omega arith), e, ← quad_is s at, ← byte_pow size) h
 
-pub byte-is : (s : List ℕ) (at : ℕ) → at < length s → word_at_lem 1 s at ≡ ok (get_or s at 0)
+pub byte-is : (s : List ℕ) (at : ℕ) → at < length s → word_at 1 s at ≡ ok (get_or s at 0)
 unfolding little
 byte-is s at l = word_at-ok 1 s at (omega arith) ∙ ap (λ (v : ℕ). ok v) (let z : get_or s at 0 + 0 ≡ get_or s at 0 = omega arith in z)
 
-module _ (s : List ℕ) (at : ℕ) (room : at + 2 ≤ length s) (h n : ℕ) (first : word_at_lem 1 s at ≡ ok h) (second : word_at_lem 1 s (at + 1) ≡ ok n) (usual : h / 32 ≡ 4) (few : n < 256) where
+module _ (s : List ℕ) (at : ℕ) (room : at + 2 ≤ length s) (h n : ℕ) (first : word_at 1 s at ≡ ok h) (second : word_at 1 s (at + 1) ≡ ok n) (usual : h / 32 ≡ 4) (few : n < 256) where
   one_byte : count_bytes h ≡ 1
   one_byte = let e : h / 64 ≡ 2 = omega arith in rw (e)
 
@@ -72,8 +72,8 @@ module _ (s : List ℕ) (at : ℕ) (room : at + 2 ≤ length s) (h n : ℕ) (fir
   usual-steps o r e l = rw (e) (sym (steps-ok s at o (usual-plan (rw (e) at l))))
 
 -- behind the flag
-module _ (s : List ℕ) (at kind x : ℕ) (flag : ℕ) (first : word_at_lem 1 s at ≡ ok flag) (stepped : flag % 4 ≡ 1) (mark : flag / 4 % 16 ≡ x / 8 % 16) where
-  pub usual-block : {k w : ℕ} {r : Head} → offset_kind kind (flag / 64) ≡ ok k → word_at_lem (type_size k) s (at + 1) ≡ ok w → finite (value_of k w) ≡ true
+module _ (s : List ℕ) (at kind x : ℕ) (flag : ℕ) (first : word_at 1 s at ≡ ok flag) (stepped : flag % 4 ≡ 1) (mark : flag / 4 % 16 ≡ x / 8 % 16) where
+  pub usual-block : {k w : ℕ} {r : Head} → offset_kind kind (flag / 64) ≡ ok k → word_at (type_size k) s (at + 1) ≡ ok w → finite (value_of k w) ≡ true
       → stepped_plan s (at + 1 + type_size k) (record { word = w; kind = k }) ≡ ok (head_plan r) → (n : ℕ) → plan_at s at kind x n ≡ ok (head_plan r)
   usual-block {k} {w} named found fine steps n =
       let raw : little 1 s at % 4 ≡ 0 → ⊥ = λ z. omega (arith, (word_at-is 1 s at flag first).value) in

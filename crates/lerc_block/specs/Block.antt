@@ -2,7 +2,7 @@
 -- Assumes nothing.
 use Rattle.std.specs.Prelude.{ℕ, ◌+◌, ◌*◌, ◌/◌, ◌%◌, ◌≡◌, cond, List, length, replicate, leb, eqb}
 use Rattle.lerc_words.specs.declared.Refusal.{Refusal}
-use Rattle.lerc_words.specs.Res.{Res, ok, fail, ◌>>=◌, refuse, require, word_at_lem, little, each, after}
+use Rattle.lerc_words.specs.Res.{Res, ok, fail, ◌>>=◌, refuse, require, word_at, little, each, after}
 use Rattle.lerc_words.specs.Lists.{tabulate, over}
 use Rattle.lerc_numeric.specs.Numeric.{finite}
 use Rattle.lerc_numeric.specs.Kinds.{type_size}
@@ -72,7 +72,7 @@ formed s at kind error top flag n =
 -- "Flag byte: (flag/4)%16 must equal (x/8)%16."
 unfoldable pub flag_at : List ℕ → ℕ → ℕ → Res ℕ
 flag_at s at x = do
-  flag ← word_at_lem 1 s at
+  flag ← word_at 1 s at
   _ ← require (eqb (flag / 4 % 16) (x / 8 % 16)) 8
   ok flag
 

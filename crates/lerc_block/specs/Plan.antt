@@ -3,7 +3,7 @@
 -- Assumes nothing.
 use Rattle.std.specs.Prelude.{ℕ, ◌+◌, ◌*◌, ◌/◌, ◌%◌, cond, List, length, replicate, leb, eqb}
 use Rattle.lerc_words.specs.declared.Refusal.{Refusal}
-use Rattle.lerc_words.specs.Res.{Res, ok, fail, ◌>>=◌, refuse, require, word_at_lem, little, each}
+use Rattle.lerc_words.specs.Res.{Res, ok, fail, ◌>>=◌, refuse, require, word_at, little, each}
 use Rattle.lerc_words.specs.Lists.{tabulate}
 use Rattle.lerc_numeric.specs.Numeric.{finite}
 use Rattle.lerc_numeric.specs.Kinds.{type_size, value_of}
@@ -30,7 +30,7 @@ raw_plan len at kind n = do
 -- the word of a kind at `at`; "A non-finite offset is 8."
 unfoldable pub finite_word : ℕ → List ℕ → ℕ → Res ℕ
 finite_word kind s at = do
-  w ← word_at_lem (type_size kind) s at
+  w ← word_at (type_size kind) s at
   _ ← require (finite (value_of kind w)) 8
   ok w
 

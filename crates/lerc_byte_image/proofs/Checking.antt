@@ -3,7 +3,7 @@
 use Rattle.std.proofs.Common.{◌≡◌, ℕ, ◌+◌, ◌*◌, ◌<◌, ◌≤◌, List, length, take, sym, ap, ◌∙◌, mul-le-mul_right, arith, length-take}
 use borrow.Author.Tests.{lt-leb}
 use Rattle.lerc_words.specs.declared.Refusal.{Refusal}
-use Rattle.lerc_words.specs.Res.{Res, ok, fail, refuse, placed, marked, word_at_lem}
+use Rattle.lerc_words.specs.Res.{Res, ok, fail, refuse, placed, marked, word_at}
 use Rattle.lerc_words.proofs.Marking.{marked-tells}
 use Rattle.lerc_header.specs.declared.Header.{Header}
 use Rattle.lerc_header.specs.declared.Extent.{Extent}
@@ -16,7 +16,7 @@ use Rattle.lerc_byte_image.proofs.Coded.{coded-no}
 
 -- a table behind the last byte
 pub table-past : (s : List ℕ) (at : ℕ) → length s < at → table_at s at ≡ fail (refuse 1)
-unfolding table_at range_at word_at_lem
+unfolding table_at range_at word_at
 table-past s at h = rw (lt-leb (at + 4) (length s) (omega arith))
 
 module _ (b : List ℕ) (h : Header) (mode : ℕ) where

@@ -2,7 +2,7 @@
 -- Assumes nothing.
 use Rattle.std.proofs.Common.{◌≡◌, ℕ, zero, suc, ◌+◌, ◌-◌, ◌*◌, ◌/◌, ◌<◌, ◌≤◌, min, Bool, true, ltb, leb, List, length, get_or, sym, refl, ap, ◌∙◌, arith, ltb-true, le-leb}
 use native.Mathlib.Nat.{mod-one}
-use Rattle.lerc_words.specs.Res.{ok, require, little, word_at_lem}
+use Rattle.lerc_words.specs.Res.{ok, require, little, word_at}
 use Rattle.lerc_words.specs.Lists.{total}
 use Rattle.lerc_words.proofs.Binding.{bind_is, require-is, ok-is, and_is}
 use Rattle.lerc_words.proofs.Marking.{marked-is}
@@ -59,7 +59,7 @@ module _ (s c : List ℕ) (j k : ℕ) (same : (i : ℕ) → j ≤ i → i < k �
   little-front : (n at : ℕ) → j ≤ at → at + n ≤ k → little n s at ≡ little n c at
   little-front n at o l = little-same n s c at at (λ i r. same (at + i) (omega arith) (omega arith))
 
-  word-front : (n at : ℕ) → j ≤ at → at + n ≤ k → word_at_lem n s at ≡ word_at_lem n c at
+  word-front : (n at : ℕ) → j ≤ at → at + n ≤ k → word_at n s at ≡ word_at n c at
   word-front n at o l = word_at-ok n s at (omega arith) ∙ ap ok (little-front n at o l) ∙ sym (word_at-ok n c at (omega arith))
 
   range_front : (at : ℕ) → j ≤ at → at + 16 ≤ k → range_at s at ≡ range_at c at

@@ -3,7 +3,7 @@
 use Rattle.std.proofs.Common.{◌≡◌, ℕ, ◌+◌, ◌-◌, ◌^◌, ◌<◌, ◌≤◌, ◌&&◌, ltb, leb, List, length, get_or, arith, pow_pos, ltb-true, leb-true}
 use native.Mathlib.Decide.{dec_lt}
 use lib.ListN.{get_or-eq_default}
-use Rattle.lerc_words.specs.Res.{ok, require, word_at_lem}
+use Rattle.lerc_words.specs.Res.{ok, require, word_at}
 use Rattle.lerc_words.proofs.Binding.{bind_is, require-is, ok-is, and_is}
 use Rattle.lerc_words.proofs.Tables.{length-tabulate, get_d_tabulate}
 use Rattle.lerc_bits.specs.Bits.{Counts}
@@ -27,13 +27,13 @@ pub record RangeKept (r : Range) : Type 0 where
 pub range-is : (s : List ℕ) (at : ℕ) {r : Range} → range_at s at ≡ ok r → RangeKept r
 unfolding range_at
 range-is s at e =
-    let (version, _, e) = bind_is (word_at_lem 4 s at) _ e in
+    let (version, _, e) = bind_is (word_at 4 s at) _ e in
     let (_, _, e) = bind_is (require (leb 2 version) 8) _ e in
-    let (size, _, e) = bind_is (word_at_lem 4 s (at + 4)) _ e in
+    let (size, _, e) = bind_is (word_at 4 s (at + 4)) _ e in
     let (_, bytes, e) = bind_is (require (leb size 256) 8) _ e in
-    let (first, _, e) = bind_is (word_at_lem 4 s (at + 8)) _ e in
+    let (first, _, e) = bind_is (word_at 4 s (at + 8)) _ e in
     let (_, below, e) = bind_is (require (ltb first size) 8) _ e in
-    let (end, _, e) = bind_is (word_at_lem 4 s (at + 12)) _ e in
+    let (end, _, e) = bind_is (word_at 4 s (at + 12)) _ e in
     let (_, both, e) = bind_is (require (leb 1 (end - first) && leb (end - first) size) 8) _ e in
     let b = and_is (leb 1 (end - first)) (leb (end - first) size) (require-is _ 8 both) in
     rw (← ok-is e) (record {

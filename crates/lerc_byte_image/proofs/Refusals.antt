@@ -2,7 +2,7 @@
 -- Assumes nothing.
 use Rattle.std.proofs.Common.{◌≡◌, ℕ, zero, suc, ◌+◌, ◌-◌, ◌*◌, ◌/◌, ◌%◌, Bool, true, false, cond, ◌&&◌, eqb, ltb, leb, ◌⊎◌, List, length, get_or, ap, ◌∙◌, inl, inr, ⊎_elim, arith}
 use Rattle.lerc_words.specs.declared.Refusal.{Refusal}
-use Rattle.lerc_words.specs.Res.{Res, ok, fail, ◌>>=◌, refuse, require, word_at_lem}
+use Rattle.lerc_words.specs.Res.{Res, ok, fail, ◌>>=◌, refuse, require, word_at}
 use Rattle.lerc_words.proofs.Marking.{marked-fails}
 use Rattle.lerc_words.specs.Lists.{total, all_to}
 use Rattle.lerc_bits.specs.declared.Plan.{Plan}
@@ -41,8 +41,8 @@ either false p q = q
 
 -- ---- words and packed counts
 
-word : (n : ℕ) (s : List ℕ) (at : ℕ) → Only (word_at_lem n s at)
-unfolding word_at_lem
+word : (n : ℕ) (s : List ℕ) (at : ℕ) → Only (word_at n s at)
+unfolding word_at
 word n s at = one (leb (at + n) (length s)) (λ _. accepted _)
 
 fitting : (len : ℕ) (p : Plan) → Only (fits len p)
@@ -51,14 +51,14 @@ fitting len p = one (leb p.next len) (λ _. accepted p)
 planned : (s : List ℕ) (at : ℕ) → Only (plan s at)
 unfolding plan tabled
 planned s at =
-    and_then (word_at_lem 1 s at) (word 1 s at) (λ h.
+    and_then (word_at 1 s at) (word 1 s at) (λ h.
     eight (ltb (h / 64) 3)
-    (λ _. and_then (word_at_lem (count_bytes h) s (at + 1)) (word (count_bytes h) s (at + 1)) (λ n.
+    (λ _. and_then (word_at (count_bytes h) s (at + 1)) (word (count_bytes h) s (at + 1)) (λ n.
     let to = at + 1 + count_bytes h in
     eight (leb n 256)
     (λ _. either (eqb (h / 32 % 2) 0) (fitting (length s) (plain_plan n (h % 32) to))
     (eight (ltb 0 (h % 32))
-    (λ _. and_then (word_at_lem 1 s to) (word 1 s to) (λ entries. eight (leb 2 entries) (λ _. fitting (length s) (table_plan n (h % 32) entries (to + 1))))))))))
+    (λ _. and_then (word_at 1 s to) (word 1 s to) (λ entries. eight (leb 2 entries) (λ _. fitting (length s) (table_plan n (h % 32) entries (to + 1))))))))))
 
 valued : (s : List ℕ) (p : Plan) → Only (values_of s p)
 unfolding values_of looked_up
@@ -73,13 +73,13 @@ counted s at = and_then (plan s at) (planned s at) (λ p. and_then (values_of s 
 ranged : (s : List ℕ) (at : ℕ) → Only (range_at s at)
 unfolding range_at
 ranged s at =
-    and_then (word_at_lem 4 s at) (word 4 s at) (λ version.
+    and_then (word_at 4 s at) (word 4 s at) (λ version.
     eight (leb 2 version)
-    (λ _. and_then (word_at_lem 4 s (at + 4)) (word 4 s (at + 4)) (λ size.
+    (λ _. and_then (word_at 4 s (at + 4)) (word 4 s (at + 4)) (λ size.
     eight (leb size 256)
-    (λ _. and_then (word_at_lem 4 s (at + 8)) (word 4 s (at + 8)) (λ first.
+    (λ _. and_then (word_at 4 s (at + 8)) (word 4 s (at + 8)) (λ first.
     eight (ltb first size)
-    (λ _. and_then (word_at_lem 4 s (at + 12)) (word 4 s (at + 12)) (λ end. eight (leb 1 (end - first) && leb (end - first) size) (λ _. accepted _))))))))
+    (λ _. and_then (word_at 4 s (at + 12)) (word 4 s (at + 12)) (λ end. eight (leb 1 (end - first) && leb (end - first) size) (λ _. accepted _))))))))
 
 measured : (s : List ℕ) (at n : ℕ) → Only (lengths_at s at n)
 unfolding lengths_at

@@ -1,7 +1,7 @@
 -- The table of a Huffman image: which bits stand for which symbol.
 -- Assumes nothing.
 use Rattle.std.specs.Prelude.{ℕ, ◌+◌, ◌-◌, ◌*◌, ◌/◌, ◌%◌, ◌^◌, Bool, not, ◌&&◌, leb, List, length, ◌==◌, nat_le, nat_lt, slice_index}
-use Rattle.lerc_words.specs.Res.{Res, ok, ◌>>=◌, require, word_at_lem, little}
+use Rattle.lerc_words.specs.Res.{Res, ok, ◌>>=◌, require, word_at, little}
 use Rattle.lerc_words.specs.Lists.{tabulate, total, all_to}
 use Rattle.lerc_bits.specs.Bits.{Counts, counts}
 use Rattle.lerc_byte_image.specs.declared.table.Range.{Range}
@@ -11,13 +11,13 @@ use Rattle.lerc_byte_image.specs.declared.table.Range.{Range}
 -- "Four 4-byte integers: version at least 2, size at most 256, first i0, end i1 (i0 below size, i1-i0 from 1 to size ..)", each judged as it is read
 unfoldable pub range_at : List ℕ → ℕ → Res Range
 range_at s at = do
-  version ← word_at_lem 4 s at
+  version ← word_at 4 s at
   _ ← require (nat_le 2 version) 8
-  size ← word_at_lem 4 s (at + 4)
+  size ← word_at 4 s (at + 4)
   _ ← require (nat_le size 256) 8
-  first ← word_at_lem 4 s (at + 8)
+  first ← word_at 4 s (at + 8)
   _ ← require (nat_lt first size) 8
-  end ← word_at_lem 4 s (at + 12)
+  end ← word_at 4 s (at + 12)
   _ ← require (nat_le 1 (end - first) && nat_le (end - first) size) 8
   ok (record { size = size; first = first; count = end - first })
 

@@ -2,7 +2,7 @@
 -- Assumes nothing.
 use Rattle.std.specs.Prelude.{◌≡◌, ℕ, ◌+◌, ◌-◌, ◌*◌, ◌/◌, ◌^◌, ◌≤◌, Bool, true, not, ◌&&◌, leb, List, length, take, ◌==◌, nat_le, nat_lt, slice_index}
 use Rattle.lerc_words.specs.declared.Refusal.{Refusal}
-use Rattle.lerc_words.specs.Res.{Res, ok, ◌>>=◌, fail, refuse, require, word_at_lem}
+use Rattle.lerc_words.specs.Res.{Res, ok, ◌>>=◌, fail, refuse, require, word_at}
 use Rattle.lerc_words.specs.Lists.{total, all_to}
 use Rattle.lerc_bits.specs.Bits.{Counts}
 use Rattle.lerc_byte_image.specs.declared.table.Range.{Range}
@@ -26,11 +26,11 @@ refusal_of_range (range.Refused why) = why
 -- the three behind the version
 unfoldable pub sizes_at : List ℕ → ℕ → Res Range
 sizes_at s at = do
-  size ← word_at_lem 4 s (at + 4)
+  size ← word_at 4 s (at + 4)
   _ ← require (nat_le size 256) 8
-  first ← word_at_lem 4 s (at + 8)
+  first ← word_at 4 s (at + 8)
   _ ← require (nat_lt first size) 8
-  end ← word_at_lem 4 s (at + 12)
+  end ← word_at 4 s (at + 12)
   _ ← require (nat_le 1 (end - first) && nat_le (end - first) size) 8
   ok (record { size = size; first = first; count = end - first })
 

@@ -10,7 +10,7 @@ use lib.ListN.{length, get_or, take, drop, replicate}
 use lib.Dec.{leb, ltb, eqb}
 use borrow.Author.Tests.{leb-true}
 use Rattle.lerc_words.specs.declared.Refusal.{Refusal}
-use Rattle.lerc_words.specs.Res.{Res, ok, fail, ◌>>=◌, refuse, marked, require, each, word_at_lem}
+use Rattle.lerc_words.specs.Res.{Res, ok, fail, ◌>>=◌, refuse, marked, require, each, word_at}
 use Rattle.lerc_words.proofs.Binding.{and_is}
 use Rattle.lerc_numeric.specs.Numeric.{negative, finite, same}
 use Rattle.lerc_numeric.specs.Kinds.{type_size, whole, bound, cut}
@@ -29,7 +29,7 @@ use Rattle.lerc_ranges.specs.Ranges.{ranges_end, wrong_number_at, pairs_right, c
 use Rattle.lerc_block.specs.Block.{raw_words, level_block, stepped_block, offset_at, finite_offset, offset_block, formed, flag_at, block_says}
 use Rattle.lerc_image.specs.Geometry.{tile_of, valid_in_tile}
 use Rattle.lerc_sweep.specs.Sweep.{Way, raw_from, blocks_from, huffman_from, has_mode_byte, mode_byte, moded, sweep_byte, swept}
-use Rattle.lerc_image.specs.Blocks.{block_at_lem, chain, all_blocks}
+use Rattle.lerc_image.specs.Blocks.{block_at, chain, all_blocks}
 use Rattle.lerc_image.specs.Walk.{way_walked, body_walked, walk_says}
 use Rattle.lerc_image.specs.Fill.{fill_says}
 use Rattle.lerc_byte_image.specs.Symbols.{coded_at}
@@ -89,8 +89,8 @@ each-n f (x ∷ xs) p = and_then (f x) (p x) (λ y. and_then (each f xs) (each-n
 
 -- ---- words, values, packed counts
 
-word-n : (n : ℕ) (s : List ℕ) (at : ℕ) → Numbered (word_at_lem n s at)
-unfolding word_at_lem
+word-n : (n : ℕ) (s : List ℕ) (at : ℕ) → Numbered (word_at n s at)
+unfolding word_at
 word-n n s at = check (leb (at + n) (length s)) 1 refl (λ _. accepted _)
 
 cut-n : (kind w : ℕ) → Numbered (cut kind w)
@@ -107,7 +107,7 @@ offset-n kind code = check (ltb (get_or (get_or offset_kinds kind []) code no_ki
 
 sample-n : (kind : ℕ) (s : List ℕ) (at : ℕ) → Numbered (sample_at kind s at)
 unfolding sample_at
-sample-n kind s at = and_then (word_at_lem (type_size kind) s at) (word-n (type_size kind) s at) (λ w. accepted _)
+sample-n kind s at = and_then (word_at (type_size kind) s at) (word-n (type_size kind) s at) (λ w. accepted _)
 
 fits-n : (len : ℕ) (p : Plan) → Numbered (fits len p)
 fits-n len p = check (leb p.next len) 1 refl (λ _. accepted _)
@@ -116,14 +116,14 @@ tabled-n : (s : List ℕ) (at n bits : ℕ) → Numbered (tabled s at n bits)
 unfolding tabled
 tabled-n s at n bits =
     check (ltb 0 bits) 8 refl
-    (λ _. and_then (word_at_lem 1 s at) (word-n 1 s at) (λ entries. check (leb 2 entries) 8 refl (λ _. fits-n (length s) (table_plan n bits entries (at + 1)))))
+    (λ _. and_then (word_at 1 s at) (word-n 1 s at) (λ entries. check (leb 2 entries) 8 refl (λ _. fits-n (length s) (table_plan n bits entries (at + 1)))))
 
 plan-n : (s : List ℕ) (at : ℕ) → Numbered (plan s at)
 unfolding plan
 plan-n s at =
-    and_then (word_at_lem 1 s at) (word-n 1 s at) (λ h.
+    and_then (word_at 1 s at) (word-n 1 s at) (λ h.
     check (ltb (h / 64) 3) 8 refl
-    (λ _. and_then (word_at_lem (count_bytes h) s (at + 1)) (word-n (count_bytes h) s (at + 1)) (λ n.
+    (λ _. and_then (word_at (count_bytes h) s (at + 1)) (word-n (count_bytes h) s (at + 1)) (λ n.
     check (leb n 256) 8 refl
     (λ _. either (eqb (h / 32 % 2) 0) (fits-n (length s) (plain_plan n (h % 32) (at + 1 + count_bytes h))) (tabled-n s (at + 1 + count_bytes h) n (h % 32))))))
 
@@ -177,15 +177,15 @@ formed-n s at kind error top flag n =
 
 flag-n : (s : List ℕ) (at x : ℕ) → Numbered (flag_at s at x)
 unfolding flag_at
-flag-n s at x = and_then (word_at_lem 1 s at) (word-n 1 s at) (λ flag. check (eqb (flag / 4 % 16) (x / 8 % 16)) 8 refl (λ _. accepted flag))
+flag-n s at x = and_then (word_at 1 s at) (word-n 1 s at) (λ flag. check (eqb (flag / 4 % 16) (x / 8 % 16)) 8 refl (λ _. accepted flag))
 
 block-n : (s : List ℕ) (at kind error top x n : ℕ) → Numbered (block_says s at kind error top x n)
 unfolding block_says
 block-n s at kind error top x n =
     and_then (flag_at s at x) (flag-n s at x) (λ flag. formed-n s (at + 1) kind error top flag n)
 
-block_at-n : (s : List ℕ) (h : Header) (maxima m : List ℕ) (n at : ℕ) → Numbered (block_at_lem s h maxima m n at)
-unfolding block_at_lem
+block_at-n : (s : List ℕ) (h : Header) (maxima m : List ℕ) (n at : ℕ) → Numbered (block_at s h maxima m n at)
+unfolding block_at
 block_at-n s h maxima m n at =
     let t = tile_of (shape_of h) n in
     at_place at (block_says s at h.kind h.error (get_or maxima t.d 0) t.x (valid_in_tile (shape_of h) m t))
@@ -195,7 +195,7 @@ chain-n : (s : List ℕ) (h : Header) (maxima m : List ℕ) (f n at : ℕ) → N
 unfolding chain
 chain-n s h maxima m zero n at = accepted _
 chain-n s h maxima m (suc f) n at =
-    and_then (block_at_lem s h maxima m n at) (block_at-n s h maxima m n at) (λ b.
+    and_then (block_at s h maxima m n at) (block_at-n s h maxima m n at) (λ b.
     and_then (chain s h maxima m f (suc n) b.next) (chain-n s h maxima m f (suc n) b.next) (λ c. accepted _))
 
 -- ---- header, mask, ranges
@@ -234,11 +234,11 @@ ranges-n s h =
 
 mode-n : (s : List ℕ) (at : ℕ) → Numbered (mode_byte s at)
 unfolding mode_byte
-mode-n s at = and_then (word_at_lem 1 s at) (word-n 1 s at) (λ mode. check (ltb mode 3) 8 refl (λ _. accepted _))
+mode-n s at = and_then (word_at 1 s at) (word-n 1 s at) (λ mode. check (ltb mode 3) 8 refl (λ _. accepted _))
 
 sweep-n : (s : List ℕ) (at : ℕ) → Numbered (sweep_byte s at)
 unfolding sweep_byte
-sweep-n s at = and_then (word_at_lem 1 s at) (word-n 1 s at) (λ sweep. check (ltb sweep 2) 8 refl (λ _. accepted sweep))
+sweep-n s at = and_then (word_at 1 s at) (word-n 1 s at) (λ sweep. check (ltb sweep 2) 8 refl (λ _. accepted sweep))
 
 swept-n : (s : List ℕ) (kind error at : ℕ) → Numbered (swept s kind error at)
 unfolding swept moded

@@ -13,7 +13,7 @@ use borrow.Author.Tests.{lt-ltb, le-ltb, le-leb, lt-leb, eq-eqb, ne_eqb, eqb-tru
 use lib.Dec.{ltb, leb, eqb}
 use lib.ListN.{length, get_or, take, drop}
 use lib.Seq.{take-append_seam}
-use Rattle.lerc_words.specs.Res.{Res, ok, fail, ◌>>=◌, placed, marked, little, word_at_lem}
+use Rattle.lerc_words.specs.Res.{Res, ok, fail, ◌>>=◌, placed, marked, little, word_at}
 use Rattle.lerc_words.specs.Lists.{tabulate, all_to, over}
 use Rattle.lerc_words.proofs.Binding.{ok-is}
 use Rattle.lerc_words.proofs.Marking.{marked-is, marked-accepts}
@@ -47,7 +47,7 @@ unfolding little
 byte-is s at = omega arith
 
 -- a byte within
-pub byte-ok : (s : List ℕ) (at : ℕ) → at < length s → word_at_lem 1 s at ≡ ok (get_or s at 0)
+pub byte-ok : (s : List ℕ) (at : ℕ) → at < length s → word_at 1 s at ≡ ok (get_or s at 0)
 byte-ok s at l = word_at-ok 1 s at (omega arith) ∙ ap ok (byte-is s at)
 
 -- 2.3: the table is the least width, for the numbers of entries that a byte can be

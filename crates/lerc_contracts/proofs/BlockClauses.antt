@@ -34,7 +34,7 @@ use Rattle.lerc_image.specs.declared.Tile.{Tile}
 use Rattle.lerc_image.specs.declared.FillAnswer.{FillAnswer}
 use Rattle.lerc_image.specs.Geometry.{tile_of, valid_in_tile}
 use Rattle.lerc_image.specs.Paint.{in_block, word_of, scattered}
-use Rattle.lerc_image.specs.Blocks.{block_at_lem}
+use Rattle.lerc_image.specs.Blocks.{block_at}
 use Rattle.lerc_image.specs.Fill.{fill_says, fill_count, fill_image, Filled}
 use Rattle.lerc_image.proofs.Partition.{tile-wide, tile_high, tile-depth}
 use Rattle.lerc_image.proofs.Cursors.{tile-in, valid-small}
@@ -258,7 +258,7 @@ module _ (b : List ℕ) (h : Header) (ranges : Ranges) (mask list : List ℕ) (n
 
   module _ (e : Extent) (k : held h (length b) ≡ ok e) (below : n < e.blocks) (wide : room_for e mask list old ≡ true)
       (right : pairs_right h.depth ranges ≡ true) (y : Bytes b) where
-    judged : fill_says b h ranges mask list n (length old) ≡ block_at_lem (take h.size b) h ranges.max mask n (get_or list n 0)
+    judged : fill_says b h ranges mask list n (length old) ≡ block_at (take h.size b) h ranges.max mask n (get_or list n 0)
     unfolding fill_says
     judged = rw (k, lt-ltb n e.blocks below, wide, right)
 
@@ -288,7 +288,7 @@ module _ (b : List ℕ) (h : Header) (ranges : Ranges) (mask list : List ℕ) (n
     fill-room = λ e k l t. promise.says ∙ rw (k, lt-ltb n e.blocks l, t);
     fill-length = (left (fill_says b h ranges mask list n (length old)) refl).0;
     fill-rest = λ j l o. (left (fill_says b h ranges mask list n (length old)) refl).1 j (rw (← mul_comm h.columns h.rows) l) o;
-    fill-ok = λ e k l w p y. rw (promise.says, judged e k l w p y, same-fill e k l w p y) (accepted (block_at_lem (take h.size b) h ranges.max mask n (get_or list n 0)) (counted-fill e k l w p y) (at_next (take h.size b) h ranges.max mask n (get_or list n 0)));
+    fill-ok = λ e k l w p y. rw (promise.says, judged e k l w p y, same-fill e k l w p y) (accepted (block_at (take h.size b) h ranges.max mask n (get_or list n 0)) (counted-fill e k l w p y) (at_next (take h.size b) h ranges.max mask n (get_or list n 0)));
     fill-image = λ e k l w p y calm t d.
         let (c, o, f) = said-is (result h mask n old) (counted-fill e k l w p y) (sym (same-fill e k l w p y) ∙ d) in
         let ours = judged e k l w p y ∙ sym (at-calm (take h.size b) h ranges.max mask n (get_or list n 0) calm) ∙ o in

@@ -32,7 +32,7 @@ use Rattle.lerc_block.proofs.Accepted.{block-ends}
 use Rattle.lerc_image.specs.declared.WalkAnswer.{WalkAnswer}
 use Rattle.lerc_image.specs.Geometry.{tile_of, valid_in_tile, is_valid_cell}
 use Rattle.lerc_image.specs.Paint.{painted, word_of}
-use Rattle.lerc_image.specs.Blocks.{block_at_lem, Chain, chain, all_blocks}
+use Rattle.lerc_image.specs.Blocks.{block_at, Chain, chain, all_blocks}
 use Rattle.lerc_image.specs.Walk.{Walk, walk_said}
 use Rattle.lerc_image.specs.Tiles.{tiles_says, tiles_image, Tiled}
 use Rattle.lerc_image.proofs.Painting.{length-painted, painted-cell}
@@ -70,8 +70,8 @@ past h mask image word j l o = painted-cell image word (is_valid_cell (shape_of 
 
 -- ---- `decode_tiles`
 
-at-inside : (s : List ℕ) (h : Header) (maxima m : List ℕ) (n at : ℕ) {b : Block} → block_at_lem s h maxima m n at ≡ ok b → (at < b.next) × (b.next ≤ length s)
-unfolding block_at_lem
+at-inside : (s : List ℕ) (h : Header) (maxima m : List ℕ) (n at : ℕ) {b : Block} → block_at s h maxima m n at ≡ ok b → (at < b.next) × (b.next ≤ length s)
+unfolding block_at
 at-inside s h maxima m n at d =
     let t = tile_of (shape_of h) n in
     let top = get_or maxima t.d 0 in

@@ -14,7 +14,7 @@ use borrow.Author.Tests.{le-leb, eqb-true, eqb-false}
 use lib.Dec.{leb, eqb}
 use lib.ListN.{length, get_or, take}
 use Rattle.lerc_words.specs.declared.Refusal.{Refusal}
-use Rattle.lerc_words.specs.Res.{Res, ok, fail, ◌>>=◌, marked, require, word_at_lem, accepts}
+use Rattle.lerc_words.specs.Res.{Res, ok, fail, ◌>>=◌, marked, require, word_at, accepts}
 use Rattle.lerc_words.proofs.Binding.{bind_is, ok-is, cond-elim}
 use Rattle.lerc_words.proofs.Marking.{marked-is}
 use Rattle.lerc_words.proofs.Little.{Bytes, word_at-no}
@@ -83,11 +83,11 @@ module _ (s : List ℕ) (y : Bytes s) (few : length s ≤ length_max) (at : ℕ)
         kind-same r o = rw ((mode-cases s at h t).mode-kind l c (rw (e, d)) r o, byte-ok s at l, c, e, d, o)
 
         module _ (k : ℕ) (o : offset_kind h.kind (flag / 64) ≡ ok k) where
-          word_same : (r : Refusal) → word_at_lem (type_size k) s (at + 1) ≡ fail r → Same
+          word_same : (r : Refusal) → word_at (type_size k) s (at + 1) ≡ fail r → Same
           unfolding plan_says plan_at flag_at form_plan offset_plan finite_word sample_at
           word_same r v = rw ((mode-cases s at h t).mode-number l c (rw (e, d)) k o r (rw (v)), byte-ok s at l, c, e, d, o, v)
 
-          module _ (w : ℕ) (v : word_at_lem (type_size k) s (at + 1) ≡ ok w) where
+          module _ (w : ℕ) (v : word_at (type_size k) s (at + 1) ≡ ok w) where
             abbrev to : ℕ
             to = at + 1 + type_size k
 
@@ -154,9 +154,9 @@ module _ (s : List ℕ) (y : Bytes s) (few : length s ≤ length_max) (at : ℕ)
                 go false f = wild-same f
 
           named-same : Same
-          named-same = go (word_at_lem (type_size k) s (at + 1)) refl
+          named-same = go (word_at (type_size k) s (at + 1)) refl
             where
-              go : (m : Res ℕ) → word_at_lem (type_size k) s (at + 1) ≡ m → Same
+              go : (m : Res ℕ) → word_at (type_size k) s (at + 1) ≡ m → Same
               go (ok w) v = number_same w v
               go (fail r) v = word_same r v
 

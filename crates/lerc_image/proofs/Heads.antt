@@ -10,7 +10,7 @@ use Rattle.lerc_words.proofs.Marking.{marked-is}
 use Rattle.lerc_header.specs.declared.Header.{Header}
 use Rattle.lerc_block.specs.Block.{Block}
 use Rattle.lerc_block.proofs.Leads.{plan-ends}
-use Rattle.lerc_image.specs.Blocks.{block_at_lem, Chain, chain}
+use Rattle.lerc_image.specs.Blocks.{block_at, Chain, chain}
 use Rattle.lerc_image.specs.Tiles.{block_end, head_starts}
 use Rattle.lerc_image.proofs.Chain.{chain-none, chain-parts}
 
@@ -32,8 +32,8 @@ module _ (s : List ℕ) (h : Header) (m : List ℕ) where
   heads-last f n at e = rw (e)
 
   -- an accepted block ends where its plan does
-  pub block-ends : (maxima : List ℕ) (n at : ℕ) {b : Block} → block_at_lem s h maxima m n at ≡ ok b → block_end s h m n at ≡ ok b.next
-  unfolding block_at_lem
+  pub block-ends : (maxima : List ℕ) (n at : ℕ) {b : Block} → block_at s h maxima m n at ≡ ok b → block_end s h m n at ≡ ok b.next
+  unfolding block_at
   block-ends maxima n at e = plan-ends s at h.kind h.error _ _ _ (marked-is at _ e)
 
   pub heads-are : (maxima : List ℕ) (f n at : ℕ) (c : Chain) → chain s h maxima m f n at ≡ ok c → head_starts s h m f n at ≡ c.starts

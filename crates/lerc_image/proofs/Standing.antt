@@ -23,7 +23,7 @@ use Rattle.lerc_block.proofs.Accepted.{block_words}
 use Rattle.lerc_image.specs.declared.Tile.{Tile}
 use Rattle.lerc_image.specs.declared.Position.{Position}
 use Rattle.lerc_image.specs.Geometry.{HasTile, tile_of, tile_here, valid_in_tile, position_of, next_of}
-use Rattle.lerc_image.specs.Blocks.{block_at_lem}
+use Rattle.lerc_image.specs.Blocks.{block_at}
 use Rattle.lerc_image.specs.Tiles.{block_end}
 use Rattle.lerc_image.specs.Parts.{TileIn, BodyAsked, BlockTile, Asked, CountAsked, all_valid}
 use Rattle.lerc_image.proofs.Partition.{tile-depth}
@@ -57,21 +57,21 @@ module _ {h : Header} {shape : Shape} {n : ℕ} {t : Tile} (b : BlockTile h shap
       same_end : plan_end (plan_at s at h.kind t.x (valid_in_tile shape m t)) ≡ block_end s h m n at
       same_end = rw (b.tile, b.same)
 
-  pub here-block : (s : List ℕ) (at : ℕ) (maxima m : List ℕ) → marked at (block_says s at h.kind h.error (get_or maxima t.d 0) t.x (valid_in_tile shape m t)) ≡ block_at_lem s h maxima m n at
-  unfolding block_at_lem
+  pub here-block : (s : List ℕ) (at : ℕ) (maxima m : List ℕ) → marked at (block_says s at h.kind h.error (get_or maxima t.d 0) t.x (valid_in_tile shape m t)) ≡ block_at s h maxima m n at
+  unfolding block_at
   here-block s at maxima m = rw (b.tile, b.same)
 
   -- read with its tile's valid pixels, which are at most 256
   pub here-read : (s : List ℕ) (at : ℕ) (maxima m : List ℕ) {valid : ℕ} → valid ≡ valid_in_tile shape m t
-      → marked at (read_block_says s at h.kind h.error (get_or maxima t.d 0) t.x valid) ≡ block_at_lem s h maxima m n at
+      → marked at (read_block_says s at h.kind h.error (get_or maxima t.d 0) t.x valid) ≡ block_at s h maxima m n at
   here-read s at maxima m q = rw (q) (ap (marked at) (read-block _ _ _ _ _ _ _ (valid-small shape t here_in m)) ∙ here-block s at maxima m)
 
   pub here-told : (s : List ℕ) (at : ℕ) (maxima m : List ℕ) {valid : ℕ} → valid ≡ valid_in_tile shape m t → {got : BlockAnswer} {old new : List ℕ}
-      → BlockRead (marked at (read_block_says s at h.kind h.error (get_or maxima t.d 0) t.x valid)) got old new → BlockRead (block_at_lem s h maxima m n at) got old new
+      → BlockRead (marked at (read_block_says s at h.kind h.error (get_or maxima t.d 0) t.x valid)) got old new → BlockRead (block_at s h maxima m n at) got old new
   here-told s at maxima m q e = rw (here-read s at maxima m q) at e
 
   -- a word for each valid pixel
-  pub here-words : (s : List ℕ) (at : ℕ) (maxima m : List ℕ) (k : Block) → block_at_lem s h maxima m n at ≡ ok k → length k.words ≡ valid_in_tile shape m (tile_of shape n)
+  pub here-words : (s : List ℕ) (at : ℕ) (maxima m : List ℕ) (k : Block) → block_at s h maxima m n at ≡ ok k → length k.words ≡ valid_in_tile shape m (tile_of shape n)
   here-words s at maxima m k e = block_words _ _ _ _ _ _ _ (marked-is at _ (here-block s at maxima m ∙ e)) ∙ ap (valid_in_tile shape m) b.tile
 
   -- counted once, the next block may have the same tile

@@ -15,7 +15,7 @@ use Rattle.lerc_block.specs.Block.{Block, block_said, next_block}
 use Rattle.lerc_image.specs.declared.Position.{Position}
 use Rattle.lerc_image.specs.declared.WalkAnswer.TheVariants as answer
 use Rattle.lerc_image.specs.Geometry.{next_of}
-use Rattle.lerc_image.specs.Blocks.{block_at_lem, Chain, chain, all_blocks}
+use Rattle.lerc_image.specs.Blocks.{block_at, Chain, chain, all_blocks}
 use Rattle.lerc_image.specs.Walk.{walk_said, walk_of}
 use Rattle.lerc_image.specs.Parts.{BodyAsked}
 use Rattle.lerc_image.proofs.Standing.{count-is, Standing, standing-none, standing-next}
@@ -41,18 +41,18 @@ module _ {s : List ℕ} {h : Header} {maxima m : List ℕ} {at : ℕ} {e : Exten
 
   module _ (l : n < e.blocks) where
     -- it is refused, and so are all
-    pub walking-no : {why : Refusal} → block_at_lem s h maxima m n next ≡ fail why → walk_said (answer.Refused why) ≡ walk_of h (all_blocks s h maxima m at)
+    pub walking-no : {why : Refusal} → block_at s h maxima m n next ≡ fail why → walk_said (answer.Refused why) ≡ walk_of h (all_blocks s h maxima m at)
     walking-no {why} q =
         let z : e.blocks - suc n + suc n ≡ e.blocks = omega arith in
         let no = chain-stops s h maxima m (e.blocks - suc n) (suc n) at why (chain-ends s h maxima m n at w.done why w.is (rw w.end q)) in
         let all : all_blocks s h maxima m at ≡ fail why = rw (← count-is w.stands.asked) (rw (z) at no) in
         rw (all)
 
-    walking_on : (b : Block) → block_at_lem s h maxima m n next ≡ ok b → {to : ℕ} → b.next ≡ to → Walking s h maxima m at e (next_of e.shape p) (n + 1) to
+    walking_on : (b : Block) → block_at s h maxima m n next ≡ ok b → {to : ℕ} → b.next ≡ to → Walking s h maxima m at e (next_of e.shape p) (n + 1) to
     walking_on b q z =
         record { stands = standing-next w.stands l; done = longer w.done b; is = rw (add-one) (chain-on s h maxima m n at w.done b w.is (rw w.end q)); end = z }
 
     -- it is accepted
-    pub walking-next : {got : BlockAnswer} {to : ℕ} → block_said got ≡ next_block (block_at_lem s h maxima m n next) → got ≡ block.Block to
+    pub walking-next : {got : BlockAnswer} {to : ℕ} → block_said got ≡ next_block (block_at s h maxima m n next) → got ≡ block.Block to
         → Walking s h maxima m at e (next_of e.shape p) (n + 1) to
     walking-next r q = let (b, f, z) = said-accepted r q in walking_on b f z

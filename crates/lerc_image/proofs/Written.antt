@@ -18,7 +18,7 @@ use Rattle.lerc_header.specs.Header.{shape_of}
 use Rattle.lerc_header.specs.Shape.{block_count, Shaped}
 use Rattle.lerc_block.specs.Block.{Block}
 use Rattle.lerc_image.specs.Paint.{scattered, filled_block, fills, among}
-use Rattle.lerc_image.specs.Blocks.{block_at_lem, Chain, chain, all_blocks}
+use Rattle.lerc_image.specs.Blocks.{block_at, Chain, chain, all_blocks}
 use Rattle.lerc_image.specs.Tiles.{starts_from, image_from, tiles_image}
 use Rattle.lerc_image.proofs.Chain.{chain-none, chain-parts}
 use Rattle.lerc_image.proofs.Fills.{fills-all}
@@ -43,11 +43,11 @@ module _ (s : List ℕ) (h : Header) (maxima m : List ℕ) where
   unfolding starts_from
   starts_none n at = refl
 
-  pub starts-last : (f n at : ℕ) {why : Refusal} → block_at_lem s h maxima m n at ≡ fail why → starts_from s h maxima m (suc f) n at ≡ at ∷ []
+  pub starts-last : (f n at : ℕ) {why : Refusal} → block_at s h maxima m n at ≡ fail why → starts_from s h maxima m (suc f) n at ≡ at ∷ []
   unfolding starts_from
   starts-last f n at e = rw (e)
 
-  pub starts_more : (f n at : ℕ) {b : Block} → block_at_lem s h maxima m n at ≡ ok b → starts_from s h maxima m (suc f) n at ≡ at ∷ starts_from s h maxima m f (suc n) b.next
+  pub starts_more : (f n at : ℕ) {b : Block} → block_at s h maxima m n at ≡ ok b → starts_from s h maxima m (suc f) n at ≡ at ∷ starts_from s h maxima m f (suc n) b.next
   unfolding starts_from
   starts_more f n at e = rw (e)
 
@@ -55,11 +55,11 @@ module _ (s : List ℕ) (h : Header) (maxima m : List ℕ) where
   unfolding image_from
   image-none n at image = refl
 
-  pub image-last : (f n at : ℕ) (image : List ℕ) {why : Refusal} → block_at_lem s h maxima m n at ≡ fail why → image_from s h maxima m (suc f) n at image ≡ image
+  pub image-last : (f n at : ℕ) (image : List ℕ) {why : Refusal} → block_at s h maxima m n at ≡ fail why → image_from s h maxima m (suc f) n at image ≡ image
   unfolding image_from
   image-last f n at image e = rw (e)
 
-  pub image-more : (f n at : ℕ) (image : List ℕ) {b : Block} → block_at_lem s h maxima m n at ≡ ok b
+  pub image-more : (f n at : ℕ) (image : List ℕ) {b : Block} → block_at s h maxima m n at ≡ ok b
       → image_from s h maxima m (suc f) n at image ≡ image_from s h maxima m f (suc n) b.next (scattered (shape_of h) m n b.words image)
   unfolding image_from
   image-more f n at image e = rw (e)

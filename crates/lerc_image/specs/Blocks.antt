@@ -10,8 +10,8 @@ use Rattle.lerc_image.specs.Geometry.{tile_of, valid_in_tile}
 
 -- block n at a start: its tile's column, its tile's valid pixels, its depth's maximum. `maxima` has one for each depth.
 -- "The place is the flag byte for any refusal inside a block"
-unfoldable pub block_at_lem : List ℕ → Header → List ℕ → List ℕ → ℕ → ℕ → Res Block
-block_at_lem s h maxima m n at =
+unfoldable pub block_at : List ℕ → Header → List ℕ → List ℕ → ℕ → ℕ → Res Block
+block_at s h maxima m n at =
     let t = tile_of (shape_of h) n in
     marked at (block_says s at h.kind h.error (get_or maxima t.d 0) t.x (valid_in_tile (shape_of h) m t))
 
@@ -25,7 +25,7 @@ pub record Chain : Type 0 where
 unfoldable pub chain : List ℕ → Header → List ℕ → List ℕ → ℕ → ℕ → ℕ → Res Chain
 chain s h maxima m zero n at = ok (record { starts = []; words = []; end = at })
 chain s h maxima m (suc f) n at = do
-  b ← block_at_lem s h maxima m n at
+  b ← block_at s h maxima m n at
   c ← chain s h maxima m f (suc n) b.next
   ok (record { starts = at ∷ c.starts; words = b.words ∷ c.words; end = c.end })
 

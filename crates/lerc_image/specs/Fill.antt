@@ -11,7 +11,7 @@ use Rattle.lerc_block.specs.Block.{Block}
 use Rattle.lerc_image.specs.declared.FillAnswer.{FillAnswer}
 use Rattle.lerc_image.specs.declared.FillAnswer.TheVariants as answer
 use Rattle.lerc_image.specs.Geometry.{tile_of, valid_in_tile}
-use Rattle.lerc_image.specs.Blocks.{block_at_lem}
+use Rattle.lerc_image.specs.Blocks.{block_at}
 use Rattle.lerc_image.specs.Paint.{scattered}
 
 -- "Fill checks 3, 4, 1, 11, 5, 7, then the block at the listed start."
@@ -21,7 +21,7 @@ fill_says b h r m list n room = do
   _ ← require (ltb n e.blocks) 11
   _ ← require (leb e.mask (length m) && leb e.blocks (length list) && leb e.cells room) 5
   _ ← require (pairs_right h.depth r) 7
-  block_at_lem (take h.size b) h r.max m n (get_or list n 0)
+  block_at (take h.size b) h r.max m n (get_or list n 0)
 
 -- "Fill reports words written, which is its tile's valid pixels"
 abbrev pub fill_count : Header → List ℕ → ℕ → Block → Res ℕ

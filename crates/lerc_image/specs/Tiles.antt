@@ -12,7 +12,7 @@ use Rattle.lerc_block.specs.Plan.{plan_at, plan_end}
 use Rattle.lerc_image.specs.declared.WalkAnswer.{WalkAnswer}
 use Rattle.lerc_image.specs.Geometry.{tile_of, valid_in_tile, block_of, is_valid_cell}
 use Rattle.lerc_image.specs.Paint.{painted, word_of, scattered}
-use Rattle.lerc_image.specs.Blocks.{block_at_lem, Chain, all_blocks}
+use Rattle.lerc_image.specs.Blocks.{block_at, Chain, all_blocks}
 use Rattle.lerc_image.specs.Walk.{walk_said, walk_count}
 
 -- ---- check: nothing is written
@@ -56,7 +56,7 @@ tiles_listed b h m at list =
 -- ---- fill: each block at its listed start
 
 abbrev pub listed_block : List ℕ → Header → List ℕ → List ℕ → List ℕ → ℕ → Res Block
-listed_block s h maxima m list n = block_at_lem s h maxima m n (get_or list n 0)
+listed_block s h maxima m list n = block_at s h maxima m n (get_or list n 0)
 
 -- a block's words; none where it is refused
 abbrev pub listed_words : List ℕ → Header → List ℕ → List ℕ → List ℕ → ℕ → List ℕ
@@ -86,13 +86,13 @@ filled_tiles b h m maxima list image =
 -- the starts of f blocks from number n on, the first at `at`; none behind a block that is refused
 unfoldable pub starts_from : List ℕ → Header → List ℕ → List ℕ → ℕ → ℕ → ℕ → List ℕ
 starts_from s h maxima m zero n at = []
-starts_from s h maxima m (suc f) n at = at ∷ after (block_at_lem s h maxima m n at) [] (λ b. starts_from s h maxima m f (suc n) b.next)
+starts_from s h maxima m (suc f) n at = at ∷ after (block_at s h maxima m n at) [] (λ b. starts_from s h maxima m f (suc n) b.next)
 
 -- the image with their words, put into it block by block
 unfoldable pub image_from : List ℕ → Header → List ℕ → List ℕ → ℕ → ℕ → ℕ → List ℕ → List ℕ
 image_from s h maxima m zero n at image = image
 image_from s h maxima m (suc f) n at image =
-    after (block_at_lem s h maxima m n at) image (λ b. image_from s h maxima m f (suc n) b.next (scattered (shape_of h) m n b.words image))
+    after (block_at s h maxima m n at) image (λ b. image_from s h maxima m f (suc n) b.next (scattered (shape_of h) m n b.words image))
 
 -- where there is no room, the list as it was; `room` is the length of the image
 unfoldable pub written_list : List ℕ → Header → List ℕ → List ℕ → ℕ → List ℕ → ℕ → List ℕ

@@ -10,7 +10,7 @@ use native.Mathlib.Omega.{arith}
 use borrow.Author.Tests.{eq-eqb, ne_eqb, lt-ltb, eqb-true, eqb-false, ltb-true}
 use lib.Dec.{ltb, eqb}
 use lib.ListN.{length, get_or, replicate, get_or-eq_default}
-use Rattle.lerc_words.specs.Res.{Res, ok, fail, ◌>>=◌, refuse, require, word_at_lem, each}
+use Rattle.lerc_words.specs.Res.{Res, ok, fail, ◌>>=◌, refuse, require, word_at, each}
 use Rattle.lerc_words.proofs.Binding.{bind_is, require-is, ok-is, each-length}
 use Rattle.lerc_words.proofs.Each.{each_at, each-alike, each-not}
 use Rattle.lerc_numeric.specs.Numeric.{negative, finite, infinite, sum, counted_sum, scaled, less, lesser}
@@ -30,14 +30,14 @@ use Rattle.lerc_overflow.proofs.Offsets.{offset_read}
 module _ (f g : Adding) (P : Res Block → Res Block → Type 0) (same : (x : Res Block) → P x x) (s : List ℕ) (at kind error top x n : ℕ) where
   abbrev StepsRelated : Type 0
   StepsRelated =
-      (flag : ℕ) (o : Offset) → word_at_lem 1 s at ≡ ok flag → flag % 4 ≡ 1 → finite_offset s (at + 1) kind flag ≡ ok o
+      (flag : ℕ) (o : Offset) → word_at 1 s at ≡ ok flag → flag % 4 ≡ 1 → finite_offset s (at + 1) kind flag ≡ ok o
       → P (stepped_by f s o.next kind error top o.value n) (stepped_by g s o.next kind error top o.value n)
 
   block-related : StepsRelated → P (block_by f s at kind error top x n) (block_by g s at kind error top x n)
   unfolding block_by formed_by offset_by flag_at
-  block-related steps = flagged (word_at_lem 1 s at) refl
+  block-related steps = flagged (word_at 1 s at) refl
     where
-      level : (flag : ℕ) → word_at_lem 1 s at ≡ ok flag → (flag % 4 ≡ 0 → ⊥) → (flag % 4 ≡ 2 → ⊥) → (o : Offset) → finite_offset s (at + 1) kind flag ≡ ok o → (t : Bool) → eqb (flag % 4) 3 ≡ t
+      level : (flag : ℕ) → word_at 1 s at ≡ ok flag → (flag % 4 ≡ 0 → ⊥) → (flag % 4 ≡ 2 → ⊥) → (o : Offset) → finite_offset s (at + 1) kind flag ≡ ok o → (t : Bool) → eqb (flag % 4) 3 ≡ t
           → P (cond t (level_block o.next kind o.value n) (stepped_by f s o.next kind error top o.value n))
           (cond t (level_block o.next kind o.value n) (stepped_by g s o.next kind error top o.value n))
       level flag e a b o d true c = same (level_block o.next kind o.value n)
@@ -46,25 +46,25 @@ module _ (f g : Adding) (P : Res Block → Res Block → Type 0) (same : (x : Re
           one : (k : ℕ) → k < 4 → (k ≡ 0 → ⊥) → (k ≡ 2 → ⊥) → (k ≡ 3 → ⊥) → k ≡ 1
           one k l a b c = omega arith
 
-      offset : (flag : ℕ) → word_at_lem 1 s at ≡ ok flag → (flag % 4 ≡ 0 → ⊥) → (flag % 4 ≡ 2 → ⊥) → (m : Res Offset) → finite_offset s (at + 1) kind flag ≡ m
+      offset : (flag : ℕ) → word_at 1 s at ≡ ok flag → (flag % 4 ≡ 0 → ⊥) → (flag % 4 ≡ 2 → ⊥) → (m : Res Offset) → finite_offset s (at + 1) kind flag ≡ m
           → P (m >>= λ o. cond (eqb (flag % 4) 3) (level_block o.next kind o.value n) (stepped_by f s o.next kind error top o.value n))
           (m >>= λ o. cond (eqb (flag % 4) 3) (level_block o.next kind o.value n) (stepped_by g s o.next kind error top o.value n))
       offset flag e a b (fail r) d = same (fail r)
       offset flag e a b (ok o) d = level flag e a b o d (eqb (flag % 4) 3) refl
 
-      form : (flag : ℕ) → word_at_lem 1 s at ≡ ok flag → (t : Bool) → eqb (flag % 4) 0 ≡ t → (u : Bool) → eqb (flag % 4) 2 ≡ u
+      form : (flag : ℕ) → word_at 1 s at ≡ ok flag → (t : Bool) → eqb (flag % 4) 0 ≡ t → (u : Bool) → eqb (flag % 4) 2 ≡ u
           → P (cond t (raw_words s (at + 1) kind n) (cond u (ok (record { words = replicate n 0; next = at + 1 })) (offset_by f s (at + 1) kind error top flag n)))
           (cond t (raw_words s (at + 1) kind n) (cond u (ok (record { words = replicate n 0; next = at + 1 })) (offset_by g s (at + 1) kind error top flag n)))
       form flag e true a u b = same (raw_words s (at + 1) kind n)
       form flag e false a true b = same (ok (record { words = replicate n 0; next = at + 1 }))
       form flag e false a false b = offset flag e (eqb-false (flag % 4) 0 a) (eqb-false (flag % 4) 2 b) (finite_offset s (at + 1) kind flag) refl
 
-      checked : (flag : ℕ) → word_at_lem 1 s at ≡ ok flag → (t : Bool)
+      checked : (flag : ℕ) → word_at 1 s at ≡ ok flag → (t : Bool)
           → P ((require t 8 >>= λ _. ok flag) >>= λ flag. formed_by f s (at + 1) kind error top flag n) ((require t 8 >>= λ _. ok flag) >>= λ flag. formed_by g s (at + 1) kind error top flag n)
       checked flag e true = form flag e (eqb (flag % 4) 0) refl (eqb (flag % 4) 2) refl
       checked flag e false = same (fail (refuse 8))
 
-      flagged : (m : Res ℕ) → word_at_lem 1 s at ≡ m
+      flagged : (m : Res ℕ) → word_at 1 s at ≡ m
           → P ((m >>= λ flag. require (eqb (flag / 4 % 16) (x / 8 % 16)) 8 >>= λ _. ok flag) >>= λ flag. formed_by f s (at + 1) kind error top flag n)
           ((m >>= λ flag. require (eqb (flag / 4 % 16) (x / 8 % 16)) 8 >>= λ _. ok flag) >>= λ flag. formed_by g s (at + 1) kind error top flag n)
       flagged (fail r) e = same (fail r)
@@ -161,7 +161,7 @@ module _ (s : List ℕ) (at kind error top offset n : ℕ) where
 -- ---- the block
 
 module _ (s : List ℕ) (at kind error : ℕ) where
-  operands-are : (flag : ℕ) (o : Offset) → word_at_lem 1 s at ≡ ok flag → flag % 4 ≡ 1 → finite_offset s (at + 1) kind flag ≡ ok o → (c : Counts) → counts s o.next ≡ ok c → (i : ℕ) → i < length c.values
+  operands-are : (flag : ℕ) (o : Offset) → word_at 1 s at ≡ ok flag → flag % 4 ≡ 1 → finite_offset s (at + 1) kind flag ≡ ok o → (c : Counts) → counts s o.next ≡ ok c → (i : ℕ) → i < length c.values
       → operands_at s at kind error i ≡ ok (record { offset = o.value; product = scaled error (get_or c.values i 0) })
   unfolding operands_at
   operands-are flag o e f d c q i l = rw (e, eq-eqb (flag % 4) 1 f, d, q, lt-ltb i (length c.values) l)
@@ -171,7 +171,7 @@ module _ (s : List ℕ) (at kind error : ℕ) where
     pub flag : ℕ
     pub offset : Offset
     pub read : Counts
-    pub is-flag : word_at_lem 1 s at ≡ ok flag
+    pub is-flag : word_at 1 s at ≡ ok flag
     pub stepped : flag % 4 ≡ 1
     pub offset-is : finite_offset s (at + 1) kind flag ≡ ok offset
     pub counts-are : counts s offset.next ≡ ok read
@@ -181,7 +181,7 @@ module _ (s : List ℕ) (at kind error : ℕ) where
   pub operands-stand : (i : ℕ) (p : Operands) → operands_at s at kind error i ≡ ok p → Stands i p
   unfolding operands_at
   operands-stand i p k =
-      let (flag, ef, k) = bind_is (word_at_lem 1 s at) _ k in
+      let (flag, ef, k) = bind_is (word_at 1 s at) _ k in
       let (_, e1, k) = bind_is (require (eqb (flag % 4) 1) 8) _ k in
       let (o, eo, k) = bind_is (finite_offset s (at + 1) kind flag) _ k in
       let (c, ec, k) = bind_is (counts s o.next) _ k in
@@ -259,7 +259,7 @@ module _ (s : List ℕ) (at kind error : ℕ) where
         let o = st.offset in
         let one = st.stepped in
         let (flag', e2, e) = bind_is (flag_at s at x) _ e in
-        let (flag'', e3, e2) = bind_is (word_at_lem 1 s at) _ e2 in
+        let (flag'', e3, e2) = bind_is (word_at 1 s at) _ e2 in
         let (_, _, e2) = bind_is (require (eqb (flag'' / 4 % 16) (x / 8 % 16)) 8) _ e2 in
         let same : flag' ≡ flag = sym (ok-is e2) ∙ ok-is (sym e3 ∙ st.is-flag) in
         let formed : formed_by add s (at + 1) kind error top flag n ≡ ok b = rw (same) at e in

@@ -16,7 +16,7 @@ use Rattle.lerc_header.specs.declared.Header.{Header}
 use Rattle.lerc_header.specs.Header.{shape_of}
 use Rattle.lerc_block.specs.Block.{Block, block_says, next_block}
 use Rattle.lerc_image.specs.Geometry.{tile_of, valid_in_tile}
-use Rattle.lerc_image.specs.Blocks.{block_at_lem, Chain, chain}
+use Rattle.lerc_image.specs.Blocks.{block_at, Chain, chain}
 use Rattle.lerc_image.proofs.Chain.{fronted, chain-none, chain-front, chain-parts, chain-lengths}
 use Rattle.lerc_overflow.specs.By.{Adding, block_by, block_at_by, chain_by}
 use Rattle.lerc_overflow.specs.Changes.{Calm, AllCalm}
@@ -41,8 +41,8 @@ module _ (s : List ℕ) (h : Header) (maxima m : List ℕ) where
   unfolding chain_by
   counted-front f n at = refl
 
-  pub at_next : (n at : ℕ) → next_block (block_at_by counted_sum s h maxima m n at) ≡ next_block (block_at_lem s h maxima m n at)
-  unfolding block_at_by block_at_lem
+  pub at_next : (n at : ℕ) → next_block (block_at_by counted_sum s h maxima m n at) ≡ next_block (block_at s h maxima m n at)
+  unfolding block_at_by block_at
   at_next n at =
       let t = tile_of (shape_of h) n in
       let top = get_or maxima t.d 0 in
@@ -51,12 +51,12 @@ module _ (s : List ℕ) (h : Header) (maxima m : List ℕ) where
       ∙ ap (marked at) (block-next s at h.kind h.error top t.x v)
       ∙ marked-tells at (block_says s at h.kind h.error top t.x v) (λ b. b.next)
 
-  pub at-kind : h.kind < 7 → (n at : ℕ) → block_at_by counted_sum s h maxima m n at ≡ block_at_lem s h maxima m n at
-  unfolding block_at_by block_at_lem
+  pub at-kind : h.kind < 7 → (n at : ℕ) → block_at_by counted_sum s h maxima m n at ≡ block_at s h maxima m n at
+  unfolding block_at_by block_at
   at-kind l n at = let t = tile_of (shape_of h) n in ap (marked at) (block-kind s at h.kind h.error (get_or maxima t.d 0) t.x (valid_in_tile (shape_of h) m t) l)
 
-  pub at-calm : (n at : ℕ) → Calm s at h.kind h.error → block_at_by counted_sum s h maxima m n at ≡ block_at_lem s h maxima m n at
-  unfolding block_at_by block_at_lem
+  pub at-calm : (n at : ℕ) → Calm s at h.kind h.error → block_at_by counted_sum s h maxima m n at ≡ block_at s h maxima m n at
+  unfolding block_at_by block_at
   at-calm n at calm = let t = tile_of (shape_of h) n in ap (marked at) (block-calm s at h.kind h.error (get_or maxima t.d 0) t.x (valid_in_tile (shape_of h) m t) calm)
 
   -- ---- the same starts and end
@@ -65,7 +65,7 @@ module _ (s : List ℕ) (h : Header) (maxima m : List ℕ) where
   chain-ends zero n at = rw (counted_none n at, chain-none s h maxima m n at)
   chain-ends (suc f) n at =
       rw (counted-front f n at, chain-front s h maxima m f n at)
-      (go (block_at_by counted_sum s h maxima m n at) (block_at_lem s h maxima m n at) (at_next n at) (λ to. chain-ends f (suc n) to))
+      (go (block_at_by counted_sum s h maxima m n at) (block_at s h maxima m n at) (at_next n at) (λ to. chain-ends f (suc n) to))
     where
       front : (a b : Block) (x y : Res Chain) → (x >>= ends) ≡ (y >>= ends) → ((x >>= λ c. ok (fronted at a c)) >>= ends) ≡ ((y >>= λ c. ok (fronted at b c)) >>= ends)
       front a b (ok c) (ok d) e =
@@ -89,7 +89,7 @@ module _ (s : List ℕ) (h : Header) (maxima m : List ℕ) where
 
   pub chain-kind : h.kind < 7 → (f n at : ℕ) → chain_by counted_sum s h maxima m f n at ≡ chain s h maxima m f n at
   chain-kind l zero n at = counted_none n at ∙ sym (chain-none s h maxima m n at)
-  chain-kind l (suc f) n at = rw (counted-front f n at, chain-front s h maxima m f n at, at-kind l n at) (go (block_at_lem s h maxima m n at) (λ to. chain-kind l f (suc n) to))
+  chain-kind l (suc f) n at = rw (counted-front f n at, chain-front s h maxima m f n at, at-kind l n at) (go (block_at s h maxima m n at) (λ to. chain-kind l f (suc n) to))
     where
       go : (x : Res Block) → ((to : ℕ) → chain_by counted_sum s h maxima m f (suc n) to ≡ chain s h maxima m f (suc n) to)
           → (x >>= λ b. chain_by counted_sum s h maxima m f (suc n) b.next >>= λ c. ok (fronted at b c)) ≡ (x >>= λ b. chain s h maxima m f (suc n) b.next >>= λ c. ok (fronted at b c))
@@ -121,7 +121,7 @@ module _ (s : List ℕ) (h : Header) (maxima m : List ℕ) where
     pub old : Block
     pub new : Block
     pub old-is : block_at_by counted_sum s h maxima m (n + j) (get_or d.starts j 0) ≡ ok old
-    pub new_is : block_at_lem s h maxima m (n + j) (get_or d.starts j 0) ≡ ok new
+    pub new_is : block_at s h maxima m (n + j) (get_or d.starts j 0) ≡ ok new
     pub differ : get_or old.words i 0 ≢ get_or new.words i 0
     pub here : get_or (get_or d.words j []) i 0 ≡ get_or new.words i 0
 
@@ -140,7 +140,7 @@ module _ (s : List ℕ) (h : Header) (maxima m : List ℕ) where
     where
       go : ((b : Block) (c' d' : Chain) → chain_by counted_sum s h maxima m f (suc n) b.next ≡ ok c' → chain s h maxima m f (suc n) b.next ≡ ok d'
           → (j : ℕ) → get_or (get_or c'.words j []) i 0 ≢ get_or (get_or d'.words j []) i 0 → Differs f (suc n) d' j i)
-          → (j : ℕ) (a b : Block) (c' d' : Chain) → block_at_by counted_sum s h maxima m n at ≡ ok a → block_at_lem s h maxima m n at ≡ ok b
+          → (j : ℕ) (a b : Block) (c' d' : Chain) → block_at_by counted_sum s h maxima m n at ≡ ok a → block_at s h maxima m n at ≡ ok b
           → chain_by counted_sum s h maxima m f (suc n) b.next ≡ ok c' → chain s h maxima m f (suc n) b.next ≡ ok d'
           → get_or (get_or (a.words ∷ c'.words) j []) i 0 ≢ get_or (get_or (b.words ∷ d'.words) j []) i 0 → d ≡ fronted at b d' → Differs (suc f) n d j i
       go later zero a b c' d' ea eb ec ed v z = rw (z) (record { below = omega arith; old = a; new = b; old-is = rw (add-zero n) ea; new_is = rw (add-zero n) eb; differ = v; here = refl })

@@ -11,7 +11,7 @@ use native.Mathlib.Omega.{arith}
 use lib.Dec.{eqb, lit<}
 use lib.ListN.{length, get_or, take, length-take}
 use Rattle.lerc_words.specs.declared.Refusal.{Refusal}
-use Rattle.lerc_words.specs.Res.{Res, ok, fail, ◌>>=◌, word_at_lem}
+use Rattle.lerc_words.specs.Res.{Res, ok, fail, ◌>>=◌, word_at}
 use Rattle.lerc_words.proofs.Binding.{bind_is, ok-is, and_is}
 use Rattle.lerc_words.proofs.Marking.{marked-is}
 use Rattle.lerc_words.proofs.Tables.{all-each}
@@ -31,7 +31,7 @@ use Rattle.lerc_block.specs.Block.{Block, block_says}
 use Rattle.lerc_image.specs.declared.Tile.{Tile}
 use Rattle.lerc_image.specs.Geometry.{tile_of, valid_in_tile, block_of}
 use Rattle.lerc_image.specs.Paint.{index_of}
-use Rattle.lerc_image.specs.Blocks.{block_at_lem, Chain, all_blocks}
+use Rattle.lerc_image.specs.Blocks.{block_at, Chain, all_blocks}
 use Rattle.lerc_image.proofs.Partition.{tile-depth}
 use Rattle.lerc_image.proofs.Chain.{chain-lengths}
 use Rattle.lerc.specs.Meaning.{Body, empty, blocks, Meaning, raw_body, block_body, huffman_body, body_from, constant_body, swept_body, body_says, starts_of, cell_word, meaning_from, meaning}
@@ -252,7 +252,7 @@ module _ (b : List ℕ) (h : Header) (e : header_says b ≡ ok h) (m : List ℕ)
   old-is = marked-is at (block_by counted_sum s at h.kind h.error top t.x (valid_in_tile (shape_of h) m t)) (rw (zero-add n) at d.differs.old-is)
 
   new_is : block_says s at h.kind h.error top t.x (valid_in_tile (shape_of h) m t) ≡ ok d.differs.new
-  unfolding block_at_lem
+  unfolding block_at
   new_is = marked-is at (block_says s at h.kind h.error top t.x (valid_in_tile (shape_of h) m t)) (rw (zero-add n) at d.differs.new_is)
 
   overflows : Overflows s at h.kind h.error i
@@ -297,7 +297,7 @@ module _ (b : List ℕ) (h : Header) (e : header_says b ≡ ok h) (m : List ℕ)
   counted-below : less (counted_sum o overflows.operands.product) top ≡ true
   counted-below = rw from.product_is (step-below h.error top o from.count stepping (rw from.product_is at overflows.infinite-product) steps-differ)
 
-  as-binary64 : (flag : ℕ) → word_at_lem 1 s at ≡ ok flag → offset_kind 7 (flag / 64) ≡ ok 7
+  as-binary64 : (flag : ℕ) → word_at 1 s at ≡ ok flag → offset_kind 7 (flag / 64) ≡ ok 7
   as-binary64 flag k =
       let st = operands-stand s at h.kind h.error i overflows.operands overflows.are in
       let z : st.flag ≡ flag = ok-is (sym st.is-flag ∙ k) in
@@ -374,7 +374,7 @@ cell-changed : (b : List ℕ) (h : Header) → header_says b ≡ ok h → (m : L
     → (o : Overflows (take h.size b) (get_or (starts_of y) (block_of (shape_of h) c) 0) h.kind h.error (index_of (shape_of h) m c))
     → (r : Ranges) → ranges_says (take h.size b) h ≡ ok r → less (counted_sum o.operands.offset o.operands.product) (maximum_of h r c) ≡ true
     → cell_word h m x c ≢ cell_word h m y c
-unfolding cell_word block_at_by block_at_lem
+unfolding cell_word block_at_by block_at
 cell-changed b h e m x y ex ey c l seven o r k f =
     let s = take h.size b in
     let n = block_of (shape_of h) c in
@@ -396,7 +396,7 @@ cell-changed b h e m x y ex ey c l seven o r k f =
     ∙ ap (λ (z : ℕ). block_at_by counted_sum s h high m z (get_or w.old.starts n 0)) (sym (zero-add n))
     ∙ p.is
     in
-    let is : block_at_lem s h r.max m n at ≡ ok q.block =
+    let is : block_at s h r.max m n at ≡ ok q.block =
     sym (block-at-sum s h r.max m n at)
     ∙ ap (λ (z : List ℕ). block_at_by sum s h z m n at) max-same
     ∙ ap (λ (z : List ℕ). block_at_by sum s h high m n (get_or z n 0)) starts

@@ -57,7 +57,7 @@ block_by add s at kind error top x n = do
 
 -- ---- blocks, one after the other
 
--- `block_at_lem`
+-- `block_at`
 unfoldable pub block_at_by : Adding → List ℕ → Header → List ℕ → List ℕ → ℕ → ℕ → Res Block
 block_at_by add s h maxima m n at =
     let t = tile_of (shape_of h) n in

@@ -2,7 +2,7 @@
 -- which an infinity is counted as 2^1024.
 -- Assumes nothing.
 use Rattle.std.specs.Prelude.{ℕ, ◌+◌, ◌*◌, ◌/◌, ◌%◌, ◌^◌, ◌≤◌, ◌<◌, ◌≡◌, ◌≢◌, Bool, true, false, List, [], length, get_or, take, ltb, eqb}
-use Rattle.lerc_words.specs.Res.{Res, ok, ◌>>=◌, require, word_at_lem}
+use Rattle.lerc_words.specs.Res.{Res, ok, ◌>>=◌, require, word_at}
 use Rattle.lerc_numeric.specs.Numeric.{negative, finite, infinite, mag, sum, counted_sum, scaled, less, lesser}
 use Rattle.lerc_numeric.specs.Kinds.{value_of}
 use Rattle.lerc_numeric.specs.Steps.{step_of}
@@ -63,7 +63,7 @@ pub record Operands : Type 0 where
 
 unfoldable pub operands_at : List ℕ → ℕ → ℕ → ℕ → ℕ → Res Operands
 operands_at s at kind error i = do
-  flag ← word_at_lem 1 s at
+  flag ← word_at 1 s at
   _ ← require (eqb (flag % 4) 1) 8
   o ← finite_offset s (at + 1) kind flag
   c ← counts s o.next
@@ -129,7 +129,7 @@ pub record CellChanged (b : List ℕ) (m : Meaning) (c : ℕ) : Type 0 where
   pub kind : m.header.kind ≡ 7
   pub overflows : Overflows (take m.header.size b) (start_of_cell m c) m.header.kind m.header.error (index_of (shape_of m.header) (bytes_of m.mask) c)
   pub offset : (negative overflows.operands.offset ≡ true) × (far_offset ≤ mag overflows.operands.offset)
-  pub as-binary64 : (flag : ℕ) → word_at_lem 1 (take m.header.size b) (start_of_cell m c) ≡ ok flag → offset_kind 7 (flag / 64) ≡ ok 7
+  pub as-binary64 : (flag : ℕ) → word_at 1 (take m.header.size b) (start_of_cell m c) ≡ ok flag → offset_kind 7 (flag / 64) ≡ ok 7
   pub ranges : Ranges
   pub ranges-are : ranges_says (take m.header.size b) m.header ≡ ok ranges
   pub below : less (counted_sum overflows.operands.offset overflows.operands.product) (maximum_of m.header ranges c) ≡ true

@@ -6,11 +6,11 @@ use mathlib.Core.List.{List}
 use Prim.Native.Nat.{ℕ, zero, suc, ◌+◌, ◌-◌, ◌*◌, ◌≤◌, ◌<◌, min}
 use native.Mathlib.Omega.{arith}
 use native.Mathlib.Nat.{add-zero}
-use lib.ListN.{length, get_or, take, drop, length-take, length-drop}
+use lib.ListN.{length, get_or, length-take, length-drop}
 use lib.Dec.{leb, eqb}
 use borrow.Author.Tests.{leb-true, eqb-true, le-leb, eq-eqb}
 use Rattle.lerc_words.specs.Res.{Res, ok, fail, ◌>>=◌, require, refuse}
-use Rattle.lerc_words.specs.Lists.{all_to, total}
+use Rattle.lerc_words.specs.Lists.{all_to}
 use Rattle.lerc_words.proofs.Binding.{and_is}
 use Rattle.lerc_words.proofs.Counts.{total-zero, total-le}
 use Rattle.lerc_words.proofs.Tables.{all-each, all_true}

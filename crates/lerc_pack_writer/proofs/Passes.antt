@@ -2,7 +2,7 @@
 -- Assumes nothing.
 use mathlib.Core.Path.{◌≡◌, ◌∙◌, sym, ap, refl}
 use mathlib.Core.Bool.{true, false, ◌&&◌}
-use Prim.Native.Nat.{ℕ, zero, suc, ◌+◌, ◌-◌, ◌≤◌, ◌<◌}
+use Prim.Native.Nat.{ℕ, suc, ◌+◌, ◌-◌, ◌≤◌, ◌<◌}
 use native.Mathlib.Omega.{arith}
 use native.Mathlib.Numerals.{add-one}
 use lib.ListN.{length, get_or, take, drop}
@@ -10,7 +10,7 @@ use lib.Dec.{leb, eqb}
 use borrow.Author.Tests.{leb-true, le-leb}
 use Rattle.lerc_slices.proofs.Begins.{both_ways}
 use Rattle.lerc_words.proofs.Binding.{and_is}
-use Rattle.lerc_words.specs.Lists.{all_to, total}
+use Rattle.lerc_words.specs.Lists.{all_to}
 use Rattle.lerc_words.proofs.Counts.{total-zero, total-more}
 use Rattle.lerc_words.proofs.Tables.{all_more, all-fails, all_none}
 use Rattle.lerc_pack_writer.specs.Writing.{Given, body_start, blob_given}

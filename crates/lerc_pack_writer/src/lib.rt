@@ -1,5 +1,6 @@
 // The pack writer: tiles that keep the rules of contents become the bytes of a pack.
 #![tactic(auto)]
+
 ghost use Rattle.std.specs.Prelude.{◌≡◌};
 ghost use Rattle.lerc_pack_writer.specs.Writing as Writing;
 

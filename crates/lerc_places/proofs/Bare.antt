@@ -7,7 +7,7 @@ use mathlib.Core.List.{List, [], ◌∷◌}
 use Prim.Native.Nat.{ℕ, ◌+◌, ◌*◌, ◌/◌, ◌%◌}
 use lib.ListN.{length, get_or, take, drop, replicate}
 use lib.Dec.{leb, ltb, eqb}
-use Rattle.lerc_words.specs.Res.{Res, ok, fail, marked, each, word_at_lem}
+use Rattle.lerc_words.specs.Res.{Res, ok, fail, marked, each, word_at}
 use Rattle.lerc_words.proofs.Marking.{Bare, bare-bind, bare-then, bare-cond}
 use Rattle.lerc_words.proofs.Little.{word_at-bare}
 use Rattle.lerc_numeric.specs.Numeric.{finite, negative}
@@ -44,7 +44,7 @@ stored-bare kind w = bare-cond (ltb kind 6) (bare-then (ltb kind 6 && finite w &
 
 sample-bare : (kind : ℕ) (s : List ℕ) (at : ℕ) → Bare (sample_at kind s at)
 unfolding sample_at
-sample-bare kind s at = bare-bind (word_at_lem (type_size kind) s at) _ (word_at-bare (type_size kind) s at) (λ w. refl)
+sample-bare kind s at = bare-bind (word_at (type_size kind) s at) _ (word_at-bare (type_size kind) s at) (λ w. refl)
 
 kind-bare : (kind code : ℕ) → Bare (offset_kind kind code)
 unfolding offset_kind
@@ -97,18 +97,18 @@ pub block-bare : (s : List ℕ) (at kind error top x n : ℕ) → Bare (block_sa
 unfolding block_says flag_at
 block-bare s at kind error top x n =
     bare-bind (flag_at s at x) _
-    (bare-bind (word_at_lem 1 s at) _ (word_at-bare 1 s at) (λ flag. bare-then (eqb (flag / 4 % 16) (x / 8 % 16)) 8 _ refl))
+    (bare-bind (word_at 1 s at) _ (word_at-bare 1 s at) (λ flag. bare-then (eqb (flag / 4 % 16) (x / 8 % 16)) 8 _ refl))
     (λ flag. formed_bare s (at + 1) kind error top flag n)
 
 -- ---- the sweep byte, and the mode byte
 
 pub mode-bare : (s : List ℕ) (at : ℕ) → Bare (mode_byte s at)
 unfolding mode_byte
-mode-bare s at = bare-bind (word_at_lem 1 s at) _ (word_at-bare 1 s at) (λ mode. bare-then (ltb mode 3) 8 _ refl)
+mode-bare s at = bare-bind (word_at 1 s at) _ (word_at-bare 1 s at) (λ mode. bare-then (ltb mode 3) 8 _ refl)
 
 pub sweep-bare : (s : List ℕ) (at : ℕ) → Bare (sweep_byte s at)
 unfolding sweep_byte
-sweep-bare s at = bare-bind (word_at_lem 1 s at) _ (word_at-bare 1 s at) (λ sweep. bare-then (ltb sweep 2) 8 _ refl)
+sweep-bare s at = bare-bind (word_at 1 s at) _ (word_at-bare 1 s at) (λ sweep. bare-then (ltb sweep 2) 8 _ refl)
 
 -- ---- the symbols of a Huffman image
 

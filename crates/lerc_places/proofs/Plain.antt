@@ -6,7 +6,7 @@ use mathlib.Core.List.{List}
 use Prim.Native.Nat.{ℕ, zero, suc, ◌+◌, ◌*◌}
 use lib.ListN.{length, get_or, take}
 use lib.Dec.{leb, ltb, eqb}
-use Rattle.lerc_words.specs.Res.{Res, ok, fail, ◌>>=◌, marked, require, word_at_lem}
+use Rattle.lerc_words.specs.Res.{Res, ok, fail, ◌>>=◌, marked, require, word_at}
 use Rattle.lerc_words.proofs.Marking.{marked-twice}
 use Rattle.lerc_numeric.specs.Numeric.{same}
 use Rattle.lerc_header.specs.declared.Header.{Header}
@@ -20,7 +20,7 @@ use Rattle.lerc_ranges.specs.Ranges.{ranges_end, coded_ranges, pairs_right, wron
 use Rattle.lerc_sweep.specs.Sweep.{Way, raw_from, blocks_from, huffman_from, has_mode_byte, mode_byte, mode_at, moded, sweep_byte, swept}
 use Rattle.lerc_block.specs.Block.{raw_words, block_says}
 use Rattle.lerc_image.specs.Geometry.{tile_of, valid_in_tile}
-use Rattle.lerc_image.specs.Blocks.{block_at_lem, chain, all_blocks}
+use Rattle.lerc_image.specs.Blocks.{block_at, chain, all_blocks}
 use Rattle.lerc_image.specs.Walk.{way_walked, body_walked, walk_says}
 use Rattle.lerc_image.specs.Fill.{fill_says}
 use Rattle.lerc_byte_image.specs.Symbols.{coded_at}
@@ -107,12 +107,12 @@ unfolding swept sweep_byte swept_plain
 swept-plain s kind error at =
     let goes : ℕ → Res Way = λ sweep. cond (eqb sweep 1) (ok (raw_from (at + 1))) (moded_plain s kind error (at + 1)) in
     plain-bind (marked at (sweep_byte s at)) _ goes (plain-marked at (sweep_byte s at) (sweep-bare s at)) (λ sweep. plain-cond (eqb sweep 1) _ _ refl (moded-plain s kind error (at + 1)))
-    ∙ in-line (word_at_lem 1 s at) (λ sweep. ltb sweep 2) goes
+    ∙ in-line (word_at 1 s at) (λ sweep. ltb sweep 2) goes
 
 -- ---- blocks
 
-pub block-plain : (s : List ℕ) (h : Header) (maxima m : List ℕ) (n at : ℕ) → marked 0 (block_at_lem s h maxima m n at) ≡ block_plain s h maxima m n at
-unfolding block_at_lem block_plain
+pub block-plain : (s : List ℕ) (h : Header) (maxima m : List ℕ) (n at : ℕ) → marked 0 (block_at s h maxima m n at) ≡ block_plain s h maxima m n at
+unfolding block_at block_plain
 block-plain s h maxima m n at =
     let t = tile_of (shape_of h) n in
     let top = get_or maxima t.d 0 in
@@ -123,7 +123,7 @@ chain-plain : (s : List ℕ) (h : Header) (maxima m : List ℕ) (f n at : ℕ) �
 unfolding chain chain_plain
 chain-plain s h maxima m zero n at = refl
 chain-plain s h maxima m (suc f) n at =
-    plain-bind (block_at_lem s h maxima m n at) _ _ (block-plain s h maxima m n at) (λ b.
+    plain-bind (block_at s h maxima m n at) _ _ (block-plain s h maxima m n at) (λ b.
     plain-bind (chain s h maxima m f (suc n) b.next) _ _ (chain-plain s h maxima m f (suc n) b.next) (λ c. refl))
 
 all_plain : (s : List ℕ) (h : Header) (maxima m : List ℕ) (at : ℕ) → marked 0 (all_blocks s h maxima m at) ≡ chain_plain s h maxima m (block_count (shape_of h)) 0 at

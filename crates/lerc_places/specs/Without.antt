@@ -2,7 +2,7 @@
 -- nothing, or is there without its mark already (`mask_in`, `mode_byte`).
 -- Assumes nothing.
 use Rattle.std.specs.Prelude.{ℕ, zero, suc, ◌+◌, ◌*◌, Bool, not, cond, ◌&&◌, List, [], ◌∷◌, length, get_or, take, leb, ltb, eqb}
-use Rattle.lerc_words.specs.Res.{Res, ok, fail, ◌>>=◌, refuse, require, word_at_lem}
+use Rattle.lerc_words.specs.Res.{Res, ok, fail, ◌>>=◌, refuse, require, word_at}
 use Rattle.lerc_numeric.specs.Numeric.{same}
 use Rattle.lerc_header.specs.declared.Header.{Header}
 use Rattle.lerc_header.specs.Header.{shape_of, ranges_at, held, header_says}
@@ -65,13 +65,13 @@ moded_plain s kind error at = cond (has_mode_byte kind error) (mode_byte s at) (
 -- `swept`
 unfoldable pub swept_plain : List ℕ → ℕ → ℕ → ℕ → Res Way
 swept_plain s kind error at = do
-  sweep ← word_at_lem 1 s at
+  sweep ← word_at 1 s at
   _ ← require (ltb sweep 2) 8
   cond (eqb sweep 1) (ok (raw_from (at + 1))) (moded_plain s kind error (at + 1))
 
 -- ---- blocks
 
--- `block_at_lem`
+-- `block_at`
 unfoldable pub block_plain : List ℕ → Header → List ℕ → List ℕ → ℕ → ℕ → Res Block
 block_plain s h maxima m n at =
     let t = tile_of (shape_of h) n in

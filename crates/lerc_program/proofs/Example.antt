@@ -4,7 +4,7 @@ use Prim.Native.Nat.{ℕ}
 use mathlib.Core.Path.{◌≡◌, refl}
 use mathlib.Core.List.{List, [], ◌∷◌, ◌++◌}
 use lib.Ieee.{size, span, climb}
-use Rattle.lerc_words.specs.Res.{word_at_lem, little, each}
+use Rattle.lerc_words.specs.Res.{word_at, little, each}
 use Rattle.lerc_words.specs.Lists.{from, count, all_to}
 use Rattle.lerc_numeric.specs.Numeric.{mag, code, sum, counted_sum, scaled, less, same, lesser}
 use Rattle.lerc_numeric.specs.Kinds.{integer, value_of, whole, cut}
@@ -22,7 +22,7 @@ use Rattle.lerc_block.specs.Block.{raw_words, level_block, stepped_block, offset
 use Rattle.lerc_image.specs.Geometry.{tile_of, pixel_of, block_of, place_in, rank}
 use Rattle.lerc_image.specs.Paint.{index_of}
 use Rattle.lerc_sweep.specs.Sweep.{mode_byte, moded, sweep_byte, swept}
-use Rattle.lerc_image.specs.Blocks.{block_at_lem, chain}
+use Rattle.lerc_image.specs.Blocks.{block_at, chain}
 use Rattle.lerc_text.specs.Ascii.{ascii}
 use Rattle.lerc_text.specs.Text.{digits, line, refusal_line, shape_line, cell_line, cell_lines}
 use Rattle.lerc.specs.Meaning.{raw_body, block_body, swept_body, constant_body, body_says, cell_word, meaning_from, meaning}
@@ -52,9 +52,9 @@ pub record Computed : Type 0 where
   pub unsummed : program_text (front (0 ∷ 0 ∷ 0 ∷ 0 ∷ []) 3 79 0 ++ (0x0A ∷ 0x0C ∷ 0x00 ∷ 0x00 ∷ 0x01 ∷ 0x0A ∷ 0x82 ∷ 0x03 ∷ 0x24 ∷ [])) ≡ ascii "refused 13 at 0\n"
 
 pub computed : Computed
-unfolding word_at_lem little each from count all_to mag code sum counted_sum scaled less same lesser integer value_of whole cut sample_at stored offset_kinds offset_kind
+unfolding word_at little each from count all_to mag code sum counted_sum scaled less same lesser integer value_of whole cut sample_at stored offset_kinds offset_kind
     counts plan tabled unpacked values_of looked_up bits.digits chosen pixel_valid copy_at repeat_at end_at signed_at step_at runs coded strips error_right pair_right fields_right within_ceilings
     held key_right header_of word fold sums_to closed_to with_last joined checksum checksum_right header_says uniform kept unrolled mask_in uniform_ranges number_at by_depth coded_ranges pairs_right first_wrong wrong_number_at ranges_says constant_words raw_words
-    level_block step_of stepped_block offset_at finite_offset offset_block formed flag_at block_says tile_of pixel_of block_of place_in rank index_of block_at_lem chain mode_byte moded
+    level_block step_of stepped_block offset_at finite_offset offset_block formed flag_at block_says tile_of pixel_of block_of place_in rank index_of block_at chain mode_byte moded
     sweep_byte swept raw_body block_body swept_body constant_body body_says cell_word meaning_from meaning size span climb digits line refusal_line shape_line cell_line cell_lines program_says image_text
 computed = record { rules = refl; invalid = refl; refused = refl; unsummed = refl }

@@ -4,7 +4,7 @@ use mathlib.Core.Path.{◌≡◌, ap, ◌∙◌}
 use mathlib.Core.List.{List}
 use Prim.Native.Nat.{ℕ, ◌+◌, ◌≤◌, ◌<◌}
 use lib.ListN.{length}
-use Rattle.lerc_words.specs.Res.{ok, fail, refuse, little, word_at_lem}
+use Rattle.lerc_words.specs.Res.{ok, fail, refuse, little, word_at}
 use Rattle.lerc_words.proofs.Binding.{bind_is}
 use Rattle.lerc_words.proofs.Little.{Bytes, Stays, word_at-ok, word_at-no, word_at-is, word_at-stays, little-lt, byte_pow}
 use Rattle.lerc_numeric.specs.Kinds.{type_size, modulus, value_of}
@@ -27,7 +27,7 @@ pub record Sampled (kind : ℕ) (s : List ℕ) (at v : ℕ) : Type 0 where
 pub sample-is : (kind : ℕ) (s : List ℕ) (at v : ℕ) → sample_at kind s at ≡ ok v → Sampled kind s at v
 unfolding sample_at
 sample-is kind s at v e =
-    let b = bind_is (word_at_lem (type_size kind) s at) (λ w. ok (value_of kind w)) e in
+    let b = bind_is (word_at (type_size kind) s at) (λ w. ok (value_of kind w)) e in
     let w = word_at-is (type_size kind) s at b.0 b.1 in
     let z : v ≡ value_of kind b.0 = cc b.2 in
     record { inside = w.inside; value = z ∙ ap (value_of kind) w.value }
@@ -42,5 +42,5 @@ sample-stored kind s at v b e =
 pub sample-stays : (kind j : ℕ) (s t : List ℕ) (at to k v : ℕ) → sample_at kind s (at + j) ≡ ok v → j + type_size kind ≤ k → Stays s at t to k → sample_at kind t (to + j) ≡ ok v
 unfolding sample_at
 sample-stays kind j s t at to k v e h l =
-    let b = bind_is (word_at_lem (type_size kind) s (at + j)) (λ w. ok (value_of kind w)) e in
+    let b = bind_is (word_at (type_size kind) s (at + j)) (λ w. ok (value_of kind w)) e in
     rw (word_at-stays (type_size kind) j b.1 h l) b.2

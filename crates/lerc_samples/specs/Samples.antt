@@ -1,7 +1,7 @@
 -- Numbers of a kind out of bytes, values as stored words, and the kinds of a block's offset.
 -- Assumes nothing.
 use Rattle.std.specs.Prelude.{cond, List, [], ◌∷◌, ℕ, get_or, ltb, eqb}
-use Rattle.lerc_words.specs.Res.{Res, ok, fail, ◌>>=◌, refuse, require, word_at_lem}
+use Rattle.lerc_words.specs.Res.{Res, ok, fail, ◌>>=◌, refuse, require, word_at}
 use Rattle.lerc_words.specs.declared.Refusal.{Refusal}
 use Rattle.lerc_numeric.specs.Kinds.{type_size, value_of, narrowed, cut}
 use Rattle.lerc_samples.specs.declared.OffsetAnswer.{OffsetAnswer}
@@ -14,7 +14,7 @@ use Rattle.lerc_samples.specs.declared.StoredAnswer.TheVariants as word
 -- a number of the kind at a place, as a binary64; "passes the declared size": 1
 unfoldable pub sample_at : ℕ → List ℕ → ℕ → Res ℕ
 sample_at kind s at = do
-  w ← word_at_lem (type_size kind) s at
+  w ← word_at (type_size kind) s at
   ok (value_of kind w)
 
 -- "Storing: kinds 0 to 5 cut ..; 6 rounds to binary32 ..; 7 keeps the bits."

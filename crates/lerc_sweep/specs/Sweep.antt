@@ -2,7 +2,7 @@
 -- Assumes nothing.
 use Rattle.std.specs.Prelude.{ℕ, ◌+◌, Bool, cond, ◌&&◌, List, ltb, eqb}
 use Rattle.lerc_words.specs.declared.Refusal.{Refusal}
-use Rattle.lerc_words.specs.Res.{Res, ok, fail, ◌>>=◌, refuse, marked, require, word_at_lem}
+use Rattle.lerc_words.specs.Res.{Res, ok, fail, ◌>>=◌, refuse, marked, require, word_at}
 use Rattle.lerc_sweep.specs.declared.WayAnswer.{WayAnswer}
 use Rattle.lerc_sweep.specs.declared.WayAnswer.TheVariants as answer
 
@@ -18,7 +18,7 @@ has_mode_byte kind error = ltb kind 2 && eqb error 0x3fe0000000000000
 -- "0 blocks; .. others 8"; "Mode bytes 1 (delta) and 2 now decode"
 unfoldable pub mode_byte : List ℕ → ℕ → Res Way
 mode_byte s at = do
-  mode ← word_at_lem 1 s at
+  mode ← word_at 1 s at
   _ ← require (ltb mode 3) 8
   ok (cond (eqb mode 0) (blocks_from (at + 1)) (huffman_from (eqb mode 1) at))
 
@@ -33,7 +33,7 @@ moded s kind error at = cond (has_mode_byte kind error) (mode_at s at) (ok (bloc
 -- "Else a sweep byte: 1 is raw words ..; 0 goes on; others are 8."
 unfoldable pub sweep_byte : List ℕ → ℕ → Res ℕ
 sweep_byte s at = do
-  sweep ← word_at_lem 1 s at
+  sweep ← word_at 1 s at
   _ ← require (ltb sweep 2) 8
   ok sweep
 

@@ -11,7 +11,7 @@ use lib.Seq.{get_or-take}
 use lib.Dec.{leb, ltb, eqb}
 use borrow.Author.Tests.{ltb-true, ltb-false, lt-ltb, le-ltb, leb-true, leb-false, le-leb, lt-leb, eqb-true, eqb-false, eq-eqb, ne_eqb}
 use Rattle.lerc_words.specs.declared.Refusal.{Refusal}
-use Rattle.lerc_words.specs.Res.{Res, ok, fail, ◌>>=◌, refuse, require, word_at_lem, word_says, each}
+use Rattle.lerc_words.specs.Res.{Res, ok, fail, ◌>>=◌, refuse, require, word_at, word_says, each}
 use Rattle.lerc_words.proofs.Binding.{bind-fail, bind_is, require-is, ok-is}
 use Rattle.lerc_words.proofs.Little.{word_at-fails, word_at-no}
 use Rattle.lerc_words.proofs.Each.{each-replicate-fails}
@@ -31,19 +31,19 @@ use Rattle.lerc_theorems.proofs.Demands.{demand, reading, reading-one, choosing,
 -- ---- words and values
 
 -- a word that cannot be read is 1
-pub word-one : (n : ℕ) (s : List ℕ) (at : ℕ) → OnlyNumber 1 (word_at_lem n s at)
+pub word-one : (n : ℕ) (s : List ℕ) (at : ℕ) → OnlyNumber 1 (word_at n s at)
 word-one n s at r e = let w = word_at-no n s at (word_at-fails n s at e) in cc
 
 module _ (s : List ℕ) (at size : ℕ) where
   word-refused : {n : Refusal} → word_says s at size ≡ fail n → WordRefused s at size n
-  unfolding word_says word_at_lem
+  unfolding word_says word_at
   word-refused e =
       let P = WordRefused s at size in
       demand P (leb size 8) 1 _ e (λ t. word_wide (leb-false _ _ t)) (λ t e.
       demand P (leb (at + size) (length s)) 1 _ e (λ u. word_cut (leb-true _ _ t) (leb-false _ _ u)) (λ u e. not-refused e))
 
   refused-word : {n : Refusal} → WordRefused s at size n → word_says s at size ≡ fail n
-  unfolding word_says word_at_lem
+  unfolding word_says word_at
   refused-word (word_wide l) = rw (lt-leb _ _ l)
   refused-word (word_cut k l) = rw (le-leb _ _ k, lt-leb _ _ l)
 
@@ -53,7 +53,7 @@ module _ (s : List ℕ) (at size : ℕ) where
 module _ (kind : ℕ) (s : List ℕ) (at : ℕ) where
   sample-refused : {n : Refusal} → sample_at kind s at ≡ fail n → SampleRefused kind s at n
   unfolding sample_at
-  sample-refused e = reading-one (SampleRefused kind s at) 1 (word_at_lem (type_size kind) s at) _ (word-one (type_size kind) s at) e (λ d. sample-cut (word_at-fails (type_size kind) s at d)) (λ v d e. not-refused e)
+  sample-refused e = reading-one (SampleRefused kind s at) 1 (word_at (type_size kind) s at) _ (word-one (type_size kind) s at) e (λ d. sample-cut (word_at-fails (type_size kind) s at d)) (λ v d e. not-refused e)
 
   refused-sample : {n : Refusal} → SampleRefused kind s at n → sample_at kind s at ≡ fail n
   unfolding sample_at
@@ -172,7 +172,7 @@ module _ (s : List ℕ) where
       let P = TabledRefused s at n bits in
       demand P (ltb 0 bits) 8 _ e (λ t. no_bits (let w = ltb-false 0 bits t in omega arith)) (λ t e.
       let b = ltb-true 0 bits t in
-      reading-one P 1 (word_at_lem 1 s at) _ (word-one 1 s at) e (λ d. entries-cut b (word_at-fails 1 s at d)) (λ v d e.
+      reading-one P 1 (word_at 1 s at) _ (word-one 1 s at) e (λ d. entries-cut b (word_at-fails 1 s at d)) (λ v d e.
       demand P (leb 2 v) 8 _ e (λ u. entries-few v b d (leb-false _ _ u)) (λ u e.
       demand P (leb (table_plan n bits v (at + 1)).next (length s)) 1 _ e (λ w. table-cut v b d (leb-true _ _ u) (leb-false _ _ w)) (λ w e. not-refused e))))
 
@@ -202,10 +202,10 @@ module _ (s : List ℕ) where
   unfolding plan
   plan-refused at e =
       let P = PlanRefused s at in
-      reading-one P 1 (word_at_lem 1 s at) _ (word-one 1 s at) e (λ d. counts-cut (word_at-fails 1 s at d)) (λ h d e.
+      reading-one P 1 (word_at 1 s at) _ (word-one 1 s at) e (λ d. counts-cut (word_at-fails 1 s at d)) (λ h d e.
       demand P (ltb (h / 64) 3) 8 _ e (λ t. width-wrong h d (ltb-false _ _ t)) (λ t e.
       let l = ltb-true (h / 64) 3 t in
-      reading-one P 1 (word_at_lem (count_bytes h) s (at + 1)) _ (word-one (count_bytes h) s (at + 1)) e (λ q. count_cut h d l (word_at-fails (count_bytes h) s (at + 1) q)) (λ n q e.
+      reading-one P 1 (word_at (count_bytes h) s (at + 1)) _ (word-one (count_bytes h) s (at + 1)) e (λ q. count_cut h d l (word_at-fails (count_bytes h) s (at + 1) q)) (λ n q e.
       demand P (leb n 256) 8 _ e (λ u. count-large h n d l q (leb-false _ _ u)) (λ u e. packed-refused h n d l q (leb-true _ _ u) (runs-at (at + 1 + count_bytes h) n h e)))))
 
   refused-plan : {j : Refusal} {at : ℕ} → PlanRefused s at j → plan s at ≡ fail j
@@ -319,12 +319,12 @@ module _ (s : List ℕ) (kind error top : ℕ) where
   at_offset (offset-not-finite k v d q f) = rw (d, q, f)
   at_offset (levels-refused k v d q f r) = rw (d, q, f, at-levels r)
 
-  block_at_lem : {j : Refusal} (at x n : ℕ) → block_says s at kind error top x n ≡ fail j → BlockRefused s at kind error top x n j
+  block_at : {j : Refusal} (at x n : ℕ) → block_says s at kind error top x n ≡ fail j → BlockRefused s at kind error top x n j
   unfolding block_says flag_at formed raw_words
-  block_at_lem at x n e =
+  block_at at x n e =
       let P = BlockRefused s at kind error top x n in
       reading P (flag_at s at x) _ e
-      (λ e. reading-one P 1 (word_at_lem 1 s at) _ (word-one 1 s at) e (λ d. flag-cut (word_at-fails 1 s at d)) (λ flag d e.
+      (λ e. reading-one P 1 (word_at 1 s at) _ (word-one 1 s at) e (λ d. flag-cut (word_at-fails 1 s at d)) (λ flag d e.
       demand P (eqb (flag / 4 % 16) (x / 8 % 16)) 8 _ e (λ t. check-wrong flag d (eqb-false _ _ t)) (λ t e. not-refused e)))
       (λ flag d e.
       let (d, t) = flag_is s at x d in
@@ -341,11 +341,11 @@ module _ (s : List ℕ) (kind error top : ℕ) where
   at_block (offset-refused flag d c z y r) = rw (d, eq-eqb _ _ c, ne_eqb _ _ z, ne_eqb _ _ y, at_offset r)
 
   pub block-exactly : (at x n : ℕ) (j : Refusal) → (block_says s at kind error top x n ≡ fail j) ↔ BlockRefused s at kind error top x n j
-  block-exactly at x n j = (block_at_lem at x n, at_block)
+  block-exactly at x n j = (block_at at x n, at_block)
 
   read-block-at : {j : Refusal} (at x n : ℕ) → read_block_says s at kind error top x n ≡ fail j → ReadBlockRefused s at kind error top x n j
   unfolding read_block_says
-  read-block-at at x n e = demand (ReadBlockRefused s at kind error top x n) (leb n tile_limit) 8 _ e (λ t. tile-large (leb-false _ _ t)) (λ t e. not-read (leb-true _ _ t) (block_at_lem at x n e))
+  read-block-at at x n e = demand (ReadBlockRefused s at kind error top x n) (leb n tile_limit) 8 _ e (λ t. tile-large (leb-false _ _ t)) (λ t e. not-read (leb-true _ _ t) (block_at at x n e))
 
   at-read-block : {j : Refusal} {at x n : ℕ} → ReadBlockRefused s at kind error top x n j → read_block_says s at kind error top x n ≡ fail j
   unfolding read_block_says
@@ -364,10 +364,10 @@ module _ (s : List ℕ) (kind : ℕ) where
       let P = OffsetPlanRefused s at kind flag in
       reading P (offset_kind kind (flag / 64)) _ e (λ d. plan-kind (kind-refuses kind (flag / 64) d)) (λ k d e.
       reading P (finite_word k s at) _ e
-      (λ e. reading-one P 1 (word_at_lem (type_size k) s at) _ (word-one (type_size k) s at) e (λ q. plan-offset-cut k d (word_at-fails (type_size k) s at q)) (λ w q e.
+      (λ e. reading-one P 1 (word_at (type_size k) s at) _ (word-one (type_size k) s at) e (λ q. plan-offset-cut k d (word_at-fails (type_size k) s at q)) (λ w q e.
       demand P (finite (value_of k w)) 8 _ e (plan-not-finite k w d q) (λ f e. not-refused e)))
       (λ w q e.
-      let (v, q, g) = bind_is (word_at_lem (type_size k) s at) _ q in
+      let (v, q, g) = bind_is (word_at (type_size k) s at) _ q in
       let (_, f, g) = bind_is (require (finite (value_of k v)) 8) _ g in
       let z : v ≡ w = ok-is g in
       choosing P (eqb (flag % 4) 3) _ _ e (λ t e. not-refused e) (λ t e.
@@ -387,7 +387,7 @@ module _ (s : List ℕ) (kind : ℕ) where
       demand P (leb n tile_limit) 8 _ e (λ t. plan-tile-large (leb-false _ _ t)) (λ t e.
       let l = leb-true n tile_limit t in
       reading P (flag_at s at x) _ e
-      (λ e. reading-one P 1 (word_at_lem 1 s at) _ (word-one 1 s at) e (λ d. plan-flag-cut l (word_at-fails 1 s at d)) (λ flag d e.
+      (λ e. reading-one P 1 (word_at 1 s at) _ (word-one 1 s at) e (λ d. plan-flag-cut l (word_at-fails 1 s at d)) (λ flag d e.
       demand P (eqb (flag / 4 % 16) (x / 8 % 16)) 8 _ e (λ u. plan-check-wrong flag l d (eqb-false _ _ u)) (λ u e. not-refused e)))
       (λ flag d e.
       let (d, u) = flag_is s at x d in

@@ -8,7 +8,7 @@ use native.Mathlib.Omega.{arith}
 use lib.ListN.{length, get_or, get_or-eq_default}
 use lib.Dec.{leb, ltb, eqb}
 use borrow.Author.Tests.{leb-true, eqb-false, ne_eqb}
-use Rattle.lerc_words.specs.Res.{Res, ok, ◌>>=◌, marked, require, word_at_lem}
+use Rattle.lerc_words.specs.Res.{Res, ok, ◌>>=◌, marked, require, word_at}
 use Rattle.lerc_words.proofs.Binding.{bind_is, require-is, ok-is, cond-elim}
 use Rattle.lerc_words.proofs.Marking.{marked-is}
 use Rattle.lerc_words.proofs.Little.{word_at-is}
@@ -22,7 +22,7 @@ use Rattle.lerc_ranges.proofs.Judged.{RangesKept}
 use Rattle.lerc_block.specs.Block.{Block, raw_words}
 use Rattle.lerc_block.proofs.Accepted.{block-ends}
 use Rattle.lerc_sweep.specs.Sweep.{Way, raw_from, blocks_from, huffman_from, has_mode_byte, mode_byte, mode_at, moded, sweep_byte, swept}
-use Rattle.lerc_image.specs.Blocks.{Chain, block_at_lem, chain, all_blocks}
+use Rattle.lerc_image.specs.Blocks.{Chain, block_at, chain, all_blocks}
 use Rattle.lerc_image.proofs.Chain.{chain-parts, chain-none, chain-lengths, chain-block}
 use Rattle.lerc_image.proofs.Stages.{get_d_any}
 use Rattle.lerc_byte_image.specs.Image.{image_at}
@@ -45,7 +45,7 @@ module _ (s : List ℕ) where
   mode-in : (at : ℕ) (w : Way) → mode_at s at ≡ ok w → (at ≤ place_of w) × (place_of w ≤ length s)
   unfolding mode_byte
   mode-in at w e =
-      let (mode, p, e) = bind_is (word_at_lem 1 s at) _ (marked-is at (mode_byte s at) e) in
+      let (mode, p, e) = bind_is (word_at 1 s at) _ (marked-is at (mode_byte s at) e) in
       let (_, t8, e) = bind_is (require (ltb mode 3) 8) _ e in
       let i = (word_at-is 1 s at mode p).inside in
       let z : at + 1 ≡ place_of w = sym (mode-place (eqb mode 0) (eqb mode 1) at) ∙ ap place_of (ok-is e) in
@@ -59,10 +59,10 @@ module _ (s : List ℕ) where
       (λ _ e. rw (← ok-is {a = blocks_from at} {b = w} e) (omega arith, l))
 
   -- the sweep byte that was read, and that it is 0 or 1
-  pub sweep-is : (at sweep : ℕ) → marked at (sweep_byte s at) ≡ ok sweep → (word_at_lem 1 s at ≡ ok sweep) × (ltb sweep 2 ≡ true)
+  pub sweep-is : (at sweep : ℕ) → marked at (sweep_byte s at) ≡ ok sweep → (word_at 1 s at ≡ ok sweep) × (ltb sweep 2 ≡ true)
   unfolding sweep_byte
   sweep-is at sweep e =
-      let (v, p, e) = bind_is (word_at_lem 1 s at) _ (marked-is at (sweep_byte s at) e) in
+      let (v, p, e) = bind_is (word_at 1 s at) _ (marked-is at (sweep_byte s at) e) in
       let (_, t8, e) = bind_is (require (ltb v 2) 8) _ e in
       rw (← ok-is e) (p, require-is (ltb v 2) 8 t8)
 
@@ -101,8 +101,8 @@ judged-is s h r e =
 -- ---- chains
 
 module _ (s : List ℕ) (h : Header) (maxima m : List ℕ) where
-  pub block_in : (n at : ℕ) (b : Block) → block_at_lem s h maxima m n at ≡ ok b → (at < b.next) × (b.next ≤ length s)
-  unfolding block_at_lem
+  pub block_in : (n at : ℕ) (b : Block) → block_at s h maxima m n at ≡ ok b → (at < b.next) × (b.next ≤ length s)
+  unfolding block_at
   block_in n at b e = block-ends s at _ _ _ _ _ (marked-is at _ e)
 
   pub chain-in : (f n at : ℕ) (c : Chain) → at ≤ length s → chain s h maxima m f n at ≡ ok c → (at ≤ c.end) × (c.end ≤ length s)

@@ -12,7 +12,7 @@ use lib.ListN.{length, get_or, take}
 use lib.Dec.{leb, ltb, eqb}
 use borrow.Author.Tests.{ltb-true, ltb-false, lt-ltb, le-ltb, leb-true, leb-false, le-leb, lt-leb, eqb-false, ne_eqb, not-true, not-false}
 use Rattle.lerc_words.specs.declared.Refusal.{Refusal}
-use Rattle.lerc_words.specs.Res.{ok, fail, refuse, placed, require, word_at_lem}
+use Rattle.lerc_words.specs.Res.{ok, fail, refuse, placed, require, word_at}
 use Rattle.lerc_words.proofs.Binding.{bind_is, require-is, and_is, ok-is}
 use Rattle.lerc_words.proofs.Marking.{marked-fails}
 use Rattle.lerc_words.proofs.Little.{word_at-fails, word_at-no}
@@ -28,7 +28,7 @@ use Rattle.lerc_ranges.specs.Ranges.{pairs_right, ranges_says, constant_words}
 use Rattle.lerc_block.specs.Block.{Block, raw_words, block_says}
 use Rattle.lerc_image.specs.Geometry.{tile_of, valid_in_tile}
 use Rattle.lerc_sweep.specs.Sweep.{Way, raw_from, blocks_from, huffman_from, has_mode_byte, mode_byte, mode_at, moded, sweep_byte, swept}
-use Rattle.lerc_image.specs.Blocks.{Chain, block_at_lem, chain, all_blocks}
+use Rattle.lerc_image.specs.Blocks.{Chain, block_at, chain, all_blocks}
 use Rattle.lerc_image.specs.Walk.{way_walked, body_walked, walk_says}
 use Rattle.lerc_image.specs.Fill.{fill_says}
 use Rattle.lerc_image.specs.Tiles.{checked_tiles, tiles_says}
@@ -55,7 +55,7 @@ module _ (s : List ℕ) where
   mode-at at e =
       let P : Refusal → Type 0 = λ q. ModeRefused s at (placed at q) in
       let (_, e, z) = marked-fails at (mode_byte s at) e in
-      rw (z) (reading-one P 1 (word_at_lem 1 s at) _ (word-one 1 s at) e (λ d. mode-cut (word_at-fails 1 s at d)) (λ v d e.
+      rw (z) (reading-one P 1 (word_at 1 s at) _ (word-one 1 s at) e (λ d. mode-cut (word_at-fails 1 s at d)) (λ v d e.
       demand P (ltb v 3) 8 _ e (λ t. mode-wrong v d (ltb-false _ _ t)) (λ t e. not-refused e)))
 
   at-mode : {n : Refusal} {at : ℕ} → ModeRefused s at n → mode_at s at ≡ fail n
@@ -64,10 +64,10 @@ module _ (s : List ℕ) where
   at-mode (mode-wrong v d l) = rw (d, le-ltb v 3 l)
 
   -- a sweep byte that was accepted
-  sweep-is : {v : ℕ} (at : ℕ) → sweep_byte s at ≡ ok v → (word_at_lem 1 s at ≡ ok v) × (v < 2)
+  sweep-is : {v : ℕ} (at : ℕ) → sweep_byte s at ≡ ok v → (word_at 1 s at ≡ ok v) × (v < 2)
   unfolding sweep_byte
   sweep-is at e =
-      let (w, d, e) = bind_is (word_at_lem 1 s at) _ e in
+      let (w, d, e) = bind_is (word_at 1 s at) _ e in
       let (_, t, e) = bind_is (require (ltb w 2) 8) _ e in
       rw (← ok-is e) (d, ltb-true _ _ (require-is _ 8 t))
 
@@ -76,7 +76,7 @@ module _ (s : List ℕ) where
     unfolding sweep_byte
     sweep-at e =
         let P : Refusal → Type 0 = λ q. SweepRefused s kind error at (placed at q) in
-        reading-one P 1 (word_at_lem 1 s at) _ (word-one 1 s at) e (λ d. sweep-cut (word_at-fails 1 s at d)) (λ v d e.
+        reading-one P 1 (word_at 1 s at) _ (word-one 1 s at) e (λ d. sweep-cut (word_at-fails 1 s at d)) (λ v d e.
         demand P (ltb v 2) 8 _ e (λ t. sweep-wrong v d (ltb-false _ _ t)) (λ t e. not-refused e))
 
     sweep-refused : {n : Refusal} → swept s kind error at ≡ fail n → SweepRefused s kind error at n
@@ -102,8 +102,8 @@ module _ (s : List ℕ) where
 -- ---- blocks
 
 module _ (s : List ℕ) (h : Header) (maxima m : List ℕ) where
-  pub block-at-exactly : (n at : ℕ) (j : Refusal) → (block_at_lem s h maxima m n at ≡ fail j) ↔ BlockAtRefused s h maxima m n at j
-  unfolding block_at_lem
+  pub block-at-exactly : (n at : ℕ) (j : Refusal) → (block_at s h maxima m n at ≡ fail j) ↔ BlockAtRefused s h maxima m n at j
+  unfolding block_at
   block-at-exactly n at j =
       let t = tile_of (shape_of h) n in
       let top = get_or maxima t.d 0 in
@@ -115,21 +115,21 @@ module _ (s : List ℕ) (h : Header) (maxima m : List ℕ) where
   chain-refused zero n at e = not-refused e
   chain-refused {j} (suc f) n at e =
       let P = ChainRefused s h maxima m (suc f) n at in
-      reading P (block_at_lem s h maxima m n at) _ e (λ d. block_refused {j = j} 0 (record { starts = []; words = []; end = at }) (omega arith) refl (rw (add-zero) ((block-at-exactly n at j).0 d))) (λ b d e.
+      reading P (block_at s h maxima m n at) _ e (λ d. block_refused {j = j} 0 (record { starts = []; words = []; end = at }) (omega arith) refl (rw (add-zero) ((block-at-exactly n at j).0 d))) (λ b d e.
       reading P (chain s h maxima m f (suc n) b.next) _ e (λ q. later b d (chain-refused f (suc n) b.next q)) (λ c q e. not-refused e))
     where
-      later : (b : Block) → block_at_lem s h maxima m n at ≡ ok b → ChainRefused s h maxima m f (suc n) b.next j → ChainRefused s h maxima m (suc f) n at j
+      later : (b : Block) → block_at s h maxima m n at ≡ ok b → ChainRefused s h maxima m f (suc n) b.next j → ChainRefused s h maxima m (suc f) n at j
       later b d (block_refused k c l p q) =
           block_refused {j = j} (suc k) (record { starts = at ∷ c.starts; words = b.words ∷ c.words; end = c.end }) (omega arith) (rw (d, p)) (rw (add-suc) (rw (suc-add) at q))
 
-  refused-at : {j : Refusal} (f n at k : ℕ) (c : Chain) → k < f → chain s h maxima m k n at ≡ ok c → block_at_lem s h maxima m (n + k) c.end ≡ fail j → chain s h maxima m f n at ≡ fail j
+  refused-at : {j : Refusal} (f n at k : ℕ) (c : Chain) → k < f → chain s h maxima m k n at ≡ ok c → block_at s h maxima m (n + k) c.end ≡ fail j → chain s h maxima m f n at ≡ fail j
   unfolding chain
   refused-at zero n at k c l p q = absurd (omega arith)
   refused-at (suc f) n at zero c l p q =
       let z : at ≡ c.end = ap (λ (x : Chain). x.end) (ok-is p) in
       rw (rw (add-zero, ← z) at q)
   refused-at {j} (suc f) n at (suc k) c l p q =
-      let (b, d, p) = bind_is (block_at_lem s h maxima m n at) _ p in
+      let (b, d, p) = bind_is (block_at s h maxima m n at) _ p in
       let (x, g, p) = bind_is (chain s h maxima m k (suc n) b.next) _ p in
       let z : x.end ≡ c.end = ap (λ (y : Chain). y.end) (ok-is p) in
       rw (d, refused-at {j = j} f (suc n) b.next k x (omega arith) g (rw (suc-add) (rw (add-suc, ← z) at q)))

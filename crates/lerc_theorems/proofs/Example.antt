@@ -7,7 +7,7 @@ use mathlib.Core.List.{List, [], ◌∷◌, ◌++◌}
 use native.Mathlib.Omega.{arith}
 use lib.ListN.{length, replicate, get_or-append}
 use lib.Ieee.{size, span, climb}
-use Rattle.lerc_words.specs.Res.{Res, ok, fail, ◌>>=◌, refuse, word_at_lem, little, each}
+use Rattle.lerc_words.specs.Res.{Res, ok, fail, ◌>>=◌, refuse, word_at, little, each}
 use Rattle.lerc_words.specs.Lists.{from, count, all_to}
 use Rattle.lerc_numeric.specs.Numeric.{mag, code, sum, counted_sum, scaled, less, same, lesser}
 use Rattle.lerc_numeric.specs.Kinds.{integer, value_of, whole, cut}
@@ -25,7 +25,7 @@ use Rattle.lerc_block.specs.Block.{level_block, offset_at, finite_offset, offset
 use Rattle.lerc_image.specs.Geometry.{tile_of, pixel_of, block_of, place_in, rank, is_valid_cell}
 use Rattle.lerc_image.specs.Paint.{painted, in_block, index_of}
 use Rattle.lerc_sweep.specs.Sweep.{moded, sweep_byte, swept}
-use Rattle.lerc_image.specs.Blocks.{block_at_lem, chain}
+use Rattle.lerc_image.specs.Blocks.{block_at, chain}
 use Rattle.lerc_image.specs.declared.FillAnswer.{FillAnswer}
 use Rattle.lerc_image.specs.declared.FillAnswer.TheVariants as fill-answer
 use Rattle.lerc_image.specs.Fill.{fill_says, fill_count, fill_said, fill_image}
@@ -83,9 +83,9 @@ example = record {
 }
 
 pub opened : Opened example
-unfolding bytes_of word_at_lem little each from count all_to mag code sum counted_sum scaled less same lesser integer value_of whole cut sample_at stored offset_kinds offset_kind pixel_valid strips error_right pair_right
+unfolding bytes_of word_at little each from count all_to mag code sum counted_sum scaled less same lesser integer value_of whole cut sample_at stored offset_kinds offset_kind pixel_valid strips error_right pair_right
     fields_right within_ceilings held key_right header_of word fold sums_to closed_to with_last joined checksum checksum_right header_says uniform mask_in number_at by_depth coded_ranges pairs_right ranges_says read_ranges_says level_block
-    offset_at finite_offset offset_block formed flag_at block_says tile_of pixel_of rank block_at_lem chain moded sweep_byte swept block_body swept_body body_says meaning_from meaning size span climb
+    offset_at finite_offset offset_block formed flag_at block_says tile_of pixel_of rank block_at chain moded sweep_byte swept block_body swept_body body_says meaning_from meaning size span climb
 opened = record {
   means = refl;
   kept = omega arith;
@@ -109,7 +109,7 @@ unfolding bytes_of little from count all_to pixel_valid strips header_of tile_of
 some-answers said left f = answered example opened some said example.image left opened.room f
 
 pub some-filled : (said : List FillAnswer) (left : List ℕ) → CaseFills example some said left → left ≡ 1 ∷ 9 ∷ 9 ∷ 9 ∷ 9 ∷ 9 ∷ 9 ∷ 8 ∷ 9 ∷ []
-unfolding bytes_of word_at_lem little each from count all_to mag code sum counted_sum scaled less same lesser integer value_of whole cut sample_at stored offset_kinds offset_kind pixel_valid strips error_right pair_right
+unfolding bytes_of word_at little each from count all_to mag code sum counted_sum scaled less same lesser integer value_of whole cut sample_at stored offset_kinds offset_kind pixel_valid strips error_right pair_right
     fields_right within_ceilings held key_right header_of number_at by_depth coded_ranges pairs_right level_block offset_at finite_offset offset_block formed flag_at block_says tile_of pixel_of block_of place_in rank
-    is_valid_cell painted in_block index_of block_at_lem fill_says fill_image fill_each size span climb
+    is_valid_cell painted in_block index_of block_at fill_says fill_image fill_each size span climb
 some-filled said left f = fill-calls some said example.image left f

@@ -22,7 +22,7 @@ use Rattle.lerc_validity.specs.Validity.{MaskInForce, bytes_of}
 use Rattle.lerc_ranges.specs.Ranges.{pairs_right, read_ranges_says}
 use Rattle.lerc_image.specs.Paint.{filled_block, fills}
 use Rattle.lerc_sweep.specs.Sweep.{Way, raw_from, blocks_from, huffman_from, swept}
-use Rattle.lerc_image.specs.Blocks.{Chain, block_at_lem, all_blocks}
+use Rattle.lerc_image.specs.Blocks.{Chain, block_at, all_blocks}
 use Rattle.lerc_image.specs.Fill.{fill_says, fill_image}
 use Rattle.lerc_image.specs.Walk.{way_walked, body_walked, walk_says, walk_list}
 use Rattle.lerc_image.proofs.Chain.{chain-block, chain-lengths}
@@ -140,7 +140,7 @@ module _ (b : List ℕ) (h : Header) (r : Ranges) (m : List ℕ) (entries : ℕ)
 
   module _ (list : List ℕ) (long : block_count (shape_of h) ≤ length list) (starts : (n : ℕ) → n < block_count (shape_of h) → get_or list n 0 ≡ get_or c.starts n 0) where
     module _ (n room : ℕ) (l : n < block_count (shape_of h)) (q : cells (shape_of h) ≤ room) where
-      pub here : block_at_lem (take h.size b) h r.max m n (get_or list n 0) ≡ ok (record { words = words_of n; next = get_or c.starts (suc n) c.end })
+      pub here : block_at (take h.size b) h r.max m n (get_or list n 0) ≡ ok (record { words = words_of n; next = get_or c.starts (suc n) c.end })
       here =
           let s = take h.size b in
           let k = block_count (shape_of h) in

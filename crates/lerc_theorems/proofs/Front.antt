@@ -10,7 +10,7 @@ use lib.ListN.{length, get_or, take, drop, replicate, length-drop}
 use lib.Seq.{get_or-drop, take-nil}
 use lib.Dec.{leb, ltb, eqb}
 use borrow.Author.Tests.{le-leb, ltb-true, eqb-false}
-use Rattle.lerc_words.specs.Res.{ok, ◌>>=◌, marked, require, each, little, word_at_lem}
+use Rattle.lerc_words.specs.Res.{ok, ◌>>=◌, marked, require, each, little, word_at}
 use Rattle.lerc_words.specs.Lists.{tabulate}
 use Rattle.lerc_words.proofs.Binding.{bind_is, require-is, ok-is}
 use Rattle.lerc_words.proofs.Marking.{marked-ok, marked-is}
@@ -35,7 +35,7 @@ use Rattle.lerc_mask.specs.Mask.{mask_field}
 use Rattle.lerc_validity.specs.Validity.{uniform, kept, unrolled, mask_in, mask_says}
 use Rattle.lerc_ranges.specs.Ranges.{uniform_ranges, number_at, by_depth, maxima_at, ranges_end, coded_ranges, ranges_says, constant_words}
 use Rattle.lerc_sweep.specs.Sweep.{Way, raw_from, blocks_from, huffman_from, has_mode_byte, mode_byte, mode_at, moded, sweep_byte, swept}
-use Rattle.lerc_image.specs.Blocks.{Chain, block_at_lem, chain, all_blocks}
+use Rattle.lerc_image.specs.Blocks.{Chain, block_at, chain, all_blocks}
 use Rattle.lerc_image.proofs.Chain.{chain-none, chain-front, chain-parts}
 use Rattle.lerc_byte_image.specs.Image.{image_at}
 use Rattle.lerc_byte_image.proofs.Front.{image-front, image-bounds}
@@ -51,7 +51,7 @@ module _ {s t : List ℕ} {j k : ℕ} (a : Agree s t j k) where
   pub little-agrees : (n at : ℕ) → j ≤ at → at + n ≤ k → little n s at ≡ little n t at
   little-agrees n at o l = little-same n s t at at (λ i r. a.bytes (at + i) (omega arith) (omega arith))
 
-  pub word-agrees : (n at v : ℕ) → word_at_lem n s at ≡ ok v → j ≤ at → at + n ≤ k → word_at_lem n t at ≡ ok v
+  pub word-agrees : (n at v : ℕ) → word_at n s at ≡ ok v → j ≤ at → at + n ≤ k → word_at n t at ≡ ok v
   word-agrees n at v e o l =
       let r : at + n ≤ length t = omega (arith, a.room) in
       word_at-ok n t at r ∙ ap ok (sym (little-agrees n at o l) ∙ sym (word_at-is n s at v e).value)
@@ -59,7 +59,7 @@ module _ {s t : List ℕ} {j k : ℕ} (a : Agree s t j k) where
   sample-agrees : (kind at v : ℕ) → sample_at kind s at ≡ ok v → j ≤ at → at + type_size kind ≤ k → sample_at kind t at ≡ ok v
   unfolding sample_at
   sample-agrees kind at v e o l =
-      let (w, p, e) = bind_is (word_at_lem (type_size kind) s at) _ e in
+      let (w, p, e) = bind_is (word_at (type_size kind) s at) _ e in
       rw (word-agrees (type_size kind) at w p o l) e
 
   -- ---- the four forms of a block
@@ -153,8 +153,8 @@ module _ {s t : List ℕ} {j k : ℕ} (a : Agree s t j k) where
   -- ---- the blocks of a body
 
   module _ (h : Header) (maxima m : List ℕ) where
-    pub at-agrees : (n at : ℕ) (b : Block) → j ≤ at → b.next ≤ k → block_at_lem s h maxima m n at ≡ ok b → block_at_lem t h maxima m n at ≡ ok b
-    unfolding block_at_lem
+    pub at-agrees : (n at : ℕ) (b : Block) → j ≤ at → b.next ≤ k → block_at s h maxima m n at ≡ ok b → block_at t h maxima m n at ≡ ok b
+    unfolding block_at
     at-agrees n at b o l e = marked-ok at (block-agrees h.kind h.error _ _ b l at _ o (marked-is at _ e))
 
     pub chain-agrees : (f n at : ℕ) (c : Chain) → j ≤ at → c.end ≤ k → chain s h maxima m f n at ≡ ok c → chain t h maxima m f n at ≡ ok c
@@ -175,7 +175,7 @@ module _ {s t : List ℕ} {j k : ℕ} (a : Agree s t j k) where
   mode-agrees : (at : ℕ) (w : Way) → j ≤ at → place_of w ≤ k → mode_at s at ≡ ok w → mode_at t at ≡ ok w
   unfolding mode_byte
   mode-agrees at w o l e =
-      let (mode, p, e) = bind_is (word_at_lem 1 s at) _ (marked-is at (mode_byte s at) e) in
+      let (mode, p, e) = bind_is (word_at 1 s at) _ (marked-is at (mode_byte s at) e) in
       let (_, q, e) = bind_is (require (ltb mode 3) 8) _ e in
       let z : at + 1 ≡ place_of w = sym (mode-place (eqb mode 0) (eqb mode 1) at) ∙ ap place_of (ok-is e) in
       rw (word-agrees 1 at mode p o (omega (arith, z)), require-is (ltb mode 3) 8 q) e

@@ -11,7 +11,7 @@ use lib.ListN.{length, get_or, get_or-eq_default}
 use lib.Dec.{leb, ltb, eqb}
 use borrow.Author.Tests.{ltb-true, ltb-false, lt-ltb, le-ltb, leb-true, leb-false, le-leb, lt-leb, eqb-true, eqb-false, eq-eqb, ne_eqb, not-false}
 use Rattle.lerc_words.specs.declared.Refusal.{Refusal}
-use Rattle.lerc_words.specs.Res.{Res, ok, fail, ◌>>=◌, refuse, require, word_at_lem}
+use Rattle.lerc_words.specs.Res.{Res, ok, fail, ◌>>=◌, refuse, require, word_at}
 use Rattle.lerc_words.specs.Lists.{total, all_to}
 use Rattle.lerc_words.proofs.Binding.{bind_is, and_is, ok-is}
 use Rattle.lerc_words.proofs.Little.{word_at-fails, word_at-no}
@@ -60,16 +60,16 @@ module _ (s : List ℕ) where
   unfolding range_at
   range_at_lem at e =
       let P = RangeRefused s at in
-      reading-one P 1 (word_at_lem 4 s at) _ (word-one 4 s at) e (λ d. version-cut (word_at-fails 4 s at d)) (λ version a e.
+      reading-one P 1 (word_at 4 s at) _ (word-one 4 s at) e (λ d. version-cut (word_at-fails 4 s at d)) (λ version a e.
       demand P (leb 2 version) 8 _ e (λ t. version_low version a (leb-false _ _ t)) (λ t e.
       let v = leb-true 2 version t in
-      reading-one P 1 (word_at_lem 4 s (at + 4)) _ (word-one 4 s (at + 4)) e (λ d. size-cut version a v (let w = word_at-fails 4 s (at + 4) d in omega arith)) (λ size b e.
+      reading-one P 1 (word_at 4 s (at + 4)) _ (word-one 4 s (at + 4)) e (λ d. size-cut version a v (let w = word_at-fails 4 s (at + 4) d in omega arith)) (λ size b e.
       demand P (leb size 256) 8 _ e (λ t. size-high version size a v b (leb-false _ _ t)) (λ t e.
       let z = leb-true size 256 t in
-      reading-one P 1 (word_at_lem 4 s (at + 8)) _ (word-one 4 s (at + 8)) e (λ d. first-cut version size a v b z (let w = word_at-fails 4 s (at + 8) d in omega arith)) (λ first c e.
+      reading-one P 1 (word_at 4 s (at + 8)) _ (word-one 4 s (at + 8)) e (λ d. first-cut version size a v b z (let w = word_at-fails 4 s (at + 8) d in omega arith)) (λ first c e.
       demand P (ltb first size) 8 _ e (λ t. first-high version size first a v b z c (ltb-false _ _ t)) (λ t e.
       let f = ltb-true first size t in
-      reading-one P 1 (word_at_lem 4 s (at + 12)) _ (word-one 4 s (at + 12)) e (λ d. end-cut version size first a v b z c f (let w = word_at-fails 4 s (at + 12) d in omega arith)) (λ end d e.
+      reading-one P 1 (word_at 4 s (at + 12)) _ (word-one 4 s (at + 12)) e (λ d. end-cut version size first a v b z c f (let w = word_at-fails 4 s (at + 12) d in omega arith)) (λ end d e.
       demand P (leb 1 (end - first) && leb (end - first) size) 8 _ e
       (λ t. ⊎_elim (λ u. end_low version size first end a v b z c f d (let w = leb-false 1 (end - first) u in omega arith))
       (λ u. end-high version size first end a v b z c f d (let w = leb-false (end - first) size u in omega arith)) (and-not (leb 1 (end - first)) _ t))

@@ -24,7 +24,7 @@ use Rattle.lerc_block.specs.Block.{Block}
 use Rattle.lerc_image.specs.Geometry.{tile_of, pixel_of, tile_size, block_of, place_in, rank, valid_in_tile, is_valid_cell}
 use Rattle.lerc_image.specs.Paint.{in_block, index_of, word_of, scattered}
 use Rattle.lerc_sweep.specs.Sweep.{Way, raw_from, blocks_from, huffman_from, swept}
-use Rattle.lerc_image.specs.Blocks.{block_at_lem, chain}
+use Rattle.lerc_image.specs.Blocks.{block_at, chain}
 use Rattle.lerc_image.specs.Fill.{fill_says, fill_image}
 use Rattle.lerc_image.specs.Walk.{way_walked, body_walked, walk_says}
 use Rattle.lerc_image.proofs.Partition.{block-lt, place-lt, pixel-lt}
@@ -83,14 +83,14 @@ module _ (b : List ℕ) (h : Header) (w : held h (length b) ≡ ok (extent_of h)
   shaped : Shaped (shape_of h)
   shaped = held-shaped h (length b) w
 
-  pub block_same : (s maxima : List ℕ) (n at : ℕ) → n < block_count (shape_of h) → block_at_lem s h maxima m n at ≡ block_at_lem s h maxima q n at
-  unfolding block_at_lem
+  pub block_same : (s maxima : List ℕ) (n at : ℕ) → n < block_count (shape_of h) → block_at s h maxima m n at ≡ block_at s h maxima q n at
+  unfolding block_at
   block_same s maxima n at l = rw (tile-same (shape_of h) shaped m q a n l)
 
   pub chain_same : (s maxima : List ℕ) (f n at : ℕ) → n + f ≤ block_count (shape_of h) → chain s h maxima m f n at ≡ chain s h maxima q f n at
   chain_same s maxima zero n at l = chain-none s h maxima m n at ∙ sym (chain-none s h maxima q n at)
   chain_same s maxima (suc f) n at l =
-      rw (chain-front s h maxima m f n at, chain-front s h maxima q f n at, block_same s maxima n at (omega arith)) (on (block_at_lem s h maxima q n at) (λ i. chain_same s maxima f (suc n) i (omega arith)))
+      rw (chain-front s h maxima m f n at, chain-front s h maxima q f n at, block_same s maxima n at (omega arith)) (on (block_at s h maxima q n at) (λ i. chain_same s maxima f (suc n) i (omega arith)))
     where
       on : (k : Res Block) → ((i : ℕ) → chain s h maxima m f (suc n) i ≡ chain s h maxima q f (suc n) i)
           → (k >>= λ d. chain s h maxima m f (suc n) d.next >>= λ c. ok (fronted at d c)) ≡ (k >>= λ d. chain s h maxima q f (suc n) d.next >>= λ c. ok (fronted at d c))

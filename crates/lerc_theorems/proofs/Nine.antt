@@ -12,7 +12,7 @@ use lib.Seq.{get_or-take}
 use lib.Dec.{leb, ltb, eqb}
 use borrow.Author.Tests.{eqb-false, ne_eqb}
 use Rattle.lerc_words.specs.declared.Refusal.{Refusal}
-use Rattle.lerc_words.specs.Res.{Res, ok, fail, ◌>>=◌, refuse, marked, require, each, word_at_lem}
+use Rattle.lerc_words.specs.Res.{Res, ok, fail, ◌>>=◌, refuse, marked, require, each, word_at}
 use Rattle.lerc_words.proofs.Binding.{ok-is, and_is, bind-fail}
 use Rattle.lerc_words.proofs.Marking.{marked-fails}
 use Rattle.lerc_words.proofs.Each.{each-replicate, each-replicate-fails}
@@ -34,7 +34,7 @@ use Rattle.lerc_ranges.specs.Ranges.{uniform_ranges, number_at, maxima_at, range
 use Rattle.lerc_ranges.proofs.ByDepth.{getD-by-depth}
 use Rattle.lerc_image.specs.Geometry.{tile_of, valid_in_tile}
 use Rattle.lerc_sweep.specs.Sweep.{Way, raw_from, blocks_from, huffman_from, has_mode_byte, mode_byte, mode_at, moded, sweep_byte, swept}
-use Rattle.lerc_image.specs.Blocks.{block_at_lem, chain, all_blocks}
+use Rattle.lerc_image.specs.Blocks.{block_at, chain, all_blocks}
 use Rattle.lerc_image.proofs.Partition.{tile-depth}
 use Rattle.lerc_byte_image.specs.Image.{image_at}
 use Rattle.lerc_byte_image.proofs.Refusals.{image-numbers}
@@ -87,8 +87,8 @@ never-plain m f p why e z = p (e ∙ ap fail (f why e ∙ ap refuse z))
 
 module _ (s : List ℕ) (h : Header) (maxima m : List ℕ) (plus : negative h.error ≡ false)
     (high : (n : ℕ) → n < block_count (shape_of h) → Storable h.kind (get_or maxima (tile_of (shape_of h) n).d 0)) where
-  at-spared : (n at : ℕ) → n < block_count (shape_of h) → NeverNine (block_at_lem s h maxima m n at)
-  unfolding block_at_lem
+  at-spared : (n at : ℕ) → n < block_count (shape_of h) → NeverNine (block_at s h maxima m n at)
+  unfolding block_at
   at-spared n at l =
       let t = tile_of (shape_of h) n in
       let top = get_or maxima t.d 0 in
@@ -100,12 +100,12 @@ module _ (s : List ℕ) (h : Header) (maxima m : List ℕ) (plus : negative h.er
   unfolding chain
   chain-spared zero n at l = never-ok _
   chain-spared (suc f) n at l =
-      never-bind (block_at_lem s h maxima m n at) _ (at-spared n at (omega arith))
+      never-bind (block_at s h maxima m n at) _ (at-spared n at (omega arith))
       (λ b. never-bind (chain s h maxima m f (suc n) b.next) _ (chain-spared f (suc n) b.next (omega arith)) (λ c. never-ok _))
 
 module _ (s : List ℕ) where
-  word-spared : (n at : ℕ) → NeverNine (word_at_lem n s at)
-  unfolding word_at_lem
+  word-spared : (n at : ℕ) → NeverNine (word_at n s at)
+  unfolding word_at
   word-spared n at = never-if (leb (at + n) (length s)) 1 _ refl (λ _. never-ok _)
 
   raw-spared : (kind at n : ℕ) → NeverNine (raw_words s at kind n)
@@ -116,14 +116,14 @@ module _ (s : List ℕ) where
   unfolding mode_byte
   mode-spared at =
       never-marked at (mode_byte s at)
-      (never-bind (word_at_lem 1 s at) _ (word-spared 1 at)
+      (never-bind (word_at 1 s at) _ (word-spared 1 at)
       (λ mode. never-if (ltb mode 3) 8 _ refl (λ _. never-ok _)))
 
   sweep-spared : (kind error at : ℕ) → NeverNine (swept s kind error at)
   unfolding swept sweep_byte moded
   sweep-spared kind error at =
       never-bind (marked at (sweep_byte s at)) _
-      (never-marked at (sweep_byte s at) (never-bind (word_at_lem 1 s at) _ (word-spared 1 at) (λ sweep. never-if (ltb sweep 2) 8 _ refl (λ _. never-ok _))))
+      (never-marked at (sweep_byte s at) (never-bind (word_at 1 s at) _ (word-spared 1 at) (λ sweep. never-if (ltb sweep 2) 8 _ refl (λ _. never-ok _))))
       (λ sweep. never-cond (eqb sweep 1) (never-ok _) (never-cond (has_mode_byte kind error) (mode-spared (at + 1)) (never-ok _)))
 
   image-spared : (h : Header) (mode : ℕ) → NeverNine (image_at s h mode)

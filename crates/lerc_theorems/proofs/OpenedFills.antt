@@ -27,7 +27,7 @@ use Rattle.lerc_image.specs.declared.WalkAnswer.{WalkAnswer}
 use Rattle.lerc_image.specs.declared.WalkAnswer.TheVariants as walk-answer
 use Rattle.lerc_image.specs.Geometry.{block_of, tile_of, valid_in_tile, is_valid_cell}
 use Rattle.lerc_image.specs.Paint.{in_block, among, painted, word_of, fills}
-use Rattle.lerc_image.specs.Blocks.{Chain, block_at_lem}
+use Rattle.lerc_image.specs.Blocks.{Chain, block_at}
 use Rattle.lerc_image.specs.Fill.{fill_says, fill_count, fill_said, fill_image}
 use Rattle.lerc_image.specs.Walk.{Walk, walk_says, walk_count}
 use Rattle.lerc_image.specs.Tiles.{tiles_says, tiles_image}
@@ -123,7 +123,7 @@ module _ (x : Case) (o : Opened x) where
       ∙ ap (λ (v : ℕ). v * x.header.depth) right.counts
 
   -- the block at its listed start, with the lent mask
-  pub block-is : (n : ℕ) → n < blocks_of x → block_at_lem (take x.header.size x.blob) x.header x.ranges.max x.mask n (get_or x.list n 0)
+  pub block-is : (n : ℕ) → n < blocks_of x → block_at (take x.header.size x.blob) x.header x.ranges.max x.mask n (get_or x.list n 0)
       ≡ ok (record { words = get_or x.chain.words n []; next = get_or x.chain.starts (suc n) x.chain.end })
   block-is n l =
       longer-block x.blob x.header walk.kept x.mask (in_mask x) alike (take x.header.size x.blob) x.ranges.max n (get_or x.list n 0) l

@@ -32,7 +32,7 @@ use Rattle.lerc_image.specs.declared.WalkAnswer.{WalkAnswer}
 use Rattle.lerc_image.specs.declared.WalkAnswer.TheVariants as walk-answer
 use Rattle.lerc_image.specs.declared.FillAnswer.{FillAnswer}
 use Rattle.lerc_image.specs.declared.FillAnswer.TheVariants as fill-answer
-use Rattle.lerc_image.specs.Blocks.{Chain, block_at_lem}
+use Rattle.lerc_image.specs.Blocks.{Chain, block_at}
 use Rattle.lerc_image.specs.Paint.{scattered}
 use Rattle.lerc_image.specs.Walk.{Walk, walk_says, walk_count, walk_of, walk_list}
 use Rattle.lerc_image.specs.Fill.{fill_says, fill_count, fill_image}
@@ -284,7 +284,7 @@ walk-own b c h r m n end told old new other long same p q =
       (walk_call q).list ∙ ap (λ (x : Res Chain). after x old (λ y. over y.starts old)) (f ∙ sym e) ∙ sym (walk_call p).list,
     )
 
-module _ (b c : List ℕ) (h : Header) (r : Ranges) (m list : List ℕ) (n room : ℕ) (k x : Block) (is : block_at_lem (take h.size b) h r.max m n (get_or list n 0) ≡ ok k)
+module _ (b c : List ℕ) (h : Header) (r : Ranges) (m list : List ℕ) (n room : ℕ) (k x : Block) (is : block_at (take h.size b) h r.max m n (get_or list n 0) ≡ ok k)
     (long : h.size ≤ length c) (same : SameWithin (get_or list n 0) k.next b c) where
   fill-other : fill_says b h r m list n room ≡ ok x → fill_says c h r m list n room ≡ ok x
   unfolding fill_says
@@ -295,11 +295,11 @@ module _ (b c : List ℕ) (h : Header) (r : Ranges) (m list : List ℕ) (n room 
       let z = block_in (take h.size b) h r.max m n (get_or list n 0) k is in
       let l : k.next ≤ h.size = omega (arith, z.1, length-take-le h.size b (long-b b c h long held-b)) in
       let a = agree h.size b c long l same in
-      let f : block_at_lem (take h.size c) h r.max m n (get_or list n 0) ≡ ok k = at-agrees a h r.max m n (get_or list n 0) k (omega arith) (omega arith) is in
+      let f : block_at (take h.size c) h r.max m n (get_or list n 0) ≡ ok k = at-agrees a h r.max m n (get_or list n 0) k (omega arith) (omega arith) is in
       rw (held-c b c h long held-b, f) (rw (held-b, is) at e)
 
 pub fill-own : (b c : List ℕ) (h : Header) (r : Ranges) (m list : List ℕ) (n words : ℕ) (told : FillAnswer) (old new other : List ℕ) (k : Block)
-    → block_at_lem (take h.size b) h r.max m n (get_or list n 0) ≡ ok k → h.size ≤ length c → SameWithin (get_or list n 0) k.next b c
+    → block_at (take h.size b) h r.max m n (get_or list n 0) ≡ ok k → h.size ≤ length c → SameWithin (get_or list n 0) k.next b c
     → FillCall b h r m list n (fill-answer.Filled words) old new → FillCall c h r m list n told old other → (told ≡ fill-answer.Filled words) × (other ≡ new)
 unfolding fill_image
 fill-own b c h r m list n words told old new other k is long same p q =

@@ -36,7 +36,7 @@ use Rattle.lerc_ranges.specs.Ranges.{ranges_says}
 use Rattle.lerc_image.specs.declared.WalkAnswer.{WalkAnswer}
 use Rattle.lerc_image.specs.Geometry.{is_valid_cell}
 use Rattle.lerc_sweep.specs.Sweep.{Way, raw_from, blocks_from, huffman_from, swept}
-use Rattle.lerc_image.specs.Blocks.{block_at_lem, Chain, chain}
+use Rattle.lerc_image.specs.Blocks.{block_at, Chain, chain}
 use Rattle.lerc_image.specs.Walk.{walk_says, walk_list, BlocksWalked}
 use Rattle.lerc_image.specs.Fill.{fill_says, fill_image}
 use Rattle.lerc_image.specs.Tiles.{block_end, head_starts, room_to_list, listed_tiles, is_listed, listed_image, room_to_fill, filled_tiles, starts_from, image_from, written_list, written_image, tiles_says, Tiled}
@@ -227,7 +227,7 @@ module _ (b : List ℕ) (h : Header) where
   written-most : (s maxima m : List ℕ) (f n at : ℕ) → length (starts_from s h maxima m f n at) ≤ f
   unfolding starts_from
   written-most s maxima m zero n at = le_refl 0
-  written-most s maxima m (suc f) n at = go (block_at_lem s h maxima m n at) (λ end. written-most s maxima m f (suc n) end)
+  written-most s maxima m (suc f) n at = go (block_at s h maxima m n at) (λ end. written-most s maxima m f (suc n) end)
     where
       go : (x : Res Block) → ((end : ℕ) → length (starts_from s h maxima m f (suc n) end) ≤ f) → suc (length (after x [] (λ b. starts_from s h maxima m f (suc n) b.next))) ≤ suc f
       go (fail r) k = omega arith
@@ -252,7 +252,7 @@ module _ (b : List ℕ) (h : Header) where
   from-writes : (s maxima m : List ℕ) (f n at : ℕ) (image : List ℕ) → AlikeBut (is_valid_cell (shape_of h) m) image (image_from s h maxima m f n at image)
   unfolding image_from in_block
   from-writes s maxima m zero n at image = but_same _ refl
-  from-writes s maxima m (suc f) n at image = go (block_at_lem s h maxima m n at) (λ end mid. from-writes s maxima m f (suc n) end mid)
+  from-writes s maxima m (suc f) n at image = go (block_at s h maxima m n at) (λ end mid. from-writes s maxima m f (suc n) end mid)
     where
       go : (x : Res Block) → ((end : ℕ) (mid : List ℕ) → AlikeBut (is_valid_cell (shape_of h) m) mid (image_from s h maxima m f (suc n) end mid))
           → AlikeBut (is_valid_cell (shape_of h) m) image (after x image (λ b. image_from s h maxima m f (suc n) b.next (scattered (shape_of h) m n b.words image)))

@@ -4,7 +4,7 @@
 -- Assumes nothing.
 use Rattle.std.specs.Prelude.{◌≡◌, ◌≢◌, true, false, List, [], ℕ, ◌+◌, ◌*◌, ◌/◌, ◌%◌, ◌≤◌, ◌<◌, length, get_or}
 use Rattle.lerc_words.specs.declared.Refusal.{Refusal}
-use Rattle.lerc_words.specs.Res.{ok, refuse, placed, word_at_lem}
+use Rattle.lerc_words.specs.Res.{ok, refuse, placed, word_at}
 use Rattle.lerc_numeric.specs.Numeric.{negative, finite}
 use Rattle.lerc_numeric.specs.Kinds.{type_size, value_of, whole, bound}
 use Rattle.lerc_numeric.specs.Steps.{step_of}
@@ -53,9 +53,9 @@ pub data ConstantsRefused (depth kind : ℕ) (values : List ℕ) : Refusal → T
 pub data TabledRefused (s : List ℕ) (at n bits : ℕ) : Refusal → Type 0 where
   no_bits : bits ≡ 0 → TabledRefused s at n bits (refuse 8)
   entries-cut : 0 < bits → length s < at + 1 → TabledRefused s at n bits (refuse 1)
-  entries-few : (v : ℕ) → 0 < bits → word_at_lem 1 s at ≡ ok v → v < 2 → TabledRefused s at n bits (refuse 8)
+  entries-few : (v : ℕ) → 0 < bits → word_at 1 s at ≡ ok v → v < 2 → TabledRefused s at n bits (refuse 8)
   -- "its whole length must fit (1) before its content is judged"
-  table-cut : (v : ℕ) → 0 < bits → word_at_lem 1 s at ≡ ok v → 2 ≤ v → length s < (table_plan n bits v (at + 1)).next → TabledRefused s at n bits (refuse 1)
+  table-cut : (v : ℕ) → 0 < bits → word_at 1 s at ≡ ok v → 2 ≤ v → length s < (table_plan n bits v (at + 1)).next → TabledRefused s at n bits (refuse 1)
 
 -- behind the count n: "Bit 5 clear: n values of `bits` bits .. Set: .."
 pub data PackedRefused (s : List ℕ) (at n h : ℕ) : Refusal → Type 0 where
@@ -65,10 +65,10 @@ pub data PackedRefused (s : List ℕ) (at n h : ℕ) : Refusal → Type 0 where
 -- "byte h; h/64 = 0, 1, 2 means a count n of 4, 2, 1 bytes, 3 is 8; n above 256 is 8"
 pub data PlanRefused (s : List ℕ) (at : ℕ) : Refusal → Type 0 where
   counts-cut : length s < at + 1 → PlanRefused s at (refuse 1)
-  width-wrong : (h : ℕ) → word_at_lem 1 s at ≡ ok h → 3 ≤ h / 64 → PlanRefused s at (refuse 8)
-  count_cut : (h : ℕ) → word_at_lem 1 s at ≡ ok h → h / 64 < 3 → length s < at + 1 + count_bytes h → PlanRefused s at (refuse 1)
-  count-large : (h n : ℕ) → word_at_lem 1 s at ≡ ok h → h / 64 < 3 → word_at_lem (count_bytes h) s (at + 1) ≡ ok n → 256 < n → PlanRefused s at (refuse 8)
-  packed-refused : {j : Refusal} (h n : ℕ) → word_at_lem 1 s at ≡ ok h → h / 64 < 3 → word_at_lem (count_bytes h) s (at + 1) ≡ ok n → n ≤ 256
+  width-wrong : (h : ℕ) → word_at 1 s at ≡ ok h → 3 ≤ h / 64 → PlanRefused s at (refuse 8)
+  count_cut : (h : ℕ) → word_at 1 s at ≡ ok h → h / 64 < 3 → length s < at + 1 + count_bytes h → PlanRefused s at (refuse 1)
+  count-large : (h n : ℕ) → word_at 1 s at ≡ ok h → h / 64 < 3 → word_at (count_bytes h) s (at + 1) ≡ ok n → 256 < n → PlanRefused s at (refuse 8)
+  packed-refused : {j : Refusal} (h n : ℕ) → word_at 1 s at ≡ ok h → h / 64 < 3 → word_at (count_bytes h) s (at + 1) ≡ ok n → n ≤ 256
       → PackedRefused s (at + 1 + count_bytes h) n h j → PlanRefused s at j
 
 -- "an index at or above entries is 8"
@@ -103,9 +103,9 @@ pub data OffsetRefused (s : List ℕ) (at kind error top flag n : ℕ) : Refusal
 -- "Flag byte: (flag/4)%16 must equal (x/8)%16. Low two bits: 0 raw words of valid pixels; 2 zero words; 3 one offset; 1 offset and packed counts."
 pub data BlockRefused (s : List ℕ) (at kind error top x n : ℕ) : Refusal → Type 0 where
   flag-cut : length s < at + 1 → BlockRefused s at kind error top x n (refuse 1)
-  check-wrong : (flag : ℕ) → word_at_lem 1 s at ≡ ok flag → flag / 4 % 16 ≢ x / 8 % 16 → BlockRefused s at kind error top x n (refuse 8)
-  raw-cut : (flag : ℕ) → word_at_lem 1 s at ≡ ok flag → flag / 4 % 16 ≡ x / 8 % 16 → flag % 4 ≡ 0 → length s < at + 1 + n * type_size kind → BlockRefused s at kind error top x n (refuse 1)
-  offset-refused : {j : Refusal} (flag : ℕ) → word_at_lem 1 s at ≡ ok flag → flag / 4 % 16 ≡ x / 8 % 16 → flag % 4 ≢ 0 → flag % 4 ≢ 2
+  check-wrong : (flag : ℕ) → word_at 1 s at ≡ ok flag → flag / 4 % 16 ≢ x / 8 % 16 → BlockRefused s at kind error top x n (refuse 8)
+  raw-cut : (flag : ℕ) → word_at 1 s at ≡ ok flag → flag / 4 % 16 ≡ x / 8 % 16 → flag % 4 ≡ 0 → length s < at + 1 + n * type_size kind → BlockRefused s at kind error top x n (refuse 1)
+  offset-refused : {j : Refusal} (flag : ℕ) → word_at 1 s at ≡ ok flag → flag / 4 % 16 ≡ x / 8 % 16 → flag % 4 ≢ 0 → flag % 4 ≢ 2
       → OffsetRefused s (at + 1) kind error top flag n j → BlockRefused s at kind error top x n j
 
 -- a tile has at most 256 pixels
@@ -119,15 +119,15 @@ pub data ReadBlockRefused (s : List ℕ) (at kind error top x n : ℕ) : Refusal
 pub data OffsetPlanRefused (s : List ℕ) (at kind flag : ℕ) : Refusal → Type 0 where
   plan-kind : {j : Refusal} → KindRefused kind (flag / 64) j → OffsetPlanRefused s at kind flag j
   plan-offset-cut : (k : ℕ) → offset_kind kind (flag / 64) ≡ ok k → length s < at + type_size k → OffsetPlanRefused s at kind flag (refuse 1)
-  plan-not-finite : (k w : ℕ) → offset_kind kind (flag / 64) ≡ ok k → word_at_lem (type_size k) s at ≡ ok w → finite (value_of k w) ≡ false → OffsetPlanRefused s at kind flag (refuse 8)
-  plan-counts : {j : Refusal} (k w : ℕ) → offset_kind kind (flag / 64) ≡ ok k → word_at_lem (type_size k) s at ≡ ok w → finite (value_of k w) ≡ true → flag % 4 ≢ 3
+  plan-not-finite : (k w : ℕ) → offset_kind kind (flag / 64) ≡ ok k → word_at (type_size k) s at ≡ ok w → finite (value_of k w) ≡ false → OffsetPlanRefused s at kind flag (refuse 8)
+  plan-counts : {j : Refusal} (k w : ℕ) → offset_kind kind (flag / 64) ≡ ok k → word_at (type_size k) s at ≡ ok w → finite (value_of k w) ≡ true → flag % 4 ≢ 3
       → PlanRefused s (at + type_size k) j → OffsetPlanRefused s at kind flag j
 
 pub data BlockPlanRefused (s : List ℕ) (at kind x n : ℕ) : Refusal → Type 0 where
   plan-tile-large : tile_limit < n → BlockPlanRefused s at kind x n (refuse 8)
   plan-flag-cut : n ≤ tile_limit → length s < at + 1 → BlockPlanRefused s at kind x n (refuse 1)
-  plan-check-wrong : (flag : ℕ) → n ≤ tile_limit → word_at_lem 1 s at ≡ ok flag → flag / 4 % 16 ≢ x / 8 % 16 → BlockPlanRefused s at kind x n (refuse 8)
-  plan-raw-cut : (flag : ℕ) → n ≤ tile_limit → word_at_lem 1 s at ≡ ok flag → flag / 4 % 16 ≡ x / 8 % 16 → flag % 4 ≡ 0 → length s < at + 1 + n * type_size kind
+  plan-check-wrong : (flag : ℕ) → n ≤ tile_limit → word_at 1 s at ≡ ok flag → flag / 4 % 16 ≢ x / 8 % 16 → BlockPlanRefused s at kind x n (refuse 8)
+  plan-raw-cut : (flag : ℕ) → n ≤ tile_limit → word_at 1 s at ≡ ok flag → flag / 4 % 16 ≡ x / 8 % 16 → flag % 4 ≡ 0 → length s < at + 1 + n * type_size kind
       → BlockPlanRefused s at kind x n (refuse 1)
-  plan-offset : {j : Refusal} (flag : ℕ) → n ≤ tile_limit → word_at_lem 1 s at ≡ ok flag → flag / 4 % 16 ≡ x / 8 % 16 → flag % 4 ≢ 0 → flag % 4 ≢ 2
+  plan-offset : {j : Refusal} (flag : ℕ) → n ≤ tile_limit → word_at 1 s at ≡ ok flag → flag / 4 % 16 ≡ x / 8 % 16 → flag % 4 ≢ 0 → flag % 4 ≢ 2
       → OffsetPlanRefused s (at + 1) kind flag j → BlockPlanRefused s at kind x n j

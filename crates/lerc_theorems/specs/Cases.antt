@@ -2,7 +2,7 @@
 -- Assumes nothing.
 use Rattle.std.specs.Prelude.{ℕ, zero, suc, ◌^◌, ◌≡◌, refl, cond, List, [], ◌∷◌, ◌++◌, map, replicate}
 use Rattle.std.specs.Float.Ieee.{size, span, climb}
-use Rattle.lerc_words.specs.Res.{Res, ok, fail, ◌>>=◌, refuse, word_at_lem, little}
+use Rattle.lerc_words.specs.Res.{Res, ok, fail, ◌>>=◌, refuse, word_at, little}
 use Rattle.lerc_words.specs.Lists.{from, all_to}
 use Rattle.lerc_numeric.specs.Numeric.{mag, code, sum, counted_sum, scaled, less, lesser}
 use Rattle.lerc_numeric.specs.Kinds.{narrowed, whole, cut}
@@ -57,7 +57,7 @@ table =
     ∷ []
 
 pub cases : map (λ (c : Case). c.got) table ≡ map (λ (c : Case). c.want) table
-unfolding valid_of counts plan tabled unpacked values_of looked_up digits chosen word_at_lem little from all_to size span climb
+unfolding valid_of counts plan tabled unpacked values_of looked_up digits chosen word_at little from all_to size span climb
     pixel_valid copy_at repeat_at end_at signed_at step_at runs sum counted_sum mag code narrowed whole cut stored
 cases = refl
 

@@ -4,7 +4,7 @@
 -- Assumes nothing.
 use Rattle.std.specs.Prelude.{◌≡◌, ◌≢◌, true, false, List, ℕ, ◌+◌, ◌*◌, ◌≤◌, ◌<◌, length, get_or}
 use Rattle.lerc_words.specs.declared.Refusal.{Refusal}
-use Rattle.lerc_words.specs.Res.{ok, refuse, word_at_lem}
+use Rattle.lerc_words.specs.Res.{ok, refuse, word_at}
 use Rattle.lerc_words.specs.Lists.{total}
 use Rattle.lerc_bits.specs.Bits.{Counts, counts}
 use Rattle.lerc_header.specs.declared.Header.{Header}
@@ -18,19 +18,19 @@ use Rattle.lerc_theorems.specs.BlockTable.{At, CountsRefused}
 -- "Each integer is judged when it is read, front to back: version below 2 is 8 even if nothing follows."
 pub data RangeRefused (s : List ℕ) (at : ℕ) : Refusal → Type 0 where
   version-cut : length s < at + 4 → RangeRefused s at (refuse 1)
-  version_low : (version : ℕ) → word_at_lem 4 s at ≡ ok version → version < 2 → RangeRefused s at (refuse 8)
-  size-cut : (version : ℕ) → word_at_lem 4 s at ≡ ok version → 2 ≤ version → length s < at + 8 → RangeRefused s at (refuse 1)
-  size-high : (version size : ℕ) → word_at_lem 4 s at ≡ ok version → 2 ≤ version → word_at_lem 4 s (at + 4) ≡ ok size → 256 < size → RangeRefused s at (refuse 8)
-  first-cut : (version size : ℕ) → word_at_lem 4 s at ≡ ok version → 2 ≤ version → word_at_lem 4 s (at + 4) ≡ ok size → size ≤ 256 → length s < at + 12 → RangeRefused s at (refuse 1)
-  first-high : (version size first : ℕ) → word_at_lem 4 s at ≡ ok version → 2 ≤ version → word_at_lem 4 s (at + 4) ≡ ok size → size ≤ 256 → word_at_lem 4 s (at + 8) ≡ ok first
+  version_low : (version : ℕ) → word_at 4 s at ≡ ok version → version < 2 → RangeRefused s at (refuse 8)
+  size-cut : (version : ℕ) → word_at 4 s at ≡ ok version → 2 ≤ version → length s < at + 8 → RangeRefused s at (refuse 1)
+  size-high : (version size : ℕ) → word_at 4 s at ≡ ok version → 2 ≤ version → word_at 4 s (at + 4) ≡ ok size → 256 < size → RangeRefused s at (refuse 8)
+  first-cut : (version size : ℕ) → word_at 4 s at ≡ ok version → 2 ≤ version → word_at 4 s (at + 4) ≡ ok size → size ≤ 256 → length s < at + 12 → RangeRefused s at (refuse 1)
+  first-high : (version size first : ℕ) → word_at 4 s at ≡ ok version → 2 ≤ version → word_at 4 s (at + 4) ≡ ok size → size ≤ 256 → word_at 4 s (at + 8) ≡ ok first
       → size ≤ first → RangeRefused s at (refuse 8)
-  end-cut : (version size first : ℕ) → word_at_lem 4 s at ≡ ok version → 2 ≤ version → word_at_lem 4 s (at + 4) ≡ ok size → size ≤ 256 → word_at_lem 4 s (at + 8) ≡ ok first → first < size
+  end-cut : (version size first : ℕ) → word_at 4 s at ≡ ok version → 2 ≤ version → word_at 4 s (at + 4) ≡ ok size → size ≤ 256 → word_at 4 s (at + 8) ≡ ok first → first < size
       → length s < at + 16 → RangeRefused s at (refuse 1)
   -- "i1 - i0 is over whole numbers"
-  end_low : (version size first end : ℕ) → word_at_lem 4 s at ≡ ok version → 2 ≤ version → word_at_lem 4 s (at + 4) ≡ ok size → size ≤ 256 → word_at_lem 4 s (at + 8) ≡ ok first → first < size
-      → word_at_lem 4 s (at + 12) ≡ ok end → end ≤ first → RangeRefused s at (refuse 8)
-  end-high : (version size first end : ℕ) → word_at_lem 4 s at ≡ ok version → 2 ≤ version → word_at_lem 4 s (at + 4) ≡ ok size → size ≤ 256 → word_at_lem 4 s (at + 8) ≡ ok first → first < size
-      → word_at_lem 4 s (at + 12) ≡ ok end → first + size < end → RangeRefused s at (refuse 8)
+  end_low : (version size first end : ℕ) → word_at 4 s at ≡ ok version → 2 ≤ version → word_at 4 s (at + 4) ≡ ok size → size ≤ 256 → word_at 4 s (at + 8) ≡ ok first → first < size
+      → word_at 4 s (at + 12) ≡ ok end → end ≤ first → RangeRefused s at (refuse 8)
+  end-high : (version size first end : ℕ) → word_at 4 s at ≡ ok version → 2 ≤ version → word_at 4 s (at + 4) ≡ ok size → size ≤ 256 → word_at 4 s (at + 8) ≡ ok first → first < size
+      → word_at 4 s (at + 12) ≡ ok end → first + size < end → RangeRefused s at (refuse 8)
 
 -- "then i1-i0 lengths as packed counts, 0 to 32"; "the packed counts are read whole (any of their forms), then their number must be i1 - i0 (8),
 -- then each at most 32 (8), and some length must be above 0 (8)"

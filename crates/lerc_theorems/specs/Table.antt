@@ -3,7 +3,7 @@
 -- Assumes nothing.
 use Rattle.std.specs.Prelude.{◌≡◌, ◌≢◌, ◌⊎◌, Bool, true, false, List, ℕ, ◌+◌, ◌-◌, ◌*◌, ◌^◌, ◌≤◌, ◌<◌, min, length, get_or, take, drop}
 use Rattle.lerc_words.specs.declared.Refusal.{Refusal}
-use Rattle.lerc_words.specs.Res.{ok, refuse, placed, word_at_lem, little}
+use Rattle.lerc_words.specs.Res.{ok, refuse, placed, word_at, little}
 use Rattle.lerc_numeric.specs.Numeric.{negative, finite, mag, less, same}
 use Rattle.lerc_numeric.specs.Kinds.{type_size}
 use Rattle.lerc_checksum.specs.Checksum.{checksum}
@@ -165,13 +165,13 @@ pub data PairsRefused (depth : ℕ) (r : Ranges) : Refusal → Type 0 where
 -- "0 blocks; .. others 8"; "Mode bytes 1 (delta) and 2 now decode"
 pub data ModeRefused (s : List ℕ) (at : ℕ) : Refusal → Type 0 where
   mode-cut : length s < at + 1 → ModeRefused s at (placed at (refuse 1))
-  mode-wrong : (v : ℕ) → word_at_lem 1 s at ≡ ok v → 3 ≤ v → ModeRefused s at (placed at (refuse 8))
+  mode-wrong : (v : ℕ) → word_at 1 s at ≡ ok v → 3 ≤ v → ModeRefused s at (placed at (refuse 8))
 
 -- "1 is raw words ..; 0 goes on; others are 8. Kinds 0 and 1 with error exactly 0.5 have a mode byte"
 pub data SweepRefused (s : List ℕ) (kind error at : ℕ) : Refusal → Type 0 where
   sweep-cut : length s < at + 1 → SweepRefused s kind error at (placed at (refuse 1))
-  sweep-wrong : (v : ℕ) → word_at_lem 1 s at ≡ ok v → 2 ≤ v → SweepRefused s kind error at (placed at (refuse 8))
-  mode-refused : {n : Refusal} → word_at_lem 1 s at ≡ ok 0 → has_mode_byte kind error ≡ true → ModeRefused s (at + 1) n → SweepRefused s kind error at n
+  sweep-wrong : (v : ℕ) → word_at 1 s at ≡ ok v → 2 ≤ v → SweepRefused s kind error at (placed at (refuse 8))
+  mode-refused : {n : Refusal} → word_at 1 s at ≡ ok 0 → has_mode_byte kind error ≡ true → ModeRefused s (at + 1) n → SweepRefused s kind error at n
 
 -- ---- blocks
 

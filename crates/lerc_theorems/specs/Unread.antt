@@ -18,7 +18,7 @@ use Rattle.lerc_image.specs.declared.WalkAnswer.{WalkAnswer}
 use Rattle.lerc_image.specs.declared.WalkAnswer.TheVariants as walk-answer
 use Rattle.lerc_image.specs.declared.FillAnswer.{FillAnswer}
 use Rattle.lerc_image.specs.declared.FillAnswer.TheVariants as fill-answer
-use Rattle.lerc_image.specs.Blocks.{block_at_lem}
+use Rattle.lerc_image.specs.Blocks.{block_at}
 use Rattle.lerc_image.proofs.check_tiles.Reads as checking
 use Rattle.lerc_image.proofs.check_own_tiles.Reads as checking-own
 use Rattle.lerc_image.proofs.list_tiles.Reads as listing
@@ -104,7 +104,7 @@ pub record Unread : Type 0 where
       → WalkCall b h r m (walk-answer.Walked n end) old new → WalkCall c h r m told old other → (told ≡ walk-answer.Walked n end) × (other ≡ new)
   -- an accepted fill looks at the bytes of its block alone: from the listed start up to where the block ends
   pub fill-own : (b c : List ℕ) (h : Header) (r : Ranges) (m list : List ℕ) (n words : ℕ) (told : FillAnswer) (old new other : List ℕ) (k : Block)
-      → block_at_lem (take h.size b) h r.max m n (get_or list n 0) ≡ ok k → h.size ≤ length c → SameWithin (get_or list n 0) k.next b c
+      → block_at (take h.size b) h r.max m n (get_or list n 0) ≡ ok k → h.size ≤ length c → SameWithin (get_or list n 0) k.next b c
       → FillCall b h r m list n (fill-answer.Filled words) old new → FillCall c h r m list n told old other → (told ≡ fill-answer.Filled words) × (other ≡ new)
   -- an accepted check of a Huffman image looks at the bytes behind the mode byte up to its end alone
   pub huffman-own : (k : _) (a c : Bor (List ℕ) × (Header × (ℕ × Unit {0}))) (end : ℕ) (told : EndAnswer) (x y : _) → a.1 ≡ c.1 → a.1.0.size ≤ length c.0.now

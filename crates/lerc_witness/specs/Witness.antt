@@ -3,7 +3,7 @@
 use Rattle.std.specs.Prelude.{ℕ, ◌+◌, ◌≡◌, refl, true, false, List, [], ◌∷◌, ◌++◌, length, replicate, take, drop}
 use Rattle.std.specs.Float.Ieee.{size, span, climb}
 use Rattle.lerc_words.specs.declared.Refusal.{Refusal}
-use Rattle.lerc_words.specs.Res.{Res, ok, fail, ◌>>=◌, refuse, placed, word_at_lem, little, each}
+use Rattle.lerc_words.specs.Res.{Res, ok, fail, ◌>>=◌, refuse, placed, word_at, little, each}
 use Rattle.lerc_words.specs.Lists.{from, count, all_to}
 use Rattle.lerc_numeric.specs.Numeric.{mag, code, sum, counted_sum, scaled, less, same, lesser}
 use Rattle.lerc_numeric.specs.Kinds.{integer, widened, value_of, whole, cut}
@@ -22,7 +22,7 @@ use Rattle.lerc_block.specs.Block.{raw_words, level_block, stepped_block, offset
 use Rattle.lerc_image.specs.Geometry.{tile_of, pixel_of, block_of, place_in, rank, is_valid_cell}
 use Rattle.lerc_image.specs.Paint.{painted, index_of}
 use Rattle.lerc_sweep.specs.Sweep.{mode_byte, moded, sweep_byte, swept}
-use Rattle.lerc_image.specs.Blocks.{block_at_lem, chain}
+use Rattle.lerc_image.specs.Blocks.{block_at, chain}
 use Rattle.lerc_image.specs.Fill.{fill_says}
 use Rattle.lerc_image.specs.Walk.{way_walked, body_walked, walk_says}
 use Rattle.lerc.specs.Meaning.{raw_body, block_body, swept_body, constant_body, body_says, cell_word, meaning_from, starts_of, end_of}
@@ -385,10 +385,10 @@ pub witnesses :
     ∷ placed 76 (refuse 8)
     ∷ placed 0xFFFFFFFFFFFFFFFF (refuse 1)
     ∷ [])
-unfolding word_at_lem little each from count all_to mag code sum counted_sum scaled less same lesser integer value_of whole cut sample_at stored offset_kinds offset_kind
+unfolding word_at little each from count all_to mag code sum counted_sum scaled less same lesser integer value_of whole cut sample_at stored offset_kinds offset_kind
     bytes counts plan tabled unpacked values_of looked_up digits chosen pixel_valid copy_at repeat_at end_at signed_at step_at runs coded strips error_right pair_right fields_right within_ceilings
     held key_right header_of word half fold sums_to closed_to with_last joined checksum checksum_right header_says uniform kept unrolled mask_in uniform_ranges number_at by_depth coded_ranges pairs_right first_wrong wrong_number_at ranges_says constant_words raw_words
-    level_block step_of stepped_block offset_at finite_offset offset_block formed flag_at block_says tile_of pixel_of block_of place_in rank is_valid_cell painted index_of block_at_lem chain mode_byte moded
+    level_block step_of stepped_block offset_at finite_offset offset_block formed flag_at block_says tile_of pixel_of block_of place_in rank is_valid_cell painted index_of block_at chain mode_byte moded
     sweep_byte swept raw_body block_body swept_body constant_body body_says cell_word meaning_from room masked read_says published refused_after size span climb widened read_ranges_says fill_says walk_says body_walked way_walked
 witnesses = (refl, refl, refl, refl)
 
@@ -470,10 +470,10 @@ pub in_two :
     ∷ placed 79 (refuse 8)
     ∷ refuse 5
     ∷ [])
-unfolding word_at_lem little each from count all_to mag code sum counted_sum scaled less same lesser integer value_of whole cut sample_at stored offset_kinds offset_kind
+unfolding word_at little each from count all_to mag code sum counted_sum scaled less same lesser integer value_of whole cut sample_at stored offset_kinds offset_kind
     bytes counts plan tabled unpacked values_of looked_up digits chosen pixel_valid copy_at repeat_at end_at signed_at step_at runs coded strips error_right pair_right fields_right within_ceilings
     held key_right header_of word half fold sums_to closed_to with_last joined checksum checksum_right header_says uniform kept unrolled mask_in uniform_ranges number_at by_depth coded_ranges pairs_right first_wrong wrong_number_at ranges_says constant_words raw_words
-    level_block step_of stepped_block offset_at finite_offset offset_block formed flag_at block_says tile_of pixel_of block_of place_in rank is_valid_cell painted index_of block_at_lem chain mode_byte moded
+    level_block step_of stepped_block offset_at finite_offset offset_block formed flag_at block_says tile_of pixel_of block_of place_in rank is_valid_cell painted index_of block_at chain mode_byte moded
     sweep_byte swept raw_body block_body swept_body constant_body body_says cell_word meaning_from room masked read_says published refused_after size span climb widened read_ranges_says fill_says walk_says body_walked way_walked begins_with same_staged publish_says
 in_two = (refl, refl)
 

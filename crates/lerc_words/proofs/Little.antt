@@ -9,7 +9,7 @@ use native.Mathlib.Omega.{arith}
 use native.Mathlib.Nat.{pow-suc, pow-succ', pow-zero, pow-le-pow_right, mul_assoc, mul-zero, zero-add, add_assoc, add-zero, suc-add, add-suc, one-mul, add-mul-mod_self_left, add-mul-div_left, div-eq_of_lt, mod-eq_of_lt, one-le-pow}
 use lib.ListN.{length, get_or, get_or-eq_default}
 use lib.Seq.{get_or-append-add}
-use Rattle.lerc_words.specs.Res.{ok, fail, refuse, placed, marked, little, word_at_lem, word_says, word_said, refusal_of_word}
+use Rattle.lerc_words.specs.Res.{ok, fail, refuse, placed, marked, little, word_at, word_says, word_said, refusal_of_word}
 use Rattle.lerc_words.proofs.Marking.{marked-is, Bare, bare-then, bare-no}
 use Rattle.lerc_words.specs.declared.WordAnswer.{WordAnswer}
 use Rattle.lerc_words.specs.declared.WordAnswer.TheVariants as word
@@ -134,12 +134,12 @@ little-word n s at b h =
 pub little-masked : (n : ℕ) (s : List ℕ) (at v low : ℕ) → Bytes s → n ≤ 8 → v ≡ little 8 s at → low ≡ 2 ^ (8 * n) - 1 → bit_and v low ≡ little n s at
 little-masked n s at v low b h e d = rw (e, d, and_mask) (little-word n s at b h)
 
-pub word_at-ok : (n : ℕ) (s : List ℕ) (at : ℕ) → at + n ≤ length s → word_at_lem n s at ≡ ok (little n s at)
-unfolding word_at_lem
+pub word_at-ok : (n : ℕ) (s : List ℕ) (at : ℕ) → at + n ≤ length s → word_at n s at ≡ ok (little n s at)
+unfolding word_at
 word_at-ok n s at h = rw (le-leb (at + n) (length s) h)
 
-pub word_at-no : (n : ℕ) (s : List ℕ) (at : ℕ) → length s < at + n → word_at_lem n s at ≡ fail (refuse 1)
-unfolding word_at_lem
+pub word_at-no : (n : ℕ) (s : List ℕ) (at : ℕ) → length s < at + n → word_at n s at ≡ fail (refuse 1)
+unfolding word_at
 word_at-no n s at h = rw (lt-leb (at + n) (length s) h)
 
 pub word_wide : (s : List ℕ) (at size : ℕ) → 8 < size → word_says s at size ≡ fail (refuse 1)
@@ -154,24 +154,24 @@ pub word_ok : (s : List ℕ) (at size : ℕ) → size ≤ 8 → at + size ≤ le
 unfolding word_says
 word_ok s at size h k = rw (le-leb size 8 h, word_at-ok size s at k)
 
--- a word of at most eight bytes is a word_at_lem
-pub word-at : (s : List ℕ) (at size : ℕ) → size ≤ 8 → word_says s at size ≡ word_at_lem size s at
+-- a word of at most eight bytes is a word_at
+pub word-at : (s : List ℕ) (at size : ℕ) → size ≤ 8 → word_says s at size ≡ word_at size s at
 unfolding word_says
 word-at s at size h = rw (le-leb size 8 h)
 
--- what was read lies within, and is the word_at_lem there
+-- what was read lies within, and is the word_at there
 pub record Stands (n : ℕ) (s : List ℕ) (at v : ℕ) : Type 0 where
   pub inside : at + n ≤ length s
   pub value : v ≡ little n s at
 
-pub word_at-is : (n : ℕ) (s : List ℕ) (at v : ℕ) → word_at_lem n s at ≡ ok v → Stands n s at v
+pub word_at-is : (n : ℕ) (s : List ℕ) (at v : ℕ) → word_at n s at ≡ ok v → Stands n s at v
 word_at-is n s at v e = go (dec_le (at + n) (length s))
   where
     go : Dec (at + n ≤ length s) → Stands n s at v
     go (yes p) = record { inside = p; value = (cc (word_at-ok n s at p)) }
     go (no q) = absurd (let h : length s < at + n = omega arith in let w = word_at-no n s at h in let z : ◌≡◌ {A = ℕ} 0 1 = cc in omega arith)
 
-pub byte-lt : (s : List ℕ) (at v : ℕ) → Bytes s → word_at_lem 1 s at ≡ ok v → v < 256
+pub byte-lt : (s : List ℕ) (at v : ℕ) → Bytes s → word_at 1 s at ≡ ok v → v < 256
 byte-lt s at v b e = rw (word_at-is 1 s at v e).value (little-lt 1 s at b)
 
 -- the k bytes of s from `at` on stand in t from `to` on
@@ -179,7 +179,7 @@ pub record Stays (s : List ℕ) (at : ℕ) (t : List ℕ) (to k : ℕ) : Type 0 
   pub same : (i : ℕ) → i < k → get_or s (at + i) 0 ≡ get_or t (to + i) 0
   pub room : to + k ≤ length t
 
-pub word_at-stays : (n j : ℕ) {s t : List ℕ} {at to k v : ℕ} → word_at_lem n s (at + j) ≡ ok v → j + n ≤ k → Stays s at t to k → word_at_lem n t (to + j) ≡ ok v
+pub word_at-stays : (n j : ℕ) {s t : List ℕ} {at to k v : ℕ} → word_at n s (at + j) ≡ ok v → j + n ≤ k → Stays s at t to k → word_at n t (to + j) ≡ ok v
 word_at-stays n j {s} {t} {at} {to} {k} {v} e h l =
     let g : to + j + n ≤ length t = omega (arith, l.room) in
     let f : (i : ℕ) → i < n → get_or t (to + j + i) 0 ≡ get_or s (at + j + i) 0 = λ i m.
@@ -193,7 +193,7 @@ little-behind n front rest =
     little-same n (front ++ rest) rest (length front) 0 (λ i h. rw (zero-add) (get_or-append-add front rest i 0))
 
 -- what could not be read passes the end
-pub word_at-fails : (n : ℕ) (s : List ℕ) (at : ℕ) {r : Refusal} → word_at_lem n s at ≡ fail r → length s < at + n
+pub word_at-fails : (n : ℕ) (s : List ℕ) (at : ℕ) {r : Refusal} → word_at n s at ≡ fail r → length s < at + n
 word_at-fails n s at {r} e = go (dec_le (at + n) (length s))
   where
     go : Dec (at + n ≤ length s) → length s < at + n
@@ -203,23 +203,23 @@ word_at-fails n s at {r} e = go (dec_le (at + n) (length s))
 -- ---- what an answer of `word` that was taken apart says of the bytes
 
 -- a word tells no place by itself
-pub word_at-bare : (n : ℕ) (s : List ℕ) (at : ℕ) → Bare (word_at_lem n s at)
-unfolding word_at_lem
+pub word_at-bare : (n : ℕ) (s : List ℕ) (at : ℕ) → Bare (word_at n s at)
+unfolding word_at
 word_at-bare n s at = bare-then (leb (at + n) (length s)) 1 _ refl
 
-answered : (s : List ℕ) (at size : ℕ) {r : WordAnswer} {m : WordAnswer} → size ≤ 8 → word_said r ≡ marked at (word_says s at size) → r ≡ m → marked at (word_at_lem size s at) ≡ word_said m
+answered : (s : List ℕ) (at size : ℕ) {r : WordAnswer} {m : WordAnswer} → size ≤ 8 → word_said r ≡ marked at (word_says s at size) → r ≡ m → marked at (word_at size s at) ≡ word_said m
 answered s at size h e d = ap (marked at) (sym (word-at s at size h)) ∙ sym e ∙ ap word_said d
 
 module _ (s : List ℕ) (at size : ℕ) {r : WordAnswer} (h : size ≤ 8) (e : word_said r ≡ marked at (word_says s at size)) where
-  pub read_ok : {v : ℕ} → r ≡ word.Word v → word_at_lem size s at ≡ ok v
+  pub read_ok : {v : ℕ} → r ≡ word.Word v → word_at size s at ≡ ok v
   read_ok d = marked-is at _ (answered s at size h e d)
 
   -- refused, and the place taken off
-  pub read_no : {q why : Refusal} → r ≡ word.Refused q → why ≡ placed 0 (refusal_of_word r) → word_at_lem size s at ≡ fail why
+  pub read_no : {q why : Refusal} → r ≡ word.Refused q → why ≡ placed 0 (refusal_of_word r) → word_at size s at ≡ fail why
   read_no d f = bare-no at _ (word_at-bare size s at) (answered s at size h e d) (f ∙ ap (λ x. placed 0 (refusal_of_word x)) d)
 
   -- refused: 1, at the word's first byte
-  pub read-cut : {q : Refusal} → r ≡ word.Refused q → word_at_lem size s at ≡ fail (refuse 1)
+  pub read-cut : {q : Refusal} → r ≡ word.Refused q → word_at size s at ≡ fail (refuse 1)
   read-cut d = word_at-no size s at (word_at-fails size s at (read_no d refl))
 
   pub read-why : {q why : Refusal} → r ≡ word.Refused q → why ≡ refusal_of_word r → why ≡ placed at (refuse 1)

@@ -58,8 +58,8 @@ little zero s at = 0
 little (suc n) s at = get_or s at 0 + 256 * little n s (suc at)
 
 -- the same where they lie within s, else 1: "a field, number or packed run passes the declared size"
-unfoldable pub word_at_lem : ℕ → List ℕ → ℕ → Res ℕ
-word_at_lem n s at = do
+unfoldable pub word_at : ℕ → List ℕ → ℕ → Res ℕ
+word_at n s at = do
   _ ← require (leb (at + n) (length s)) 1
   ok (little n s at)
 
@@ -77,4 +77,4 @@ refusal_of_word (Refused r) = r
 unfoldable pub word_says : List ℕ → ℕ → ℕ → Res ℕ
 word_says s at size = do
   _ ← require (leb size 8) 1
-  word_at_lem size s at
+  word_at size s at

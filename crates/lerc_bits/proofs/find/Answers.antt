@@ -3,7 +3,7 @@ use mathlib.Core.Path.{◌≡◌, ◌∙◌, sym, ap}
 use mathlib.Core.List.{List}
 use lib.ListN.{length}
 use native.Mathlib.Omega.{arith}
-use Rattle.lerc_words.specs.Res.{ok, word_at_lem, placed}
+use Rattle.lerc_words.specs.Res.{ok, word_at, placed}
 use Rattle.lerc_words.proofs.Little.{read_ok, read_no, word_at-is}
 use Rattle.lerc_bits.specs.Bits.{count_bytes}
 use Rattle.lerc_bits.proofs.Returns.{Headed, count-bytes, count_small, plan-no, plan-form, plan-short, plan-many, plan-plain, plan-tabled}
@@ -25,7 +25,7 @@ start c = c.args.start
 abbrev h : (c : In-Word) → ℕ
 h c = c.in-Word.h
 
-first : (c : In-Word) → word_at_lem 1 (bytes c) (start c) ≡ ok (h c)
+first : (c : In-Word) → word_at 1 (bytes c) (start c) ≡ ok (h c)
 first c = read_ok (bytes c) (start c) 1 (omega arith) c.word-a.ensures c.in-Word.is
 
 pub returns-then-h-ge3 : goal.returns-then-h-ge3

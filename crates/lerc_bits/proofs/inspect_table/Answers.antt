@@ -1,6 +1,6 @@
 use mathlib.Core.Path.{◌≡◌, ◌∙◌, sym, ap}
 use native.Mathlib.Omega.{arith}
-use Rattle.lerc_words.specs.Res.{ok, word_at_lem, placed}
+use Rattle.lerc_words.specs.Res.{ok, word_at, placed}
 use Rattle.lerc_words.proofs.Little.{Bytes, read_ok, read_no, byte-lt, word_at-is}
 use Rattle.lerc_bits.proofs.Returns.{tabled-zero, tabled-no, tabled-few, tabled-more}
 use Rattle.lerc_bits.proofs.inspect_table.Goals as goal
@@ -18,7 +18,7 @@ returns-in_default c =
     sym (tabled-no s a.at a.n a.bits (omega arith) (read_no s a.at 1 (omega arith) c.word-a.ensures c.in_default.is (c.at.ensures ∙ ap (placed 0) c.refusal-why.ensures)))
 
 -- the byte `entries` was read
-entries : (c : In-Word) → word_at_lem 1 c.args.s.now c.args.at ≡ ok c.in-Word.entries
+entries : (c : In-Word) → word_at 1 c.args.s.now c.args.at ≡ ok c.in-Word.entries
 entries c =
     let a = c.args in
     read_ok a.s.now a.at 1 (omega arith) c.word-a.ensures c.in-Word.is

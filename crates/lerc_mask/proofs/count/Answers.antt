@@ -24,6 +24,6 @@ pub returns : goal.returns
 returns c =
     let a = c.args in
     let m = a.mask.now in
-    let b : Bytes m = λ i. omega (arith, c.shared_slice_known-1.given i) in
+    let b : Bytes m = λ i. omega (arith, c.type_inv.mask i) in
     let e : a.pixels ≡ 8 * (a.pixels / 8) + a.pixels % 8 = omega arith in
     rw (c.ones_in-2.ensures.0, c.ones_cut.ensures.0, ← valid-bytes m (a.pixels / 8) b (omega arith)) (sym (valid-byte m (a.pixels / 8) (a.pixels % 8) (omega arith)) ∙ ap (λ (x : ℕ). valid_below x m) (sym e))

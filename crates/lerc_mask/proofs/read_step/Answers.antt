@@ -3,9 +3,9 @@ use native.Mathlib.Omega.{arith}
 use Rattle.lerc_words.proofs.Little.{Bytes, Stands, word_at-is, word_at-fails, read_ok, read-cut, little-lt}
 use Rattle.lerc_mask.proofs.Steps.{step-told, step-short, step_end, step-copy, step-repeat}
 use Rattle.lerc_mask.proofs.read_step.Goals as goal
-use Rattle.lerc_mask.proofs.read_step.Goals.{After-shared_slice_known-1, In-Word}
+use Rattle.lerc_mask.proofs.read_step.Goals.{After-word-read, In-Word}
 
-bytes : (c : After-shared_slice_known-1) → Bytes c.args.s.now
+bytes : (c : After-word-read) → Bytes c.args.s.now
 bytes c i = omega (arith, c.type_inv.s i)
 
 -- the two bytes that were read
@@ -19,7 +19,7 @@ returns-in_default c =
     let a = c.args in
     let s = a.s.now in
     let e = read-cut s a.at 2 (omega arith) c.word-read.ensures c.in_default.is in
-    step-told s a.at a.left (bytes (goal.at.returns-in_default c).After-shared_slice_known-1) (sym (step-short s a.at a.left (word_at-fails 2 s a.at e)))
+    step-told s a.at a.left (bytes (goal.at.returns-in_default c).After-word-read) (sym (step-short s a.at a.left (word_at-fails 2 s a.at e)))
 
 pub overflow_add-at : goal.overflow_add-at
 overflow_add-at c = omega (arith, (stands (goal.at.overflow_add-at c).In-Word).inside)
@@ -27,7 +27,7 @@ overflow_add-at c = omega (arith, (stands (goal.at.overflow_add-at c).In-Word).i
 pub returns-then-n-eq32768 : goal.returns-then-n-eq32768
 returns-then-n-eq32768 c =
     let a = c.args in
-    step-told a.s.now a.at a.left (bytes (goal.at.returns-then-n-eq32768 c).After-shared_slice_known-1) (c.end_at.ensures ∙ sym (step_end a.s.now a.at a.left _ (stands (goal.at.returns-then-n-eq32768 c).In-Word) c.if-n-eq32768.true))
+    step-told a.s.now a.at a.left (bytes (goal.at.returns-then-n-eq32768 c).After-word-read) (c.end_at.ensures ∙ sym (step_end a.s.now a.at a.left _ (stands (goal.at.returns-then-n-eq32768 c).In-Word) c.if-n-eq32768.true))
 
 pub overflow_add-at-then-n-lt32768 : goal.overflow_add-at-then-n-lt32768
 overflow_add-at-then-n-lt32768 c = omega (arith, (stands (goal.at.overflow_add-at-then-n-lt32768 c).In-Word).inside)
@@ -38,7 +38,7 @@ copy_at-requires c = ((stands (goal.at.copy_at-requires c).In-Word).inside, omeg
 pub returns-then-n-lt32768 : goal.returns-then-n-lt32768
 returns-then-n-lt32768 c =
     let a = c.args in
-    step-told a.s.now a.at a.left (bytes (goal.at.returns-then-n-lt32768 c).After-shared_slice_known-1) (c.copy_at.ensures ∙ sym (step-copy a.s.now a.at a.left _ (stands (goal.at.returns-then-n-lt32768 c).In-Word) c.if-n-lt32768.true))
+    step-told a.s.now a.at a.left (bytes (goal.at.returns-then-n-lt32768 c).After-word-read) (c.copy_at.ensures ∙ sym (step-copy a.s.now a.at a.left _ (stands (goal.at.returns-then-n-lt32768 c).In-Word) c.if-n-lt32768.true))
 
 pub overflow_add-at-2 : goal.overflow_add-at-2
 overflow_add-at-2 c = omega (arith, (stands (goal.at.overflow_add-at-2 c).In-Word).inside)
@@ -46,9 +46,9 @@ overflow_add-at-2 c = omega (arith, (stands (goal.at.overflow_add-at-2 c).In-Wor
 pub overflow_sub-n : goal.overflow_sub-n
 overflow_sub-n c =
     let a = c.args in
-    omega (arith, (stands (goal.at.overflow_sub-n c).In-Word).value, little-lt 2 a.s.now a.at (bytes (goal.at.overflow_sub-n c).After-shared_slice_known-1))
+    omega (arith, (stands (goal.at.overflow_sub-n c).In-Word).value, little-lt 2 a.s.now a.at (bytes (goal.at.overflow_sub-n c).After-word-read))
 
 pub returns : goal.returns
 returns c =
     let a = c.args in
-    step-told a.s.now a.at a.left (bytes (goal.at.returns c).After-shared_slice_known-1) (c.repeat_at.ensures ∙ sym (step-repeat a.s.now a.at a.left _ (stands (goal.at.returns c).In-Word) c.if-n-eq32768.false c.if-n-lt32768.false))
+    step-told a.s.now a.at a.left (bytes (goal.at.returns c).After-word-read) (c.repeat_at.ensures ∙ sym (step-repeat a.s.now a.at a.left _ (stands (goal.at.returns c).In-Word) c.if-n-eq32768.false c.if-n-lt32768.false))

@@ -3,7 +3,7 @@ use mathlib.Core.Path.{◌≡◌, ◌∙◌, sym, ap, refl}
 use native.Mathlib.Omega.{arith}
 use lib.ListN.{length, get_or}
 use lib.Pow.{pow_pos}
-use Rattle.lerc_words.specs.Res.{ok, little, word_at_lem}
+use Rattle.lerc_words.specs.Res.{ok, little, word_at}
 use Rattle.lerc_words.proofs.Little.{Bytes, unit, word_at-ok}
 use Rattle.lerc_numeric.specs.Kinds.{type_size}
 use Rattle.lerc_numeric.proofs.Integers.{size-le}
@@ -61,7 +61,7 @@ pub nonzero_rem-word : goal.nonzero_rem-word
 nonzero_rem-word c = let e = (goal.at.nonzero_rem-word c).Else-size-gt4 in rw (base-is e) (pow_pos (8 * c.size-size.result))
 
 word_read : (j : Joined-size-gt4) →
-    word_at_lem (type_size j.in-Kind.k) j.args.s.now (j.args.at + 1) ≡ ok j.if-size-gt4.word
+    word_at (type_size j.in-Kind.k) j.args.s.now (j.args.at + 1) ≡ ok j.if-size-gt4.word
 word_read j =
     let z = (goal.at.Joined-size-gt4 j).After-size-size in
     let s = j.args.s.now in

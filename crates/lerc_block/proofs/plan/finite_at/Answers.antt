@@ -1,6 +1,6 @@
 use mathlib.Core.Path.{◌≡◌, ◌∙◌, sym, ap}
 use Prim.Native.Nat.{◌≤◌}
-use Rattle.lerc_words.specs.Res.{ok, word_at_lem, placed}
+use Rattle.lerc_words.specs.Res.{ok, word_at, placed}
 use Rattle.lerc_words.proofs.Little.{read_ok, read_no}
 use Rattle.lerc_numeric.specs.Kinds.{type_size}
 use Rattle.lerc_numeric.proofs.Integers.{size-le}
@@ -13,7 +13,7 @@ small k = rw k.size.ensures (size-le k.args.kind)
 
 read : (k : In-Word) →
     let a = k.args in
-    word_at_lem (type_size a.kind) a.s.now a.at ≡ ok k.in-Word.word
+    word_at (type_size a.kind) a.s.now a.at ≡ ok k.in-Word.word
 read k =
     let a = k.args in
     let z = (goal.at.In-Word k).After-size in

@@ -1,7 +1,7 @@
 use Prim.Native.Nat.{ℕ}
 use mathlib.Core.Path.{◌≡◌, ◌∙◌, ap}
 use native.Mathlib.Omega.{arith}
-use Rattle.lerc_words.specs.Res.{ok, word_at_lem, placed}
+use Rattle.lerc_words.specs.Res.{ok, word_at, placed}
 use Rattle.lerc_words.proofs.Little.{read_ok, read_no}
 use Rattle.lerc_block.proofs.Returns.{flag-many, flag-no, flag-strange, flag_ok}
 use Rattle.lerc_block.proofs.plan.flag_at.Goals as goal
@@ -10,7 +10,7 @@ use Rattle.lerc_block.proofs.plan.flag_at.Goals.{In-Word}
 abbrev flag : (c : In-Word) → ℕ
 flag k = k.in-Word.flag
 
-read : (k : In-Word) → word_at_lem 1 k.args.s.now k.args.at ≡ ok (flag k)
+read : (k : In-Word) → word_at 1 k.args.s.now k.args.at ≡ ok (flag k)
 read k =
     let a = k.args in
     read_ok a.s.now a.at 1 (omega arith) k.word-a.ensures k.in-Word.is

@@ -7,13 +7,13 @@ use Rattle.lerc_pack.proofs.table.eight.Goals as goal
 pub overflow_mul-result : goal.overflow_mul-result
 overflow_mul-result c =
     let a = c.args in
-    let b = c.shared_slice_known-1.given in
+    let b = c.type_inv.s in
     omega (arith, c.quad-2.ensures, c.quad.ensures, b a.at, b (a.at + 1), b (a.at + 2), b (a.at + 3), b (a.at + 4), b (a.at + 5), b (a.at + 6), b (a.at + 7))
 
 pub overflow_add-result : goal.overflow_add-result
 overflow_add-result c =
     let a = c.args in
-    let b = c.shared_slice_known-1.given in
+    let b = c.type_inv.s in
     omega (arith, c.quad-2.ensures, c.quad.ensures, b a.at, b (a.at + 1), b (a.at + 2), b (a.at + 3), b (a.at + 4), b (a.at + 5), b (a.at + 6), b (a.at + 7))
 
 pub returns : goal.returns
