@@ -45,8 +45,8 @@ fn write_text<W: Write>(to: &mut W, buffer: &[u8], n: usize, text: &[u8]) -> io:
 
 fn main(rt: HostRuntime) -> io::Result<()> {
     let mut buffer = [0u8; BYTES + 1];
-    let n = read_full(&mut rt.reader(), &mut buffer)?;
+    let n = read_full(&mut rt.stdin(), &mut buffer)?;
     let mut out = [0u8; TEXT];
     let r = answer_read(&buffer, n, &mut out);
-    write_text(&mut io::writer(&rt), &buffer, n, &out[..r])
+    write_text(&mut rt.stdout(), &buffer, n, &out[..r])
 }

@@ -139,6 +139,6 @@ fn read_full(from: &mut impl Read, into: &mut [u8]) -> io::Result<usize>
 fn main(rt: HostRuntime) -> io::Result<()> {
     say_planted(&rt)?;
     let mut input = [0u8; 65536];
-    let n = read_full(&mut rt.reader(), &mut input)?;
+    let n = read_full(&mut rt.stdin(), &mut input)?;
     say_all(&rt, &input[..n])
 }

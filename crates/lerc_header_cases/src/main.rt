@@ -175,6 +175,6 @@ fn read_full(from: &mut impl Read, into: &mut [u8]) -> io::Result<usize>
 
 fn main(rt: HostRuntime) -> io::Result<()> {
     let mut input = [0u8; 131072];
-    let n = read_full(&mut rt.reader(), &mut input)?;
+    let n = read_full(&mut rt.stdin(), &mut input)?;
     say_all(&rt, &input[..n])
 }
