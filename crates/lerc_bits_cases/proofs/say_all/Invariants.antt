@@ -1,3 +1,4 @@
+-- The loop stays within s, and each turn passes a record.
 use Rattle.std.proofs.Common.{◌-◌, ◌≤◌, length}
 use Rattle.lerc_bits_cases.proofs.say_all.Given as goal
 

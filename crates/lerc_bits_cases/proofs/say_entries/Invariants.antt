@@ -1,3 +1,4 @@
+-- No more entries are counted than were passed.
 use Rattle.std.proofs.Common.{◌≤◌}
 use Rattle.lerc_bits_cases.proofs.say_entries.Given as goal
 
