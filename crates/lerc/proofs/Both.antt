@@ -9,7 +9,7 @@ use lib.ListN.{length, take, length-append, length-drop}
 use lib.Dec.{leb}
 use borrow.Author.Tests.{le-leb, leb-true}
 use Rattle.lerc_words.specs.declared.Refusal.{Refusal}
-use Rattle.lerc_words.specs.Res.{Res, ok, fail, ◌>>=◌, require}
+use Rattle.lerc_words.specs.Res.{Res, ok, fail, require}
 use Rattle.lerc_words.specs.Lists.{over}
 use Rattle.lerc_words.proofs.Binding.{and_is, bind_is, bind-fail, bind-counts, require-is, ok-is}
 use Rattle.lerc_slices.specs.Slices.{begins_with}

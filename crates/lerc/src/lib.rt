@@ -1,6 +1,7 @@
 // One blob, header, mask, ranges and body, in two steps: staging checks all and writes neither image nor kept mask, publishing
 // finds staging's answer again and then writes.
 #![tactic(auto)]
+
 ghost use Rattle.std.specs.Prelude.{◌≡◌, true, ℕ, ◌≤◌, length};
 ghost use Rattle.lerc_words.specs.Res.{ok, fail, refuse};
 ghost use Rattle.lerc_words.specs.Lists.{over};

@@ -12,7 +12,7 @@ use Rattle.lerc_header.proofs.Kept.{held-is}
 use Rattle.lerc_byte_image.specs.declared.table.Range.{Range}
 use Rattle.lerc_byte_image.specs.declared.table.TableAnswer.{TableAnswer}
 use Rattle.lerc_byte_image.specs.declared.table.TableAnswer.TheVariants as table-answer
-use Rattle.lerc_byte_image.specs.Table.{Table, table_at}
+use Rattle.lerc_byte_image.specs.Table.{table_at}
 use Rattle.lerc_byte_image.specs.Image.{by_table, write_table, written_image}
 use Rattle.lerc_byte_image.specs.Parts.{table_by, table_said, Kept, Behind}
 use Rattle.lerc_byte_image.proofs.Kept.{table_kept}

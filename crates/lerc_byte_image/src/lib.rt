@@ -1,5 +1,6 @@
 // Huffman images of bytes: all symbols are checked first, then every valid cell is written.
 #![tactic(auto)]
+
 ghost use Rattle.std.specs.Prelude.{◌≡◌};
 ghost use Rattle.lerc_byte_image.specs.Image.{checked_image, ended, end_said, refusal_of_end, written_image};
 

@@ -20,7 +20,6 @@ use Rattle.lerc_validity.specs.declared.MaskAnswer.{MaskAnswer}
 use Rattle.lerc_validity.specs.Validity.{MaskInForce, reused, new, mask_says}
 use Rattle.lerc.specs.declared.BodyKind.{BodyKind}
 use Rattle.lerc.specs.declared.BodyKind.TheVariants as kind
-use Rattle.lerc.specs.declared.Staged.{Staged}
 use Rattle.lerc.specs.declared.StageAnswer.TheVariants as stage-answer
 use Rattle.lerc.specs.Meaning.{Meaning}
 use Rattle.lerc.specs.Read.{Lent, room, Masked, masked, read_says}

@@ -33,7 +33,7 @@ use Rattle.lerc_image.specs.Geometry.{tile_of, valid_in_tile}
 use Rattle.lerc_image.specs.Walk.{walk_says, Walk, walk_list, BlocksWalked}
 use Rattle.lerc_image.specs.Fill.{fill_says, fill_image, Filled}
 use Rattle.lerc.specs.Meaning.{Meaning, starts_of, end_of}
-use Rattle.lerc.specs.Read.{Lent, room, read_says, Masked, masked, refused_after, read_after, ReadTold, WholeRead}
+use Rattle.lerc.specs.Read.{Lent, read_says, masked, refused_after, read_after, ReadTold, WholeRead}
 use Rattle.lerc.specs.Stage.{StageRead, PublishTold, publish_says, Publishing}
 use Rattle.lerc_c.specs.Records.{header_room, header_numbers, header_from, ranges_room, ranges_numbers, ranges_from, staged_room, staged_numbers, staged_from}
 use Rattle.lerc_c.specs.Entries.{Returned, header_entry, HeaderDone, read_room, read_entry, masked_entry, read_numbers, ReadDone, stage_entry, staged_mask_entry, StageDone, publish_entry, told_numbers, PublishDone, prepare_entry, PrepareDone, ranges_entry, RangesDone, walk_entry, WalkDone, fill_entry, FillDone, stored_entry, StoredDone}

@@ -1,17 +1,17 @@
 -- Packs: one law for each way an entry ends.
 -- Assumes nothing.
-use mathlib.Core.Path.{◌≡◌, ◌∙◌, sym, ap, refl}
-use mathlib.Core.List.{List, [], ◌∷◌}
+use mathlib.Core.Path.{◌≡◌, ◌∙◌, sym, refl}
+use mathlib.Core.List.{List}
 use Prim.Native.Nat.{ℕ, ◌≤◌, ◌<◌}
 use lib.ListN.{length, set}
 use borrow.Author.Tests.{le-leb, lt-leb}
 use Rattle.lerc_words.specs.declared.Refusal.{Refusal}
-use Rattle.lerc_words.specs.Res.{Res, ok, fail, ◌>>=◌, refuse, after}
+use Rattle.lerc_words.specs.Res.{ok, fail, refuse}
 use Rattle.lerc_words.specs.Lists.{over}
 use Rattle.lerc_pack.specs.declared.Entry.{Entry}
 use Rattle.lerc_pack.specs.Pack.{pack_says, entry_says}
 use Rattle.lerc_pack_writer.specs.declared.WriteAnswer.TheVariants as answer
-use Rattle.lerc_pack_writer.specs.Writing.{Given, write_says, PackWritten}
+use Rattle.lerc_pack_writer.specs.Writing.{Given, PackWritten}
 use Rattle.lerc_c.specs.Packs.{pack_entry, PackOpenDone, entry_room, entry_numbers, entry_entry, PackEntryDone, pack_write_entry, PackWriteDone}
 use Rattle.lerc_c.proofs.RecordParts.{first-put}
 

@@ -2,6 +2,7 @@
 // Each entry that can refuse returns 0, or the number of the refusal, and writes its place to its last slice, 0 where it accepts.
 // A slice without room for the place is refused before all else. After a refusal the records are as they were.
 #![tactic(auto)]
+
 ghost use Rattle.std.specs.Prelude.{◌≡◌, true, length};
 ghost use Rattle.lerc_checksum.specs.Checksum.{checksum};
 ghost use Rattle.lerc_numeric.specs.Numeric.{sum, scaled};

@@ -1,7 +1,7 @@
 -- Which number an entry for C returns: the table holds exactly.
 -- Assumes nothing.
 use mathlib.Core.Path.{◌≡◌, ◌∙◌, sym, ap, refl, subst}
-use mathlib.Core.Logic.{◌↔◌, ◌≢◌, ◌⊎◌, inl, inr}
+use mathlib.Core.Logic.{◌↔◌, ◌⊎◌, inl, inr}
 use mathlib.Core.Bool.{Bool, true, false, ◌&&◌}
 use mathlib.Core.List.{List, [], ◌∷◌}
 use Prim.Native.Nat.{ℕ, zero, suc, ◌<◌}
@@ -46,7 +46,7 @@ use Rattle.lerc_theorems.proofs.Given.{header-in, prepare-in, read-ranges-in, wa
 use Rattle.lerc_theorems.proofs.Headers.{header-exactly, prepare-exactly, read-ranges-exactly}
 use Rattle.lerc_theorems.proofs.Entries.{walk-exactly, fill-exactly, whole-exactly}
 use Rattle.lerc_theorems.proofs.Blocks.{stored-exactly}
-use Rattle.lerc_c_theorems.specs.Promises.{c-lent, c-given, c-tiles, c-written}
+use Rattle.lerc_c_theorems.specs.Promises.{c-lent, c-stage-lent, c-given, c-tiles, c-written}
 use Rattle.lerc_c_theorems.specs.PackTable.{PackRefused, EntryOutside, WriteRefused}
 use Rattle.lerc_c_theorems.proofs.PackTable.{pack-exactly, entry-exactly, write-exactly, pack-in, outside-in, write-in}
 use Rattle.lerc_c_theorems.proofs.SameReader.{placing-numbered}
@@ -382,8 +382,8 @@ pack-write-table place g room said = placed-table place (write-exactly g room) (
 
 stage-places : StageNumbers Exactly
 stage-places =
-    by-table (λ a. stage_entry a.0.now a.1.0 (c-lent a).0 (c-lent a).1) (λ a. stage-numbered a.0.now a.1.0 (c-lent a).0 (c-lent a).1)
-    (λ a. stage-table (c-lent a).2 a.0.now a.1.0 (c-lent a).0 (c-lent a).1) (λ k a n x p. (p, p.done.why))
+    by-table (λ a. stage_entry a.0.now a.1.0 (c-stage-lent a).0 (c-stage-lent a).1) (λ a. stage-numbered a.0.now a.1.0 (c-stage-lent a).0 (c-stage-lent a).1)
+    (λ a. stage-table (c-stage-lent a).2 a.0.now a.1.0 (c-stage-lent a).0 (c-stage-lent a).1) (λ k a n x p. (p, p.done.why))
 
 publish-places : PublishNumbers Exactly
 publish-places =

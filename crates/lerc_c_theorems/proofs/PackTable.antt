@@ -4,12 +4,12 @@ use mathlib.Core.Path.{◌≡◌, refl}
 use mathlib.Core.Logic.{◌↔◌}
 use mathlib.Core.Bool.{Bool, true, false}
 use mathlib.Core.List.{List}
-use Prim.Native.Nat.{ℕ, suc, ◌≤◌}
+use Prim.Native.Nat.{ℕ, suc}
 use lib.ListN.{length}
 use lib.Dec.{leb, ltb, eqb}
 use borrow.Author.Tests.{ltb-false, leb-false, eqb-false, lt-leb, le-ltb, ne_eqb}
 use Rattle.lerc_words.specs.declared.Refusal.{Refusal}
-use Rattle.lerc_words.specs.Res.{Res, ok, fail, ◌>>=◌, refuse, require}
+use Rattle.lerc_words.specs.Res.{Res, fail, ◌>>=◌, refuse, require}
 use Rattle.lerc_words.specs.Lists.{all_to}
 use Rattle.lerc_pack.specs.Contents.{entry_place, body_end, body_place, tiles_right}
 use Rattle.lerc_pack.specs.Pack.{count_of, head_right, entry_part, zeros_right, entry_at, tile_of, pack_says, entry_says}

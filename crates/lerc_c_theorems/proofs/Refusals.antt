@@ -25,7 +25,7 @@ use Rattle.lerc_pack.specs.declared.Entry.{Entry}
 use Rattle.lerc_pack_writer.specs.Writing.{Given}
 use Rattle.lerc_c.specs.Packs.{PackOpenDone, PackEntryDone, PackWriteDone}
 use Rattle.lerc_theorems.specs.Refusals.{WholeKeeps}
-use Rattle.lerc_c_theorems.specs.Promises.{c-lent}
+use Rattle.lerc_c_theorems.specs.Promises.{c-lent, c-stage-lent}
 use Rattle.lerc_c_theorems.specs.Refusals.{StageKeeps, PublishKeeps, PackOpenKeeps, PackEntryKeeps, PackWriteKeeps, RefusalsKeepInC}
 use Rattle.lerc_theorems.proofs.Refusals.{whole-keeps}
 
@@ -128,7 +128,7 @@ module _ (b : List ℕ) (reuse : Bool) (old : Lent) (staged place : List ℕ) wh
 
 stage-keeps : StageKeeps
 stage-keeps k a x n p z =
-    let l = c-lent a in
+    let l = c-stage-lent a in
     let r = refusal p z (staging a.0.now a.1.0 l.0 l.1 l.2) p.done.why in
     record {
       list = stage-list a.0.now a.1.0 l.0 l.1 l.2 p.done r;

@@ -34,7 +34,7 @@ use Rattle.lerc_c.proofs.lerc2_pack_open.Reads as pack-open
 use Rattle.lerc_c.proofs.lerc2_pack_entry.Reads as pack-entry
 use Rattle.lerc_c.proofs.lerc2_pack_write.Reads as pack-write
 use Rattle.lerc_theorems.specs.Calls.{Call}
-use Rattle.lerc_c_theorems.specs.Promises.{c-lent, c-staged, c-given, c-published, c-tiles, c-written}
+use Rattle.lerc_c_theorems.specs.Promises.{c-lent, c-stage-lent, c-staged, c-given, c-published, c-tiles, c-written}
 
 -- ---- records that are lent
 
@@ -111,7 +111,7 @@ ReadInC b reuse t old new said₀ said₁ =
 -- blob, reuse; what is told; what is lent; spare and list afterwards, and the record of the answer
 abbrev pub StageInC : List ℕ → Bool → Told → Lent → List ℕ → List ℕ → List ℕ → List ℕ → Type 0
 StageInC b reuse t old spare₁ list₁ staged₀ staged₁ =
-    Call {S = List ℕ × Bool × Lent × List ℕ × List ℕ} {T = List ℕ × List ℕ × List ℕ × List ℕ} stage.Post (λ a. (a.0.now, a.1.0, (c-lent a).0, (c-lent a).1, (c-lent a).2)) (λ r. r) c-staged
+    Call {S = List ℕ × Bool × Lent × List ℕ × List ℕ} {T = List ℕ × List ℕ × List ℕ × List ℕ} stage.Post (λ a. (a.0.now, a.1.0, (c-stage-lent a).0, (c-stage-lent a).1, (c-stage-lent a).2)) (λ r. r) c-staged
     (b, reuse, old, staged₀, t.place₀) t.number (spare₁, list₁, staged₁, t.place₁)
 
 -- blob, reuse, the record of an answer; what is told; what is lent; kept mask and image afterwards, and what is said

@@ -30,7 +30,7 @@ use Rattle.lerc_c.proofs.lerc2_pack_write.Reads as pack-write
 use Rattle.lerc_theorems.specs.Numbers.{Exactly, ExactlyNumbered}
 use Rattle.lerc_theorems.specs.BlockTable.{StoredRefused}
 use Rattle.lerc_theorems.specs.Table.{HeaderRefused, PrepareRefused, ReadRangesRefused, WalkRefused, FillRefused, WholeRefused}
-use Rattle.lerc_c_theorems.specs.Promises.{c-lent, c-staged, c-given, c-published, c-tiles, c-written}
+use Rattle.lerc_c_theorems.specs.Promises.{c-lent, c-stage-lent, c-staged, c-given, c-published, c-tiles, c-written}
 use Rattle.lerc_c_theorems.specs.PackTable.{PackRefused, EntryOutside, WriteRefused}
 
 -- ---- the table
@@ -100,10 +100,10 @@ pub record PromisedInC {K A O : Type 0} (Agree : (Refusal → Type 0) → (Refus
   pub written : (k : K) (a : A) (n : ℕ) (x : O) → Post k a n x → (left x ≡ set (place a) 0 (get_or (left x) 0 0)) × (n ≡ 0 → get_or (left x) 0 0 ≡ 0)
 
 abbrev pub StageNumbers : ((Refusal → Type 0) → (Refusal → Type 0) → Type 0) → Type 0
-StageNumbers Agree = PromisedInC Agree stage.Post (λ a. (c-lent a).2) (λ o. (c-staged o).3) (λ a. EntryRefused
-    (Shorter (c-lent a).2 1 ⊎ Shorter (c-lent a).1 staged_room)
+StageNumbers Agree = PromisedInC Agree stage.Post (λ a. (c-stage-lent a).2) (λ o. (c-staged o).3) (λ a. EntryRefused
+    (Shorter (c-stage-lent a).2 1 ⊎ Shorter (c-stage-lent a).1 staged_room)
     NothingWide
-    (WholeRefused a.0.now a.1.0 (c-lent a).0))
+    (WholeRefused a.0.now a.1.0 (c-stage-lent a).0))
 
 -- numbers that its record's fields cannot hold make it no answer, which is 3 after all that the blob itself earns
 abbrev pub PublishNumbers : ((Refusal → Type 0) → (Refusal → Type 0) → Type 0) → Type 0

@@ -2,7 +2,7 @@
 -- Each row is about the promise itself: `Pre` and `Post` are what the checker makes of the text of an entry's `requires` and `ensures`.
 -- Assumes nothing.
 use Rattle.std.specs.Prelude.{Bool, List, ℕ}
-use Rattle.std.specs.Borrow.{Bor}
+use Rattle.std.specs.Borrow.{Bor, MutBor}
 use Rattle.lerc.specs.Read.{Lent}
 use Rattle.lerc_pack_writer.specs.Writing.{Given}
 use Rattle.lerc_c.proofs.lerc2_read_header.Reads as c-read-header
@@ -25,20 +25,27 @@ use Rattle.lerc_c.proofs.lerc2_pack_entry.Reads as c-pack-entry
 use Rattle.lerc_c.proofs.lerc2_pack_write.Reads as c-pack-write
 use Rattle.lerc_theorems.specs.Promises.{Answers, Writes}
 
--- the slices that the C interface's whole read is lent, those of what it says and of the place among them; staging is lent the same
+-- the slices that the C interface's whole read is lent, those of what it says and of the place among them
 abbrev pub CRead : Type 0
-CRead = Bor (List ℕ) × (Bool × (Bor (List ℕ) × (Bor (List ℕ) × (Bor (List ℕ) × (Bor (List ℕ) × (Bor (List ℕ) × (Bor (List ℕ) × Unit {0})))))))
+CRead = Bor (List ℕ) × (Bool × (MutBor (List ℕ) × (MutBor (List ℕ) × (MutBor (List ℕ) × (MutBor (List ℕ) × (MutBor (List ℕ) × (MutBor (List ℕ) × Unit {0})))))))
 
 abbrev pub c-lent : CRead → Lent × List ℕ × List ℕ
 c-lent a = (record { kept = a.1.1.0.now; spare = a.1.1.1.0.now; list = a.1.1.1.1.0.now; image = a.1.1.1.1.1.0.now }, a.1.1.1.1.1.1.0.now, a.1.1.1.1.1.1.1.0.now)
 
+-- staging is lent the same, of which it writes neither kept mask nor image
+abbrev pub CStage : Type 0
+CStage = Bor (List ℕ) × (Bool × (Bor (List ℕ) × (MutBor (List ℕ) × (MutBor (List ℕ) × (Bor (List ℕ) × (MutBor (List ℕ) × (MutBor (List ℕ) × Unit {0})))))))
+
+abbrev pub c-stage-lent : CStage → Lent × List ℕ × List ℕ
+c-stage-lent a = (record { kept = a.1.1.0.now; spare = a.1.1.1.0.now; list = a.1.1.1.1.0.now; image = a.1.1.1.1.1.0.now }, a.1.1.1.1.1.1.0.now, a.1.1.1.1.1.1.1.0.now)
+
 -- what staging writes: spare, list, the record of its answer, the place
-abbrev pub c-staged : CRead → List ℕ × List ℕ × List ℕ × List ℕ
+abbrev pub c-staged : CStage → List ℕ × List ℕ × List ℕ × List ℕ
 c-staged o = (o.1.1.1.0.now, o.1.1.1.1.0.now, o.1.1.1.1.1.1.0.now, o.1.1.1.1.1.1.1.0.now)
 
 -- the slices that publishing is lent: the record of an answer before the four, then what it says and the place
 abbrev pub CPublish : Type 0
-CPublish = Bor (List ℕ) × (Bool × (Bor (List ℕ) × (Bor (List ℕ) × (Bor (List ℕ) × (Bor (List ℕ) × (Bor (List ℕ) × (Bor (List ℕ) × (Bor (List ℕ) × Unit {0}))))))))
+CPublish = Bor (List ℕ) × (Bool × (Bor (List ℕ) × (MutBor (List ℕ) × (Bor (List ℕ) × (Bor (List ℕ) × (MutBor (List ℕ) × (MutBor (List ℕ) × (MutBor (List ℕ) × Unit {0}))))))))
 
 abbrev pub c-given : CPublish → List ℕ × Lent × List ℕ × List ℕ
 c-given a = (a.1.1.0.now, record { kept = a.1.1.1.0.now; spare = a.1.1.1.1.0.now; list = a.1.1.1.1.1.0.now; image = a.1.1.1.1.1.1.0.now }, a.1.1.1.1.1.1.1.0.now, a.1.1.1.1.1.1.1.1.0.now)
@@ -55,7 +62,7 @@ PublishFixed = Writes c-publish.Pre c-publish.Post c-published
 
 -- the slices that writing a pack is lent: the tiles, then the pack, what is said and the place
 abbrev pub CWrite : Type 0
-CWrite = Bor (List ℕ) × (Bor (List ℕ) × (Bor (List ℕ) × (Bor (List ℕ) × (Bor (List ℕ) × (Bor (List ℕ) × (Bor (List ℕ) × Unit {0}))))))
+CWrite = Bor (List ℕ) × (Bor (List ℕ) × (Bor (List ℕ) × (Bor (List ℕ) × (MutBor (List ℕ) × (MutBor (List ℕ) × (MutBor (List ℕ) × Unit {0}))))))
 
 abbrev pub c-tiles : CWrite → Given
 c-tiles a = record { rows = a.0.now; columns = a.1.0.now; lengths = a.1.1.0.now; bodies = a.1.1.1.0.now }

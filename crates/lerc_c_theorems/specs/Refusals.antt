@@ -16,7 +16,7 @@ use Rattle.lerc_c.proofs.lerc2_stored.Reads as stored
 use Rattle.lerc_c.proofs.lerc2_pack_open.Reads as pack-open
 use Rattle.lerc_c.proofs.lerc2_pack_entry.Reads as pack-entry
 use Rattle.lerc_c.proofs.lerc2_pack_write.Reads as pack-write
-use Rattle.lerc_c_theorems.specs.Promises.{CRead, c-lent, c-staged, c-published, c-written}
+use Rattle.lerc_c_theorems.specs.Promises.{CRead, CStage, c-lent, c-stage-lent, c-staged, c-published, c-written}
 use Rattle.lerc_theorems.specs.Refusals.{WholeKeeps}
 
 -- a promise by which any number but 0 leaves what was lent: `before` of the inputs is `left` of the outputs
@@ -34,22 +34,22 @@ pub record ReadKeepsInC (a x : CRead) : Type 0 where
   pub short : read_has_room a ≡ false → (c-lent x).0 ≡ (c-lent a).0
 
 -- there is room for the place and for the record of the answer
-abbrev pub stage_has_room : CRead → Bool
-stage_has_room a = leb 1 (length (c-lent a).2) && leb staged_room (length (c-lent a).1)
+abbrev pub stage_has_room : CStage → Bool
+stage_has_room a = leb 1 (length (c-stage-lent a).2) && leb staged_room (length (c-stage-lent a).1)
 
 -- what was lent, with the spare that staging left
-abbrev pub with_spare : CRead → List ℕ → Lent
-with_spare a spare = record { kept = (c-lent a).0.kept; spare = spare; list = (c-lent a).0.list; image = (c-lent a).0.image }
+abbrev pub with_spare : CStage → List ℕ → Lent
+with_spare a spare = record { kept = (c-stage-lent a).0.kept; spare = spare; list = (c-stage-lent a).0.list; image = (c-stage-lent a).0.image }
 
 -- staging that is refused: list and record as they were; the spare where there is room as `lerc::read` leaves it, else as it was
-pub record StageKeepsInC (a x : CRead) : Type 0 where
-  pub list : (c-staged x).1 ≡ (c-lent a).0.list
-  pub staged : (c-staged x).2 ≡ (c-lent a).1
-  pub room : stage_has_room a ≡ true → WholeKeeps a.0.now a.1.0 (c-lent a).0 (with_spare a (c-staged x).0)
-  pub short : stage_has_room a ≡ false → (c-staged x).0 ≡ (c-lent a).0.spare
+pub record StageKeepsInC (a x : CStage) : Type 0 where
+  pub list : (c-staged x).1 ≡ (c-stage-lent a).0.list
+  pub staged : (c-staged x).2 ≡ (c-stage-lent a).1
+  pub room : stage_has_room a ≡ true → WholeKeeps a.0.now a.1.0 (c-stage-lent a).0 (with_spare a (c-staged x).0)
+  pub short : stage_has_room a ≡ false → (c-staged x).0 ≡ (c-stage-lent a).0.spare
 
 abbrev pub StageKeeps : Type 0
-StageKeeps = (k : _) (a x : CRead) (n : ℕ) → stage.Post k a n x → n ≢ 0 → StageKeepsInC a x
+StageKeeps = (k : _) (a x : CStage) (n : ℕ) → stage.Post k a n x → n ≢ 0 → StageKeepsInC a x
 
 abbrev pub PublishKeeps : Type 0
 PublishKeeps = KeepsInC {S = List ℕ × List ℕ × List ℕ} publish.Post (λ a. ((c-published a).0, (c-published a).1, (c-published a).2)) (λ o. ((c-published o).0, (c-published o).1, (c-published o).2))

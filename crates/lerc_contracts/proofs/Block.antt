@@ -140,7 +140,7 @@ module _ (h : Header) (mask : List ℕ) (n : ℕ) (start : List ℕ) (g : Shaped
         words = tabulate many (λ k. little (type_size h.kind) s (m.at + k * type_size h.kind))
 
         goes : (i : ℕ) → pos i + z ≤ length s → value s h m q (pos i) 0 maximum ≡ some (record { value = little z s (pos i); at = pos (i + 1); q = 0 })
-        goes i l = (value-cases s h m q (pos i) 0 maximum).raw_word f l ∙ rw (next i)
+        goes i l = (value-cases s h m q (pos i) 0 maximum).raw_word_lem f l ∙ rw (next i)
 
         step : (i : ℕ) → Dec (pos i + z ≤ length s)
             → (value s h m q (pos i) 0 maximum ≡ none) ⊎ ((w : ℕ) × (value s h m q (pos i) 0 maximum ≡ some (record { value = w; at = pos (i + 1); q = 0 })))

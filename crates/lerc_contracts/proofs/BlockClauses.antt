@@ -46,7 +46,7 @@ use Rattle.lerc_overflow.proofs.Blocks.{block-next}
 use Rattle.lerc_overflow.proofs.Chains.{at_next, at-calm}
 use Rattle.lerc_contracts.specs.Outside.{said, is_some, on_some, length_max, storage, width, height}
 use Rattle.lerc_contracts.specs.Block.{TileValid, pixel, target, Mode, mode, Step, value, ResultModel, finished, finish, block}
-use Rattle.lerc_contracts.specs.Between.{valid_of, their_fill, room_for, result}
+use Rattle.lerc_contracts.specs.Between.{their_fill, room_for, result}
 use Rattle.lerc_contracts.specs.BlockClauses.{TargetClauses, ReadBlockClauses, ReconstructClauses}
 use Rattle.lerc_contracts.proofs.WithoutNumber.{told-some, said-marked, said-is}
 use Rattle.lerc_contracts.proofs.Refusals.{blob-short}

@@ -43,7 +43,7 @@ use Rattle.lerc.specs.declared.ReadAnswer.{ReadAnswer}
 use Rattle.lerc.specs.declared.Staged.{Staged}
 use Rattle.lerc.specs.declared.StageAnswer.{StageAnswer}
 use Rattle.lerc.specs.Meaning.{Body, missing_word_at, raw_body, constant_body, end_of, cell_word}
-use Rattle.lerc.specs.Read.{Lent, room, masked, read_says, WholeRead}
+use Rattle.lerc.specs.Read.{Lent, masked, read_says, WholeRead}
 use Rattle.lerc.specs.Stage.{staged_body, stage_said}
 use Rattle.lerc.specs.Parts.{Ready, body_image, BodyRead}
 use Rattle.lerc_numeric.specs.Numeric.{counted_sum}

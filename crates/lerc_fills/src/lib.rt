@@ -1,5 +1,6 @@
 // Blocks filled by a list of numbers.
 #![tactic(auto)]
+
 ghost use Rattle.std.specs.Prelude.{◌≡◌, cond};
 ghost use Rattle.lerc_words.specs.Res.{accepts};
 ghost use Rattle.lerc_image.specs.Fill.{fill_said};

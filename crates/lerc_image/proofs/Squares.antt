@@ -9,7 +9,7 @@ use native.Mathlib.Numerals.{add-one}
 use native.Mathlib.Omega.{arith}
 use lib.Count.{ones, ones_cat}
 use lib.Dec.{eqb}
-use lib.ListN.{length, get_or}
+use lib.ListN.{get_or}
 use lib.Pow.{pow-add, pow_mono}
 use borrow.Author.Tests.{eqb-true}
 use Rattle.lerc_words.specs.Lists.{total}
@@ -18,7 +18,6 @@ use Rattle.lerc_words.proofs.Counts.{total-zero, total-more}
 use Rattle.lerc_header.specs.declared.Shape.{Shape}
 use Rattle.lerc_header.specs.Limits.{sideways}
 use Rattle.lerc_mask.specs.Mask.{pixel_valid, valid_from}
-use Rattle.lerc_mask.specs.Passes.{bits_of}
 use Rattle.lerc_mask.proofs.Cut.{bits-whole, valid-first, zero-ones}
 use Rattle.lerc_image.specs.declared.Tile.{Tile}
 use Rattle.lerc_image.specs.Geometry.{rank, valid_in_tile}

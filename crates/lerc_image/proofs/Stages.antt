@@ -22,7 +22,7 @@ use Rattle.lerc_header.proofs.Kept.{held-is, held-shaped}
 use Rattle.lerc_header.specs.Shape.{block_count, cells, Shaped}
 use Rattle.lerc_image.specs.declared.WalkAnswer.TheVariants as answer
 use Rattle.lerc_image.specs.Geometry.{block_of, is_valid_cell}
-use Rattle.lerc_image.specs.Blocks.{Chain, chain, all_blocks}
+use Rattle.lerc_image.specs.Blocks.{Chain, all_blocks}
 use Rattle.lerc_image.specs.Walk.{walk_said, walk_of}
 use Rattle.lerc_image.specs.Tiles.{checked_tiles, head_starts, room_to_list, listed_tiles, tiles_listed, listed_block, listed_image, room_to_fill, filled_tiles, starts_from, image_from, written_list, written_image, tiles_says, tiles_image, Tiled}
 use Rattle.lerc_image.specs.Parts.{BodyAsked, BodyListed}

@@ -1,5 +1,6 @@
 // Tiles of an image, its blocks by number, walking them and filling one.
 #![tactic(auto)]
+
 ghost use Rattle.std.specs.Prelude.{◌≡◌, ℕ, ◌+◌, ◌*◌, ◌^◌, ◌≤◌, ◌<◌, min, length, get_or, take};
 ghost use Rattle.std.specs.Int.Count.{ones};
 ghost use Rattle.lerc_words.specs.Lists.{over, total};

@@ -8,7 +8,6 @@ use native.Mathlib.Nat.{add-zero}
 use native.Mathlib.Omega.{arith}
 use lib.ListN.{get_or}
 use Rattle.lerc_words.specs.Res.{Res, ok, fail, ◌>>=◌, marked}
-use Rattle.lerc_words.specs.declared.Refusal.{Refusal}
 use Rattle.lerc_words.proofs.Binding.{bind_is, bind-fail, ok-is}
 use Rattle.lerc_words.proofs.Marking.{marked-tells}
 use Rattle.lerc_numeric.specs.Numeric.{counted_sum}

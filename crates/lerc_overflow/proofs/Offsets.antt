@@ -1,9 +1,9 @@
 -- Offsets: how far out one is by the kind as which it was read.
 -- Assumes nothing.
 use mathlib.Core.Path.{◌≡◌, refl, sym, ap, ◌∙◌}
-use mathlib.Core.Bool.{Bool, true, false, not, cond, ◌||◌}
+use mathlib.Core.Bool.{Bool, true, false, not, ◌||◌}
 use mathlib.Core.List.{List, []}
-use Prim.Native.Nat.{ℕ, ◌+◌, ◌*◌, ◌/◌, ◌%◌, ◌^◌, ◌≤◌, ◌<◌}
+use Prim.Native.Nat.{ℕ, ◌*◌, ◌/◌, ◌%◌, ◌^◌, ◌≤◌, ◌<◌}
 use native.Mathlib.Nat.{lt_of_lt_of_le, div-lt_iff_lt-mul, le_of_lt, not-le_of_lt}
 use native.Mathlib.Decide.{dec_lt}
 use native.Mathlib.Omega.{arith}
@@ -15,9 +15,9 @@ use Rattle.lerc_words.specs.Lists.{all_to}
 use Rattle.lerc_words.proofs.Binding.{bind_is, require-is, ok-is}
 use Rattle.lerc_words.proofs.Tables.{all-each}
 use Rattle.lerc_numeric.specs.Numeric.{field, finite, mag, negative}
-use Rattle.lerc_numeric.specs.Kinds.{type_size, value_of, whole, widened, bound, modulus}
+use Rattle.lerc_numeric.specs.Kinds.{type_size, value_of, whole, widened}
 use Rattle.lerc_numeric.proofs.Integers.{modulus-le, bound-le, value-six}
-use Rattle.lerc_numeric.proofs.Fits.{KindHolds, value-held}
+use Rattle.lerc_numeric.proofs.Fits.{value-held}
 use Rattle.lerc_numeric.proofs.RoundTrip.{wide-near}
 use Rattle.lerc_samples.specs.Samples.{offset_kinds, offset_kind}
 use Rattle.lerc_samples.proofs.Offsets.{offset-code-past}

@@ -3,7 +3,6 @@
 use mathlib.Core.Path.{◌≡◌}
 use mathlib.Core.List.{List}
 use Prim.Native.Nat.{ℕ}
-use Rattle.lerc_pack.specs.declared.Entry.{Entry}
 use Rattle.lerc_pack.specs.declared.PackAnswer.{PackAnswer}
 use Rattle.lerc_pack.specs.declared.PackAnswer.TheVariants as pack-answer
 use Rattle.lerc_pack.specs.declared.EntryAnswer.{EntryAnswer}

@@ -13,13 +13,10 @@ use borrow.Author.Tests.{lt-ltb, le-leb, eq-eqb, eqb-true}
 use Rattle.lerc_words.specs.declared.Refusal.{Refusal}
 use Rattle.lerc_words.specs.Res.{Res, ok, fail, ◌>>=◌, require, refuse}
 use Rattle.lerc_words.specs.Lists.{over, all_to}
-use Rattle.lerc_words.proofs.Little.{Bytes}
 use Rattle.lerc_words.proofs.Tables.{get_d_tabulate, length-tabulate}
 use Rattle.lerc_header.specs.Header.{header_of}
 use Rattle.lerc_image.specs.Paint.{among}
-use Rattle.lerc_pack.specs.declared.PackAnswer.TheVariants as pack-answer
-use Rattle.lerc_pack.specs.declared.EntryAnswer.TheVariants as entry-answer
-use Rattle.lerc_pack.specs.Contents.{Tile, entry_place, body_place, joined, tiles_right}
+use Rattle.lerc_pack.specs.Contents.{entry_place, body_place, tiles_right}
 use Rattle.lerc_pack.specs.Pack.{count_of, head_right, entry_at, body_of, tile_of, contents, pack_says, pack_said, count_said, opened_says, entry_says, entry_said, body_says, body_said}
 use Rattle.lerc_pack.proofs.Joined.{joined_same}
 use Rattle.lerc_pack_writer.specs.declared.WriteAnswer.TheVariants as write-answer
@@ -31,7 +28,7 @@ use Rattle.lerc_theorems.specs.Writes.{AlikeFrom}
 use Rattle.lerc_theorems.proofs.Headers.{header-exactly}
 use Rattle.lerc_theorems.proofs.Given.{body-in}
 use Rattle.lerc_staged.proofs.InTwo.{stage-refuses}
-use Rattle.lerc_pack_theorems.specs.Table.{EntryRefused, number_past, entry_past, body-past, no_room}
+use Rattle.lerc_pack_theorems.specs.Table.{EntryRefused, number_past, entry_past, body-past}
 use Rattle.lerc_pack_theorems.specs.Packs as claimed
 use Rattle.lerc_pack_theorems.specs.Packs.{PackClaims}
 use Rattle.lerc_pack_theorems.proofs.Calls.{open-call, entry-call, body_call, write-call, pack-same, entry-same, write_same}

@@ -1,7 +1,7 @@
 -- Calls of the pack's functions: what is lent, what is answered and what is left, in any outcome that the promise allows. Slices hold what their types hold.
 -- Assumes nothing.
 use Rattle.std.specs.Prelude.{List, ℕ}
-use Rattle.std.specs.Borrow.{Bor}
+use Rattle.std.specs.Borrow.{Bor, MutBor}
 use Rattle.lerc_pack.specs.declared.PackAnswer.{PackAnswer}
 use Rattle.lerc_pack.specs.declared.EntryAnswer.{EntryAnswer}
 use Rattle.lerc_pack.proofs.open_pack.Reads as open-pack
@@ -26,7 +26,7 @@ BodyCall b place n i part at =
 
 -- the slices that the writer is lent, among its inputs
 abbrev pub Inputs : Type 0
-Inputs = Bor (List ℕ) × (Bor (List ℕ) × (Bor (List ℕ) × (Bor (List ℕ) × (Bor (List ℕ) × Unit {0}))))
+Inputs = Bor (List ℕ) × (Bor (List ℕ) × (Bor (List ℕ) × (Bor (List ℕ) × (MutBor (List ℕ) × Unit {0}))))
 
 abbrev pub given : Inputs → Given
 given a = record { rows = a.0.now; columns = a.1.0.now; lengths = a.1.1.0.now; bodies = a.1.1.1.0.now }

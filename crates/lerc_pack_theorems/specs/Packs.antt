@@ -1,7 +1,7 @@
 -- What is claimed of packs: which bytes are one, that packs and contents correspond one to one, what is handed out of a pack, what the writer writes, and what is refused.
 -- `Bytes` and `Twos` say of a list what the type of a slice says: every entry is a byte, or has two bytes.
 -- Assumes nothing.
-use Rattle.std.specs.Prelude.{ℕ, suc, ◌≤◌, ◌<◌, ◌≡◌, ◌↔◌, Bool, true, List, [], ◌∷◌, length, get_or, take, drop}
+use Rattle.std.specs.Prelude.{ℕ, ◌≤◌, ◌<◌, ◌≡◌, ◌↔◌, Bool, true, List, [], ◌∷◌, length, get_or, take, drop}
 use Rattle.lerc_words.specs.declared.Refusal.{Refusal}
 use Rattle.lerc_words.specs.Res.{ok}
 use Rattle.lerc_words.specs.Lists.{tabulate}

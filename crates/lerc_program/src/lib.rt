@@ -1,6 +1,7 @@
 // The program's text for the bytes that it reads: a blob's cells, or for a refusal one line with its number and its place.
 // No mask is reused.
 #![tactic(auto)]
+
 ghost use Rattle.std.specs.Prelude.{ℕ, ◌≤◌};
 ghost use Rattle.lerc_header.specs.Header.{shape_of};
 ghost use Rattle.lerc_header.specs.Shape.{cells};

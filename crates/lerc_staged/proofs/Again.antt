@@ -126,7 +126,7 @@ module _ {b : List ℕ} {reuse : Bool} {a : StageAnswer} {l : Lent} {m : Meaning
       }
 
 pub publish-twice : PublishTwice
-publish-twice b reuse given said told old kept image Again-kept again-image p accepted q =
+publish-twice b reuse given said told old kept image again-kept again-image p accepted q =
     let (m, d) = done-of (publish-call p) accepted.2 in
     let k = done-kept d (publish-call p) in
     let i = done-image d (publish-call p) in

@@ -13,7 +13,6 @@ use Rattle.lerc_words.proofs.Binding.{bind_is, bind-fail, bind-counts, ok-is, re
 use Rattle.lerc_slices.specs.Slices.{begins_with}
 use Rattle.lerc_slices.proofs.Begins.{begins-over, over-begins}
 use Rattle.lerc_validity.specs.Validity.{MaskInForce, reused, new, spare_with, holds_mask}
-use Rattle.lerc.specs.declared.Staged.{Staged}
 use Rattle.lerc.specs.declared.StageAnswer.{StageAnswer}
 use Rattle.lerc.specs.declared.StageAnswer.TheVariants as stage-answer
 use Rattle.lerc.specs.declared.PublishAnswer.{PublishAnswer}

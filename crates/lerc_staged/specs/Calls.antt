@@ -1,23 +1,23 @@
 -- Calls of staging and publishing: what is lent, what is answered and what is left, in any outcome that the promise allows.
 -- Assumes nothing.
 use Rattle.std.specs.Prelude.{Bool, List, ℕ}
-use Rattle.std.specs.Borrow.{Bor}
+use Rattle.std.specs.Borrow.{Bor, MutBor}
 use Rattle.lerc.specs.declared.StageAnswer.{StageAnswer}
 use Rattle.lerc.specs.declared.PublishAnswer.{PublishAnswer}
 use Rattle.lerc.specs.Read.{Lent}
 use Rattle.lerc.proofs.stage.Reads as stage
 use Rattle.lerc.proofs.publish.Reads as publish
-use Rattle.lerc_theorems.specs.Promises.{lent}
 use Rattle.lerc_theorems.specs.Calls.{Call}
 
 -- blob, reuse; the answer; the lent slices before; the spare and the list afterwards
 abbrev pub StageCall : List ℕ → Bool → StageAnswer → Lent → List ℕ → List ℕ → Type 0
 StageCall b reuse said old spare list =
-    Call {S = List ℕ × Bool × Lent} {T = List ℕ × List ℕ} stage.Post (λ a. (a.0.now, a.1.0, lent a)) (λ r. r) (λ o. (o.1.1.1.0.now, o.1.1.1.1.0.now)) (b, reuse, old) said (spare, list)
+    Call {S = List ℕ × Bool × Lent} {T = List ℕ × List ℕ} stage.Post
+    (λ a. (a.0.now, a.1.0, record { kept = a.1.1.0.now; spare = a.1.1.1.0.now; list = a.1.1.1.1.0.now; image = a.1.1.1.1.1.0.now })) (λ r. r) (λ o. (o.1.1.1.0.now, o.1.1.1.1.0.now)) (b, reuse, old) said (spare, list)
 
 -- the slices that publishing is lent, among its inputs
 abbrev pub Inputs : Type 0
-Inputs = Bor (List ℕ) × (Bool × (StageAnswer × (Bor (List ℕ) × (Bor (List ℕ) × (Bor (List ℕ) × (Bor (List ℕ) × Unit {0}))))))
+Inputs = Bor (List ℕ) × (Bool × (StageAnswer × (MutBor (List ℕ) × (Bor (List ℕ) × (Bor (List ℕ) × (MutBor (List ℕ) × Unit {0}))))))
 
 abbrev pub to_publish : Inputs → Lent
 to_publish a = record { kept = a.1.1.1.0.now; spare = a.1.1.1.1.0.now; list = a.1.1.1.1.1.0.now; image = a.1.1.1.1.1.1.0.now }

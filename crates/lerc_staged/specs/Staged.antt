@@ -192,9 +192,9 @@ FillsComplete =
 -- a second publish of the same answer is accepted, and changes nothing more
 abbrev pub PublishTwice : Type 0
 PublishTwice =
-    (b : List ℕ) (reuse : Bool) (given : StageAnswer) (said told : PublishAnswer) (old : Lent) (kept image Again-kept again-image : List ℕ)
-    → PublishCall b reuse given said old kept image → Accepted said → PublishCall b reuse given told (as_published old kept image) Again-kept again-image
-    → (told ≡ said) × (Again-kept ≡ kept) × (again-image ≡ image)
+    (b : List ℕ) (reuse : Bool) (given : StageAnswer) (said told : PublishAnswer) (old : Lent) (kept image again-kept again-image : List ℕ)
+    → PublishCall b reuse given said old kept image → Accepted said → PublishCall b reuse given told (as_published old kept image) again-kept again-image
+    → (told ≡ said) × (again-kept ≡ kept) × (again-image ≡ image)
 
 -- ---- what is written
 

@@ -1,44 +1,41 @@
 -- What is claimed of the checksum in calls, proved.
 -- Assumes nothing.
-use Prim.Native.Nat.{ℕ, ◌-◌, ◌%◌}
+use Prim.Native.Nat.{ℕ, ◌-◌}
 use mathlib.Core.Path.{◌≡◌, ◌∙◌, sym, ap, ap₂, refl, subst}
-use mathlib.Core.Logic.{◌↔◌, ◌≢◌}
+use mathlib.Core.Logic.{◌≢◌}
 use mathlib.Core.Bool.{Bool, true, false}
 use mathlib.Core.List.{List}
 use native.Mathlib.Omega.{arith}
-use lib.ListN.{length, take, drop}
-use lib.Dec.{leb, eqb}
+use lib.ListN.{length, take}
+use lib.Dec.{leb}
 use lib.Ieee.{size, span, climb}
 use Rattle.lerc_numeric.specs.Numeric.{mag, less}
-use borrow.Author.Tests.{eqb-true, leb-true}
+use borrow.Author.Tests.{eqb-true}
 use Rattle.lerc_words.specs.declared.Refusal.{Refusal}
 use Rattle.lerc_words.specs.Res.{Res, ok, fail, ◌>>=◌, refuse, require, little}
 use Rattle.lerc_words.proofs.Binding.{bind_is, bind-fail, bind-counts, ok-is, require-is}
 use Rattle.lerc_theorems.proofs.Demands.{fail-is}
 use Rattle.lerc_checksum.specs.Checksum.{word, fold, sums_to, closed_to, with_last, joined, checksum}
-use Rattle.lerc_checksum.specs.Laws.{Bytes, OneChanged}
 use Rattle.lerc_checksum.proofs.Claim.{laws}
 use Rattle.lerc_checksum.proofs.Computed.{witnesses}
 use Rattle.lerc_header.specs.declared.Header.{Header}
 use Rattle.lerc_header.specs.declared.Extent.{Extent}
-use Rattle.lerc_header.specs.declared.HeaderAnswer.{HeaderAnswer}
 use Rattle.lerc_header.specs.declared.HeaderAnswer.TheVariants as header-answer
 use Rattle.lerc_header.specs.Header.{error_right, pair_right, fields_right, within_ceilings, header_bytes, key_right, header_of, held, summed_bytes, checksum_right, header_says, header_said}
 use Rattle.lerc_header.proofs.Kept.{header-summed}
 use Rattle.lerc_mask.proofs.Steps.{bytes-part}
 use Rattle.lerc_validity.specs.Validity.{MaskInForce, mask_says, bytes_of}
-use Rattle.lerc.specs.declared.ReadAnswer.{ReadAnswer}
 use Rattle.lerc.specs.declared.ReadAnswer.TheVariants as read_answer
 use Rattle.lerc.specs.Meaning.{Meaning, body_says, meaning_from, meaning}
 use Rattle.lerc.specs.Read.{Lent, Masked, masked, read_says, ReadTold, read_count, read_said, refused_after, read_after}
 use Rattle.lerc.proofs.Endings.{header-no}
 use Rattle.lerc_theorems.specs.Table.{HeaderRefused, header-cut, key-wrong, not-held, checksum-wrong, WholeRefused, whole-header, whole_room, whole-mask, whole-body}
-use Rattle.lerc_theorems.specs.Calls.{HeaderCall, ReadCall}
+use Rattle.lerc_theorems.specs.Calls.{HeaderCall}
 use Rattle.lerc_theorems.proofs.Calls.{header-call, read-call}
 use Rattle.lerc_theorems.proofs.Entries.{whole-exactly}
 use Rattle.lerc_theorems.proofs.Given.{held_in, body-in}
 use Rattle.lerc_theorems.proofs.Headers.{header-exactly}
-use Rattle.lerc_theorems.proofs.Meanings.{Means, meaning-is, means_is}
+use Rattle.lerc_theorems.proofs.Meanings.{meaning-is, means_is}
 use Rattle.lerc_theorems.proofs.Refusals.{masked-is}
 use Rattle.lerc_theorems.proofs.SameAnswers.{header-same, read_same}
 use Rattle.lerc_summed.specs.Summed.{WronglySummed, unsummed_header, unsummed_meaning, HeaderRefuses, ReadRefuses, ReadKeeps, HeaderSummed, ReadSummed, ZeroRefused, WordRefused, HeaderAsBefore, HeaderRefusedAsBefore, MeaningAsBefore, ReadAsBefore, SizeMissed, unsummed_masked, unsummed_read, Summed}

@@ -25,7 +25,7 @@ use Rattle.lerc_ranges.specs.Ranges.{constant_words}
 use Rattle.lerc_block.specs.Block.{Block, tile_limit, raw_words, level_block, stepped_block, offset_at, finite_offset, offset_block, formed, flag_at, block_says, read_block_says}
 use Rattle.lerc_block.specs.Plan.{raw_plan, finite_word, stepped_plan, offset_plan, form_plan, plan_at, plan_says}
 use Rattle.lerc_block.proofs.Returns.{offset-is, finite-is, flag_is}
-use Rattle.lerc_theorems.specs.BlockTable.{WordRefused, word_wide, word_cut, SampleRefused, sample-cut, StoredRefused, not_finite, out_of_range, IntegerRefused, no-integer, not-stored, KindRefused, no_kind, ConstantsRefused, not-constant, TabledRefused, no_bits, entries-cut, entries-few, table-cut, PackedRefused, plain-cut, not-tabled, PlanRefused, counts-cut, width-wrong, count_cut, count-large, packed-refused, CountsRefused, not-planned, index-large, LevelsRefused, level-refused, counts-refused, miscounted-block, value-refused, OffsetRefused, kind-refused, offset-cut, offset-not-finite, levels-refused, BlockRefused, flag-cut, check-wrong, raw-cut, offset-refused, ReadBlockRefused, tile-large, not-read, PlannedRefused, plan-loose, planned-index, OffsetPlanRefused, plan-kind, plan-offset-cut, plan-not-finite, plan-counts, BlockPlanRefused, plan-tile-large, plan-flag-cut, plan-check-wrong, plan-raw-cut, plan-offset}
+use Rattle.lerc_theorems.specs.BlockTable.{WordRefused, word_wide, word_cut, SampleRefused, sample-cut, StoredRefused, not_finite, out_of_range, IntegerRefused, no-integer, not-stored, KindRefused, no-kind, ConstantsRefused, not-constant, TabledRefused, no_bits, entries-cut, entries-few, table-cut, PackedRefused, plain-cut, not-tabled, PlanRefused, counts-cut, width-wrong, count_cut, count-large, packed-refused, CountsRefused, not-planned, index-large, LevelsRefused, level-refused, counts-refused, miscounted-block, value-refused, OffsetRefused, kind-refused, offset-cut, offset-not-finite, levels-refused, BlockRefused, flag-cut, check-wrong, raw-cut, offset-refused, ReadBlockRefused, tile-large, not-read, PlannedRefused, plan-loose, planned-index, OffsetPlanRefused, plan-kind, plan-offset-cut, plan-not-finite, plan-counts, BlockPlanRefused, plan-tile-large, plan-flag-cut, plan-check-wrong, plan-raw-cut, plan-offset}
 use Rattle.lerc_theorems.proofs.Demands.{demand, reading, reading-one, choosing, not-refused, OnlyNumber, one_ok, one-require, one-bind, one-cond}
 
 -- ---- words and values
@@ -106,11 +106,11 @@ module _ (kind v : ℕ) where
 module _ (kind code : ℕ) where
   kind-refuses : {n : Refusal} → offset_kind kind code ≡ fail n → KindRefused kind code n
   unfolding offset_kind
-  kind-refuses e = demand (KindRefused kind code) (ltb (get_or (get_or offset_kinds kind []) code no_kind) no_kind) 8 _ e (λ t. no_kind (ltb-false _ _ t)) (λ t e. not-refused e)
+  kind-refuses e = demand (KindRefused kind code) (ltb (get_or (get_or offset_kinds kind []) code no_kind) no_kind) 8 _ e (λ t. no-kind (ltb-false _ _ t)) (λ t e. not-refused e)
 
   refused-kind : {n : Refusal} → KindRefused kind code n → offset_kind kind code ≡ fail n
   unfolding offset_kind
-  refused-kind (no_kind l) = rw (le-ltb _ _ l)
+  refused-kind (no-kind l) = rw (le-ltb _ _ l)
 
   pub kind-exactly : (n : Refusal) → (offset_kind kind code ≡ fail n) ↔ KindRefused kind code n
   kind-exactly n = (kind-refuses, refused-kind)

@@ -27,7 +27,7 @@ use Rattle.lerc_image.proofs.Chain.{chain-parts, chain-none, chain-lengths, chai
 use Rattle.lerc_image.proofs.Stages.{get_d_any}
 use Rattle.lerc_byte_image.specs.Image.{image_at}
 use Rattle.lerc_byte_image.proofs.Front.{image-bounds}
-use Rattle.lerc.specs.Meaning.{Body, empty, constant, blocks, missing_word_at, raw_body, block_body, huffman_body, body_from, swept_body, constant_body, body_says, end_of}
+use Rattle.lerc.specs.Meaning.{Body, empty, blocks, missing_word_at, raw_body, block_body, huffman_body, body_from, swept_body, constant_body, body_says, end_of}
 
 -- ---- behind the sweep byte
 

@@ -44,7 +44,7 @@ use Rattle.lerc_image.proofs.Upto.{valid-below}
 use Rattle.lerc.specs.declared.ReadAnswer.{ReadAnswer}
 use Rattle.lerc.specs.declared.ReadAnswer.TheVariants as read_answer
 use Rattle.lerc.specs.Meaning.{blocks, Meaning, starts_of, cell_word, meaning}
-use Rattle.lerc.specs.Read.{Lent, room, masked, published, read_after, read_said, read_count, WholeRead}
+use Rattle.lerc.specs.Read.{Lent, masked, published, read_after, read_said, read_count, WholeRead}
 use Rattle.lerc_ranges.proofs.Judged.{ranges-held}
 use Rattle.lerc_theorems.specs.Promises.{lent}
 use Rattle.lerc_theorems.specs.Calls.{HeaderCall, PrepareCall, HandedCall, ReadRanges, WalkCall, FillCalls, ReadCall}

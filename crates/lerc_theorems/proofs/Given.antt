@@ -10,7 +10,7 @@ use Rattle.lerc_header.specs.declared.Header.{Header}
 use Rattle.lerc_ranges.specs.declared.Ranges.{Ranges}
 use Rattle.lerc.specs.declared.StageAnswer.{StageAnswer}
 use Rattle.lerc.specs.Read.{Lent}
-use Rattle.lerc_theorems.specs.BlockTable.{At, at_place, WordRefused, word_wide, word_cut, SampleRefused, sample-cut, StoredRefused, not_finite, out_of_range, IntegerRefused, no-integer, not-stored, KindRefused, no_kind, ConstantsRefused, not-constant, TabledRefused, no_bits, entries-cut, entries-few, table-cut, PackedRefused, plain-cut, not-tabled, PlanRefused, counts-cut, width-wrong, count_cut, count-large, packed-refused, CountsRefused, not-planned, index-large, LevelsRefused, level-refused, counts-refused, miscounted-block, value-refused, OffsetRefused, kind-refused, offset-cut, offset-not-finite, levels-refused, BlockRefused, flag-cut, check-wrong, raw-cut, offset-refused, ReadBlockRefused, tile-large, not-read, PlannedRefused, plan-loose, planned-index, OffsetPlanRefused, plan-kind, plan-offset-cut, plan-not-finite, plan-counts, BlockPlanRefused, plan-tile-large, plan-flag-cut, plan-check-wrong, plan-raw-cut, plan-offset}
+use Rattle.lerc_theorems.specs.BlockTable.{At, at_place, WordRefused, word_wide, word_cut, SampleRefused, sample-cut, StoredRefused, not_finite, out_of_range, IntegerRefused, no-integer, not-stored, KindRefused, no-kind, ConstantsRefused, not-constant, TabledRefused, no_bits, entries-cut, entries-few, table-cut, PackedRefused, plain-cut, not-tabled, PlanRefused, counts-cut, width-wrong, count_cut, count-large, packed-refused, CountsRefused, not-planned, index-large, LevelsRefused, level-refused, counts-refused, miscounted-block, value-refused, OffsetRefused, kind-refused, offset-cut, offset-not-finite, levels-refused, BlockRefused, flag-cut, check-wrong, raw-cut, offset-refused, ReadBlockRefused, tile-large, not-read, PlannedRefused, plan-loose, planned-index, OffsetPlanRefused, plan-kind, plan-offset-cut, plan-not-finite, plan-counts, BlockPlanRefused, plan-tile-large, plan-flag-cut, plan-check-wrong, plan-raw-cut, plan-offset}
 use Rattle.lerc_theorems.specs.Table.{HeldRefused, field-wrong, ceiling-passed, blob-cut, HeaderRefused, header-cut, key-wrong, not-held, checksum-wrong, RunsRefused, runs-room, runs-breach, FindRefused, find-room, section-cut, find-wrong, PrepareRefused, mask-held, mask-room, mask-wrong, RangesRefused, ranges-cut, minimum-wrong, maximum-wrong, RangesInRefused, depths-many, ranges-not-in, ReadRangesRefused, ranges-held, ranges-wrong, PairsRefused, pair-wrong, ModeRefused, mode-cut, mode-wrong, SweepRefused, sweep-cut, sweep-wrong, mode-refused, ChainRefused, block_refused, WalkBodyRefused, walk-sweep, walk-raw, walk-huffman, walk-blocks, WalkRefused, walk-held, walk-room, walk-pairs, walk-other, walk-body, FillRefused, fill-held, fill-number, fill-room, fill-pairs, fill-block, CheckRefused, check-held, check-room, check-blocks, OwnRefused, own_held, own-blocks, TilesRefused, tiles-held, tiles-room, tiles-blocks, CheckImageRefused, image-held, image-wrong, BodyRefused, body-ranges, body-constant, body-sweep, body-raw, body-blocks, body-huffman, WholeRefused, whole-header, whole_room, whole-mask, whole-body, PublishRefused, publish-blob, publish-given}
 use Rattle.lerc_theorems.proofs.Images.{image-in}
 
@@ -35,7 +35,7 @@ module _ (P : ℕ → Type 0) where
   integer-in p (not-stored r) = stored-in p r
 
   pub kind-in : {why : Refusal} {kind code : ℕ} → P 8 → KindRefused kind code why → P why.number
-  kind-in p (no_kind l) = p
+  kind-in p (no-kind l) = p
 
   pub constants-in : {why : Refusal} {depth kind : ℕ} {values : List ℕ} → P 9 → ConstantsRefused depth kind values why → P why.number
   constants-in p (not-constant i a l r) = stored-in p r
@@ -128,7 +128,7 @@ module _ (P : ℕ → Type 0) where
   pub pairs-in : {why : Refusal} {depth : ℕ} {r : Ranges} → P 7 → PairsRefused depth r why → P why.number
   pairs-in seven (pair-wrong d) = seven
 
-  pub ranges_in : {why : Refusal} {s : List ℕ} {h : Header} → P 1 → P 7 → RangesRefused s h why → P why.number
+  pub ranges_in : {s : List ℕ} {h : Header} {why : Refusal} → P 1 → P 7 → RangesRefused s h why → P why.number
   ranges_in one seven (ranges-cut t l) = one
   ranges_in one seven (minimum-wrong i t l p f) = seven
   ranges_in one seven (maximum-wrong i t l p f w) = seven
@@ -191,7 +191,7 @@ module _ (P : ℕ → Type 0) where
   check-image-in one three four eight (image-held r) = held_in one three four r
   check-image-in {b = b} {h = h} {mode = mode} one three four eight (image-wrong g r) = image-in P (take h.size b) h mode one eight r
 
-  pub body-in : {why : Refusal} {s : List ℕ} {h : Header} {m : List ℕ} → P 1 → P 7 → P 8 → P 9 → BodyRefused s h m why → P why.number
+  pub body-in : {s : List ℕ} {h : Header} {m : List ℕ} {why : Refusal} → P 1 → P 7 → P 8 → P 9 → BodyRefused s h m why → P why.number
   body-in one seven eight nine (body-ranges v r) = ranges_in one seven r
   body-in one seven eight nine (body-constant r v d c k) = constants-in nine k
   body-in one seven eight nine (body-sweep r v d c k) = sweep-in one eight k

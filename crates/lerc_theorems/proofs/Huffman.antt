@@ -1,24 +1,24 @@
 -- When a Huffman image is refused: the table holds exactly.
 -- Assumes nothing.
-use mathlib.Core.Path.{◌≡◌, sym, ap, refl, subst}
+use mathlib.Core.Path.{◌≡◌, ap, refl}
 use mathlib.Core.Logic.{◌↔◌, ◌≢◌, ⊎_elim}
 use mathlib.Core.Bool.{Bool, true, false, not, ◌&&◌}
 use mathlib.Core.List.{List, [], ◌∷◌}
-use Prim.Native.Nat.{ℕ, zero, suc, ◌+◌, ◌-◌, ◌*◌, ◌^◌, ◌≤◌, ◌<◌}
+use Prim.Native.Nat.{ℕ, zero, suc, ◌+◌, ◌-◌, ◌*◌, ◌≤◌, ◌<◌}
 use native.Mathlib.Omega.{arith}
 use native.Mathlib.Decide.{dec_lt, dec_le}
-use lib.ListN.{length, get_or, get_or-eq_default}
+use lib.ListN.{length, get_or}
 use lib.Dec.{leb, ltb, eqb}
 use borrow.Author.Tests.{ltb-true, ltb-false, lt-ltb, le-ltb, leb-true, leb-false, le-leb, lt-leb, eqb-true, eqb-false, eq-eqb, ne_eqb, not-false}
 use Rattle.lerc_words.specs.declared.Refusal.{Refusal}
-use Rattle.lerc_words.specs.Res.{Res, ok, fail, ◌>>=◌, refuse, require, word_at}
+use Rattle.lerc_words.specs.Res.{ok, fail, refuse, word_at}
 use Rattle.lerc_words.specs.Lists.{total, all_to}
-use Rattle.lerc_words.proofs.Binding.{bind_is, and_is, ok-is}
+use Rattle.lerc_words.proofs.Binding.{bind_is, ok-is}
 use Rattle.lerc_words.proofs.Little.{word_at-fails, word_at-no}
-use Rattle.lerc_words.proofs.Tables.{length-tabulate, get_d_tabulate, all_true, all-fails, all-each}
+use Rattle.lerc_words.proofs.Tables.{all_true, all-fails}
 use Rattle.lerc_bits.specs.Bits.{counts}
 use Rattle.lerc_header.specs.declared.Header.{Header}
-use Rattle.lerc_byte_image.specs.Table.{Table, range_at, lengths_at, codes_at, length_of, begins, prefix_free, table_at}
+use Rattle.lerc_byte_image.specs.Table.{Table, range_at, lengths_at, length_of, begins, prefix_free, table_at}
 use Rattle.lerc_byte_image.specs.Symbols.{first_of, bits_there, agrees, Symbol, symbol_at, Run, symbols_from, end_of, coded_at}
 use Rattle.lerc_byte_image.specs.Image.{image_at}
 use Rattle.lerc_byte_image.specs.Parts.{Kept}

@@ -4,7 +4,7 @@ use mathlib.Core.Path.{◌≡◌, refl}
 use mathlib.Core.Bool.{Bool}
 use mathlib.Core.List.{List}
 use Prim.Native.Nat.{ℕ}
-use denote.Ref.{Bor}
+use denote.Ref.{Bor, MutBor}
 use lib.ListN.{length}
 use Rattle.lerc_header.specs.declared.Header.{Header}
 use Rattle.lerc_header.specs.declared.HeaderAnswer.{HeaderAnswer}
@@ -25,6 +25,9 @@ use Rattle.lerc_theorems.specs.Calls.{HeaderCall, PrepareCall, HandedCall, Range
 abbrev lent : List ℕ → Bor (List ℕ)
 lent s = record { ref_ptr = (0, 0); now = s }
 
+abbrev lent_mut : List ℕ → MutBor (List ℕ)
+lent_mut s = record { ref_ptr = (0, 0); ghost_name = 0; now = s }
+
 pub header_made : (b : List ℕ) (r : HeaderAnswer) → header_said r ≡ header_says b → HeaderCall b r
 header_made b r p = record {
   lives = (b, tt);
@@ -40,9 +43,9 @@ header_made b r p = record {
 pub prepare-made : (b : List ℕ) (h : Header) (reuse : Bool) (kept : List ℕ) (r : MaskAnswer) (old new : List ℕ) → Prepared (prepare_says b h reuse kept (length old)) r old new → PrepareCall b h reuse kept r old new
 prepare-made b h reuse kept r old new p = record {
   lives = (b, (kept, (old, tt)));
-  inputs = (lent b, (h, (reuse, (lent kept, (lent old, tt)))));
+  inputs = (lent b, (h, (reuse, (lent kept, (lent_mut old, tt)))));
   answer = r;
-  outputs = (lent b, (h, (reuse, (lent kept, (lent new, tt)))));
+  outputs = (lent b, (h, (reuse, (lent kept, (lent_mut new, tt)))));
   promised = p;
   inputs_are = refl;
   answer-is = refl;
@@ -76,9 +79,9 @@ ranges-made b h r p = record {
 pub walk-made : (b : List ℕ) (h : Header) (g : Ranges) (m : List ℕ) (r : WalkAnswer) (old new : List ℕ) → BlocksWalked b h g m r old new → WalkCall b h g m r old new
 walk-made b h g m r old new p = record {
   lives = (b, (m, (old, tt)));
-  inputs = (lent b, (h, (g, (lent m, (lent old, tt)))));
+  inputs = (lent b, (h, (g, (lent m, (lent_mut old, tt)))));
   answer = r;
-  outputs = (lent b, (h, (g, (lent m, (lent new, tt)))));
+  outputs = (lent b, (h, (g, (lent m, (lent_mut new, tt)))));
   promised = p;
   inputs_are = refl;
   answer-is = refl;
@@ -88,9 +91,9 @@ walk-made b h g m r old new p = record {
 pub fill-made : (b : List ℕ) (h : Header) (g : Ranges) (m list : List ℕ) (n : ℕ) (r : FillAnswer) (old new : List ℕ) → Filled b h g m list n r old new → FillCall b h g m list n r old new
 fill-made b h g m list n r old new p = record {
   lives = (b, (m, (list, (old, tt))));
-  inputs = (lent b, (h, (g, (lent m, (lent list, (n, (lent old, tt)))))));
+  inputs = (lent b, (h, (g, (lent m, (lent list, (n, (lent_mut old, tt)))))));
   answer = r;
-  outputs = (lent b, (h, (g, (lent m, (lent list, (n, (lent new, tt)))))));
+  outputs = (lent b, (h, (g, (lent m, (lent list, (n, (lent_mut new, tt)))))));
   promised = p;
   inputs_are = refl;
   answer-is = refl;
@@ -100,9 +103,9 @@ fill-made b h g m list n r old new p = record {
 pub read_made : (b : List ℕ) (reuse : Bool) (r : ReadAnswer) (old new : Lent) → WholeRead b reuse r old new → ReadCall b reuse r old new
 read_made b reuse r old new p = record {
   lives = (b, (old.kept, (old.spare, (old.list, (old.image, tt)))));
-  inputs = (lent b, (reuse, (lent old.kept, (lent old.spare, (lent old.list, (lent old.image, tt))))));
+  inputs = (lent b, (reuse, (lent_mut old.kept, (lent_mut old.spare, (lent_mut old.list, (lent_mut old.image, tt))))));
   answer = r;
-  outputs = (lent b, (reuse, (lent new.kept, (lent new.spare, (lent new.list, (lent new.image, tt))))));
+  outputs = (lent b, (reuse, (lent_mut new.kept, (lent_mut new.spare, (lent_mut new.list, (lent_mut new.image, tt))))));
   promised = p;
   inputs_are = refl;
   answer-is = refl;

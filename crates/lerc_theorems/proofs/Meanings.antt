@@ -6,7 +6,7 @@ use mathlib.Core.List.{List}
 use Prim.Native.Nat.{ℕ, ◌+◌, ◌-◌, ◌≤◌, ◌<◌, min}
 use native.Mathlib.Decide.{dec_lt}
 use native.Mathlib.Omega.{arith}
-use lib.ListN.{length, get_or, take, drop, length-take}
+use lib.ListN.{length, take, drop, length-take}
 use lib.Seq.{length-take-le, take_all, take-take, get_or-take}
 use lib.Dec.{leb}
 use borrow.Author.Tests.{le-leb, leb-true}

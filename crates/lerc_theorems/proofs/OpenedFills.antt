@@ -302,7 +302,8 @@ as-calls b h r m list ns said old new c filled other e = ((each-call e).says ∙
     go ns said old new (none image) = refl
     go ns said old new (more n rest a others old' mid new' f c) =
         let i : length mid ≡ length old = ap length (fill-call f).image ∙ length-fill b h r m list n old in
-        rw (one-is b h r m list n old (fill-call f), ← i, go rest others mid new c) (one a others)
+        let u : filled_of b h r m list (length old) rest ≡ filled_among others = ap (λ (z : ℕ). filled_of b h r m list z rest) (sym i) ∙ go rest others mid new c in
+        ap (λ (z : ℕ). z + filled_of b h r m list (length old) rest) (one-is b h r m list n old (fill-call f)) ∙ ap (λ (z : ℕ). cond (accepted (fill_said a)) 1 0 + z) u ∙ one a others
 
 pub mask-handed : (b : List ℕ) (h : Header) (reuse : Bool) (kept spare new m : List ℕ) (f : MaskInForce) (said : MaskAnswer)
     → PrepareCall b h reuse kept said spare new → HandedCall kept new said m → prepare_says b h reuse kept (length spare) ≡ ok f → m ≡ bytes_of f

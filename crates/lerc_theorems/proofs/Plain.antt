@@ -5,7 +5,7 @@ use mathlib.Core.List.{List}
 use Prim.Native.Nat.{ℕ}
 use Rattle.lerc_words.specs.declared.Refusal.{Refusal}
 use Rattle.lerc_words.specs.Res.{refuse}
-use Rattle.lerc_theorems.specs.BlockTable.{StoredRefused, not_finite, out_of_range, no_kind, ConstantsRefused, not-constant, TabledRefused, no_bits, entries-cut, entries-few, table-cut, PackedRefused, plain-cut, not-tabled, PlanRefused, counts-cut, width-wrong, count_cut, count-large, packed-refused, not-planned, index-large, LevelsRefused, level-refused, counts-refused, miscounted-block, value-refused, OffsetRefused, kind-refused, offset-cut, offset-not-finite, levels-refused, BlockRefused, flag-cut, check-wrong, raw-cut, offset-refused}
+use Rattle.lerc_theorems.specs.BlockTable.{StoredRefused, not_finite, out_of_range, no-kind, ConstantsRefused, not-constant, TabledRefused, no_bits, entries-cut, entries-few, table-cut, PackedRefused, plain-cut, not-tabled, PlanRefused, counts-cut, width-wrong, count_cut, count-large, packed-refused, not-planned, index-large, LevelsRefused, level-refused, counts-refused, miscounted-block, value-refused, OffsetRefused, kind-refused, offset-cut, offset-not-finite, levels-refused, BlockRefused, flag-cut, check-wrong, raw-cut, offset-refused}
 
 abbrev pub Plain : Refusal → Type 0
 Plain why = why ≡ refuse why.number
@@ -42,7 +42,7 @@ levels-plain (miscounted-block c z d k) = refl
 levels-plain (value-refused c i z d k l r) = stored-plain r
 
 offset-plain : {s : List ℕ} {at kind error top flag n : ℕ} {why : Refusal} → OffsetRefused s at kind error top flag n why → Plain why
-offset-plain (kind-refused (no_kind l)) = refl
+offset-plain (kind-refused (no-kind l)) = refl
 offset-plain (offset-cut k d l) = refl
 offset-plain (offset-not-finite k v d e f) = refl
 offset-plain (levels-refused k v d e f r) = levels-plain r

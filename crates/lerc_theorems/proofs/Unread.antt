@@ -1,24 +1,22 @@
 -- What is not looked at, proved.
 -- Assumes nothing.
 use mathlib.Core.Path.{◌≡◌, ◌∙◌, sym, ap, refl, subst}
-use mathlib.Core.Bool.{Bool, true, cond, ◌&&◌}
+use mathlib.Core.Bool.{Bool, cond, ◌&&◌}
 use mathlib.Core.List.{List, [], ◌∷◌}
-use Prim.Native.Nat.{ℕ, ◌+◌, ◌≤◌, ◌<◌, min}
+use Prim.Native.Nat.{ℕ, ◌+◌, ◌≤◌, min}
 use native.Mathlib.Decide.{dec_le}
 use native.Mathlib.Omega.{arith}
-use lib.ListN.{length, get_or, take, drop, length-take, length-drop}
-use lib.Seq.{length-take-le, get_or-take, get_or-drop}
+use lib.ListN.{length, get_or, take, length-take}
+use lib.Seq.{length-take-le}
 use lib.Dec.{leb}
 use borrow.Author.Tests.{le-leb, lt-leb}
-use denote.Ref.{Bor}
-use Rattle.lerc_words.specs.Res.{Res, ok, fail, ◌>>=◌, marked, require, after, little}
+use denote.Ref.{Bor, MutBor}
+use Rattle.lerc_words.specs.Res.{Res, ok, fail, ◌>>=◌, marked, require, after}
 use Rattle.lerc_words.specs.Lists.{over}
-use Rattle.lerc_words.proofs.Binding.{bind_is, bind-counts, require-is}
-use Rattle.lerc_words.proofs.Little.{little-same}
-use Rattle.lerc_words.proofs.Tables.{tabulate-same, take-tabulate}
+use Rattle.lerc_words.proofs.Binding.{bind_is, bind-counts}
 use Rattle.lerc_numeric.specs.Numeric.{same as same'}
 use Rattle.lerc_header.specs.declared.Header.{Header}
-use Rattle.lerc_header.specs.Header.{shape_of, header_bytes, ranges_at, key_right, header_of, checksum_right, header_says, open_says, held, extent_of}
+use Rattle.lerc_header.specs.Header.{shape_of, header_bytes, ranges_at, header_of, header_says, open_says, held, extent_of}
 use Rattle.lerc_header.specs.declared.Extent.{Extent}
 use Rattle.lerc_header.specs.declared.HeaderAnswer.TheVariants as header-answer
 use Rattle.lerc_header.specs.Shape.{block_count}
@@ -55,7 +53,7 @@ use Rattle.lerc_theorems.proofs.SameAnswers.{header-same, open-same, mask-same, 
 use Rattle.lerc_theorems.proofs.Determined.{staged-same, published-same}
 use Rattle.lerc_theorems.proofs.Calls.{header-call, prepare-call, ranges-call, walk_call, fill-call, each-call, tiles-call, read-call}
 use Rattle.lerc_theorems.proofs.Bodies.{swept-in, block_in, chain-in}
-use Rattle.lerc_theorems.proofs.Front.{Agree, section-same, at-agrees, chain-agrees, sweep-agrees, coded-agrees}
+use Rattle.lerc_theorems.proofs.Front.{section-same, at-agrees, chain-agrees, sweep-agrees, coded-agrees}
 use Rattle.lerc_theorems.proofs.Meanings.{held_any, part_same, header-alike, header-other, cut, agree}
 use Rattle.lerc_theorems.proofs.Refusals.{masked-is}
 use Rattle.lerc_theorems.proofs.Fills.{Walking, walk_is, walking-says}
@@ -338,11 +336,11 @@ unread = record {
     (read-call p).lent ∙ rw (read_as b c s reuse old, masked-as b c s reuse old) (sym (read-call q).lent),
   );
   stage = λ k a c r q x y e s p t.
-      let t' = subst (λ (z : Bool × (Bor (List ℕ) × (Bor (List ℕ) × (Bor (List ℕ) × (Bor (List ℕ) × Unit {0}))))).
+      let t' = subst (λ (z : Bool × (Bor (List ℕ) × (MutBor (List ℕ) × (MutBor (List ℕ) × (Bor (List ℕ) × Unit {0}))))).
       StageRead c.0.now z.0 q (record { kept = z.1.0.now; spare = z.1.1.0.now; list = z.1.1.1.0.now; image = z.1.1.1.1.0.now }) y.1.1.1.0.now y.1.1.1.1.0.now) (sym e) t in
       staged-same p (stage-as a.0.now c.0.now s _ _ t');
   publish = λ k a c r q x y e s p t.
-      let t' = subst (λ (z : Bool × (StageAnswer × (Bor (List ℕ) × (Bor (List ℕ) × (Bor (List ℕ) × (Bor (List ℕ) × Unit {0})))))).
+      let t' = subst (λ (z : Bool × (StageAnswer × (MutBor (List ℕ) × (Bor (List ℕ) × (Bor (List ℕ) × (MutBor (List ℕ) × Unit {0})))))).
       Publishing c.0.now z.0 z.1.0 q (record { kept = z.1.1.0.now; spare = z.1.1.1.0.now; list = z.1.1.1.1.0.now; image = z.1.1.1.1.1.0.now }) y.1.1.1.0.now y.1.1.1.1.1.1.0.now) (sym e) t in
       published-same p (publish-as a.0.now c.0.now s _ _ t');
   prepare = λ b c h reuse kept said told old new other s p q.
@@ -399,28 +397,28 @@ unread = record {
     refl,
     p
         ∙ listed-as a.0.now c.0.now a.1.0 s a.1.1.0.now a.1.1.1.0 a.1.1.1.1.0.now
-        ∙ ap (λ (z : Header × (Bor (List ℕ) × (ℕ × (Bor (List ℕ) × Unit {0})))). listed_tiles c.0.now z.0 z.1.0.now z.1.1.0 z.1.1.1.0.now) e
+        ∙ ap (λ (z : Header × (Bor (List ℕ) × (ℕ × (MutBor (List ℕ) × Unit {0})))). listed_tiles c.0.now z.0 z.1.0.now z.1.1.0 z.1.1.1.0.now) e
         ∙ sym t,
   );
   fill-tiles = λ k a c r q x y e s p t. (
     refl,
     p
         ∙ filled-as a.0.now c.0.now a.1.0 s a.1.1.0.now a.1.1.1.0.now a.1.1.1.1.0.now a.1.1.1.1.1.0.now
-        ∙ ap (λ (z : Header × (Bor (List ℕ) × (Bor (List ℕ) × (Bor (List ℕ) × (Bor (List ℕ) × Unit {0}))))). filled_tiles c.0.now z.0 z.1.0.now z.1.1.0.now z.1.1.1.0.now z.1.1.1.1.0.now) e
+        ∙ ap (λ (z : Header × (Bor (List ℕ) × (Bor (List ℕ) × (Bor (List ℕ) × (MutBor (List ℕ) × Unit {0}))))). filled_tiles c.0.now z.0 z.1.0.now z.1.1.0.now z.1.1.1.0.now z.1.1.1.1.0.now) e
         ∙ sym t,
   );
   write-list = λ k a c r q x y e s p t. (
     refl,
     p.0
         ∙ written-list-as a.0.now c.0.now a.1.0 s a.1.1.0.now a.1.1.1.0.now a.1.1.1.1.0 a.1.1.1.1.1.0.now (length a.1.1.1.1.1.1.0.now)
-        ∙ ap (λ (z : Header × (Bor (List ℕ) × (Bor (List ℕ) × (ℕ × (Bor (List ℕ) × (Bor (List ℕ) × Unit {0})))))). written_list c.0.now z.0 z.1.0.now z.1.1.0.now z.1.1.1.0 z.1.1.1.1.0.now (length z.1.1.1.1.1.0.now)) e
+        ∙ ap (λ (z : Header × (Bor (List ℕ) × (Bor (List ℕ) × (ℕ × (MutBor (List ℕ) × (MutBor (List ℕ) × Unit {0})))))). written_list c.0.now z.0 z.1.0.now z.1.1.0.now z.1.1.1.0 z.1.1.1.1.0.now (length z.1.1.1.1.1.0.now)) e
         ∙ sym t.0,
   );
   write-image = λ k a c r q x y e s p t. (
     refl,
     p.1
         ∙ written-image-as a.0.now c.0.now a.1.0 s a.1.1.0.now a.1.1.1.0.now a.1.1.1.1.0 (length a.1.1.1.1.1.0.now) a.1.1.1.1.1.1.0.now
-        ∙ ap (λ (z : Header × (Bor (List ℕ) × (Bor (List ℕ) × (ℕ × (Bor (List ℕ) × (Bor (List ℕ) × Unit {0})))))). written_image c.0.now z.0 z.1.0.now z.1.1.0.now z.1.1.1.0 (length z.1.1.1.1.0.now) z.1.1.1.1.1.0.now) e
+        ∙ ap (λ (z : Header × (Bor (List ℕ) × (Bor (List ℕ) × (ℕ × (MutBor (List ℕ) × (MutBor (List ℕ) × Unit {0})))))). written_image c.0.now z.0 z.1.0.now z.1.1.0.now z.1.1.1.0 (length z.1.1.1.1.0.now) z.1.1.1.1.1.0.now) e
         ∙ sym t.1,
   );
   check-huffman = λ k a c r q x y e s p t. (
@@ -436,7 +434,7 @@ unread = record {
     refl,
     p
         ∙ written-bytes-as a.0.now c.0.now a.1.0 s a.1.1.0 a.1.1.1.0 a.1.1.1.1.0.now a.1.1.1.1.1.0.now
-        ∙ ap (λ (z : Header × (ℕ × (Bool × (Bor (List ℕ) × (Bor (List ℕ) × Unit {0}))))). written_bytes c.0.now z.0 z.1.0 z.1.1.0 z.1.1.1.0.now z.1.1.1.1.0.now) e
+        ∙ ap (λ (z : Header × (ℕ × (Bool × (Bor (List ℕ) × (MutBor (List ℕ) × Unit {0}))))). written_bytes c.0.now z.0 z.1.0 z.1.1.0 z.1.1.1.0.now z.1.1.1.1.0.now) e
         ∙ sym t,
   );
   huffman-own = λ k a c end told x y e l s p t.

@@ -41,7 +41,7 @@ pub data IntegerRefused (kind v : ℕ) : Refusal → Type 0 where
 
 -- "as one table by kind and flag/64, '-' is 8"
 pub data KindRefused (kind code : ℕ) : Refusal → Type 0 where
-  no_kind : no_kind ≤ get_or (get_or offset_kinds kind []) code no_kind → KindRefused kind code (refuse 8)
+  no-kind : no_kind ≤ get_or (get_or offset_kinds kind []) code no_kind → KindRefused kind code (refuse 8)
 
 -- the minimum of some depth does not fit
 pub data ConstantsRefused (depth kind : ℕ) (values : List ℕ) : Refusal → Type 0 where

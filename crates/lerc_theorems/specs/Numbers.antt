@@ -61,7 +61,6 @@ use Rattle.lerc_byte_image.specs.declared.EndAnswer.TheVariants as end-answer
 use Rattle.lerc.specs.declared.StageAnswer.TheVariants as stage-answer
 use Rattle.lerc.specs.declared.PublishAnswer.TheVariants as publish-answer
 use Rattle.lerc.specs.declared.ReadAnswer.TheVariants as read_answer
-use Rattle.lerc.specs.Read.{Lent}
 use Rattle.lerc.proofs.stage.Reads as stage
 use Rattle.lerc.proofs.publish.Reads as publish
 use Rattle.lerc.proofs.read.Reads as read
@@ -128,7 +127,7 @@ pub record EachRefusing (Agree : (Refusal → Type 0) → (Refusal → Type 0) �
   pub check-own-tiles : Promised Agree check-own-tiles.Post (By walk-answer.Refused) (λ a. OwnRefused a.0.now a.1.0 a.1.1.0.now a.1.1.1.0)
   pub decode-tiles : Promised Agree decode-tiles.Post (By walk-answer.Refused) (λ a. TilesRefused a.0.now a.1.0 a.1.1.0.now a.1.1.1.0.now a.1.1.1.1.0 (length a.1.1.1.1.1.0.now) (length a.1.1.1.1.1.1.0.now))
   pub check-huffman : Promised Agree check-huffman.Post (By end-answer.Refused) (λ a. CheckImageRefused a.0.now a.1.0 a.1.1.0)
-  pub stage : Promised Agree stage.Post (By stage-answer.Refused) (λ a. WholeRefused a.0.now a.1.0 (lent a))
+  pub stage : Promised Agree stage.Post (By stage-answer.Refused) (λ a. WholeRefused a.0.now a.1.0 (record { kept = a.1.1.0.now; spare = a.1.1.1.0.now; list = a.1.1.1.1.0.now; image = a.1.1.1.1.1.0.now }))
   pub publish : Promised Agree publish.Post (By publish-answer.Refused) (λ a. PublishRefused a.0.now a.1.0 a.1.1.0 (record { kept = a.1.1.1.0.now; spare = a.1.1.1.1.0.now; list = a.1.1.1.1.1.0.now; image = a.1.1.1.1.1.1.0.now }))
   pub read : Promised Agree read.Post (By read_answer.Refused) (λ a. WholeRefused a.0.now a.1.0 (lent a))
 

@@ -2,7 +2,7 @@
 -- Each row is about the promise itself: `Pre` and `Post` are what the checker makes of the text of a function's `requires` and `ensures`.
 -- Assumes nothing.
 use Rattle.std.specs.Prelude.{◌≡◌, Bool, List, [], ℕ, length, take}
-use Rattle.std.specs.Borrow.{Bor}
+use Rattle.std.specs.Borrow.{Bor, MutBor}
 use Rattle.lerc_words.specs.declared.Refusal.{Refusal}
 use Rattle.lerc_words.specs.Res.{ok}
 use Rattle.lerc_header.specs.Header.{shape_of}
@@ -142,11 +142,11 @@ pub record HandedBack : Type 0 where
   pub kept : (k : _) (a : _) (r : _) (x : _) (n : ℕ) → mask-in-force.Post k a r x → a.1.1.0 ≡ mask.Kept n → (r.ref_ptr ≡ a.0.ref_ptr) × (r.now ≡ first_of n a.0.now)
   pub spare : (k : _) (a : _) (r : _) (x : _) (n : ℕ) → mask-in-force.Post k a r x → a.1.1.0 ≡ mask.Spare n → (r.ref_ptr ≡ a.1.0.ref_ptr) × (r.now ≡ first_of n a.1.0.now)
   -- "a part to be handed back is then empty"
-  pub refused : (k : _) (a : _) (r : _) (x : _) (why : Refusal) → mask-in-force.Post k a r x → a.1.1.0 ≡ mask.Refused why → (r.ref_ptr ≡ a.0.ptr) × (r.now ≡ [])
+  pub refused : (k : _) (a : _) (r : _) (x : _) (why : Refusal) → mask-in-force.Post k a r x → a.1.1.0 ≡ mask.Refused why → (r.ref_ptr ≡ a.0.ref_ptr) × (r.now ≡ [])
 
 -- the slices that a whole read is lent, among its inputs or its outputs
 abbrev pub Read : Type 0
-Read = Bor (List ℕ) × (Bool × (Bor (List ℕ) × (Bor (List ℕ) × (Bor (List ℕ) × (Bor (List ℕ) × Unit {0})))))
+Read = Bor (List ℕ) × (Bool × (MutBor (List ℕ) × (MutBor (List ℕ) × (MutBor (List ℕ) × (MutBor (List ℕ) × Unit {0})))))
 
 abbrev pub lent : Read → Lent
 lent a = record { kept = a.1.1.0.now; spare = a.1.1.1.0.now; list = a.1.1.1.1.0.now; image = a.1.1.1.1.1.0.now }

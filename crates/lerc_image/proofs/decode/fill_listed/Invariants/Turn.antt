@@ -17,7 +17,7 @@ use Rattle.lerc_image.specs.Paint.{scattered}
 use Rattle.lerc_image.specs.Tiles.{listed_block, listed_words, listed_image}
 use Rattle.lerc_image.specs.Parts.{BodyAsked, BlockPut}
 use Rattle.lerc_image.proofs.Painting.{length-painted}
-use Rattle.lerc_image.proofs.decode.fill_listed.Proof.Order.{filled_below, below_none, below_more, below-skip, below_all}
+use Rattle.lerc_image.proofs.decode.fill_listed.Invariants.Order.{filled_below, below_none, below_more, below-skip, below_all}
 use Rattle.lerc_image.proofs.Standing.{shape_is, count-is, cells_are}
 
 -- which blocks are accepted at their listed starts

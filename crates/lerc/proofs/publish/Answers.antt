@@ -1,0 +1,37 @@
+use Rattle.lerc.proofs.MaskKept.{room-is}
+use Rattle.lerc.proofs.Endings.{header-no, room-no, read_no}
+use Rattle.lerc.proofs.Publishes.{publish-no}
+use Rattle.lerc.specs.Read.{Lent}
+use Rattle.lerc_header.proofs.Kept.{open_no, open-ok}
+use Rattle.lerc_header.specs.Header.{open_said, refusal_of_open}
+use mathlib.Core.Path.{◌∙◌, sym, ap}
+use Rattle.lerc.proofs.publish.Goals as goal
+
+pub returns-in_default : goal.returns-in_default
+returns-in_default c =
+    let a = c.args in
+    let b = a.blob.now in
+    let l : Lent = record { kept = a.kept.now; spare = a.spare.now; list = a.list.now; image = a.image.now } in
+    let told = c.in_default.is in
+    rw (c.refusal.ensures ∙ ap refusal_of_open told)
+    (publish-no b a.reuse a.given l (read_no b a.reuse l (header-no b a.reuse l (open_no b (sym c.open_blob-opened.ensures ∙ ap open_said told)))))
+
+pub returns-then-not-has_room : goal.returns-then-not-has_room
+returns-then-not-has_room c =
+    let a = c.args in
+    let b = a.blob.now in
+    let l : Lent = record { kept = a.kept.now; spare = a.spare.now; list = a.list.now; image = a.image.now } in
+    let (e, k) = open-ok b (sym c.open_blob-opened.ensures ∙ ap open_said c.in-Open.is) in
+    let none = sym (room-is _ _ l k) ∙ sym c.has_room.ensures ∙ c.if-not-has_room.true in
+    publish-no b a.reuse a.given l (read_no b a.reuse l (room-no b a.reuse l e none))
+
+pub publish_masked-requires : goal.publish_masked-requires
+publish_masked-requires c =
+    let a = c.args in
+    let b = a.blob.now in
+    let l : Lent = record { kept = a.kept.now; spare = a.spare.now; list = a.list.now; image = a.image.now } in
+    let (e, k) = open-ok b (sym c.open_blob-opened.ensures ∙ ap open_said c.in-Open.is) in
+    (e, sym (room-is _ _ l k) ∙ sym c.has_room.ensures ∙ c.if-not-has_room.false)
+
+pub returns : goal.returns
+returns c = c.publish_masked.ensures
