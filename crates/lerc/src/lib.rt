@@ -224,7 +224,7 @@ fn stage_masked(
     image: &[u64],
 ) -> StageAnswer
     requires { (header_says blob.now ≡ ok h) × (room h (record { kept = kept.now; spare = spare.old; list = list.old; image = image.now }) ≡ true) }
-    ensures { StageRead blob.now reuse result (record { kept = kept.entry.now; spare = spare.old; list = list.old; image = image.now }) spare.new list.new }
+    ensures { StageRead blob.now reuse result (record { kept = kept.now; spare = spare.old; list = list.old; image = image.now }) spare.new list.new }
 {
     let size = h.size as usize;
     let s = &blob[..size];
@@ -247,7 +247,7 @@ pub fn stage(
     list: &mut [usize],
     image: &[u64],
 ) -> StageAnswer
-    ensures { StageRead blob.now reuse result (record { kept = kept.entry.now; spare = spare.old; list = list.old; image = image.now }) spare.new list.new }
+    ensures { StageRead blob.now reuse result (record { kept = kept.now; spare = spare.old; list = list.old; image = image.now }) spare.new list.new }
 {
     let opened = lerc_header::open_blob(blob);
     let OpenAnswer::Open {
@@ -343,7 +343,7 @@ fn publish_masked(
     image: &mut [u64],
 ) -> PublishAnswer
     requires { (header_says blob.now ≡ ok h) × (room h (record { kept = kept.now; spare = spare.now; list = list.now; image = image.old }) ≡ true) }
-    ensures { Publishing blob.now reuse given result (record { kept = kept.entry.now; spare = spare.now; list = list.now; image = image.old }) kept.exit.now image.new }
+    ensures { Publishing blob.now reuse given result (record { kept = kept.old; spare = spare.now; list = list.now; image = image.old }) kept.new image.new }
 {
     let size = h.size as usize;
     let s = &blob[..size];
@@ -380,7 +380,7 @@ pub fn publish(
     list: &[usize],
     image: &mut [u64],
 ) -> PublishAnswer
-    ensures { Publishing blob.now reuse given result (record { kept = kept.entry.now; spare = spare.now; list = list.now; image = image.old }) kept.exit.now image.new }
+    ensures { Publishing blob.now reuse given result (record { kept = kept.old; spare = spare.now; list = list.now; image = image.old }) kept.new image.new }
 {
     let opened = lerc_header::open_blob(blob);
     let OpenAnswer::Open {
@@ -416,7 +416,7 @@ pub fn read(
     list: &mut [usize],
     image: &mut [u64],
 ) -> ReadAnswer
-    ensures { WholeRead blob.now reuse result (record { kept = kept.entry.now; spare = spare.old; list = list.old; image = image.old }) (record { kept = kept.exit.now; spare = spare.new; list = list.new; image = image.new }) }
+    ensures { WholeRead blob.now reuse result (record { kept = kept.old; spare = spare.old; list = list.old; image = image.old }) (record { kept = kept.new; spare = spare.new; list = list.new; image = image.new }) }
 {
     let given = stage(
         blob,

@@ -41,7 +41,7 @@ pub(crate) fn read(
     image: &mut [u64],
     said: &mut [u64],
 ) -> Refusal
-    ensures { Entry.ReadDone (Entry.read_entry blob.now reuse (record { kept = kept.entry.now; spare = spare.old; list = list.old; image = image.old }) said.old) (Entry.masked_entry blob.now reuse (record { kept = kept.entry.now; spare = spare.old; list = list.old; image = image.old }) said.old) result (record { kept = kept.entry.now; spare = spare.old; list = list.old; image = image.old }) (record { kept = kept.exit.now; spare = spare.new; list = list.new; image = image.new }) said.old said.new }
+    ensures { Entry.ReadDone (Entry.read_entry blob.now reuse (record { kept = kept.old; spare = spare.old; list = list.old; image = image.old }) said.old) (Entry.masked_entry blob.now reuse (record { kept = kept.old; spare = spare.old; list = list.old; image = image.old }) said.old) result (record { kept = kept.old; spare = spare.old; list = list.old; image = image.old }) (record { kept = kept.new; spare = spare.new; list = list.new; image = image.new }) said.old said.new }
 {
     if said.len() < READ {
         return Refusal { number: 5, at: 0 };
@@ -79,7 +79,7 @@ pub(crate) fn stage(
     image: &[u64],
     staged: &mut [u64],
 ) -> Refusal
-    ensures { Entry.StageDone (Entry.stage_entry blob.now reuse (record { kept = kept.entry.now; spare = spare.old; list = list.old; image = image.now }) staged.old) (Entry.staged_mask_entry blob.now reuse (record { kept = kept.entry.now; spare = spare.old; list = list.old; image = image.now }) staged.old) result (record { kept = kept.entry.now; spare = spare.old; list = list.old; image = image.now }) spare.new list.new staged.old staged.new }
+    ensures { Entry.StageDone (Entry.stage_entry blob.now reuse (record { kept = kept.now; spare = spare.old; list = list.old; image = image.now }) staged.old) (Entry.staged_mask_entry blob.now reuse (record { kept = kept.now; spare = spare.old; list = list.old; image = image.now }) staged.old) result (record { kept = kept.now; spare = spare.old; list = list.old; image = image.now }) spare.new list.new staged.old staged.new }
 {
     if staged.len() < staged::STAGED {
         return Refusal { number: 5, at: 0 };
@@ -104,7 +104,7 @@ pub(crate) fn publish(
     image: &mut [u64],
     said: &mut [u64],
 ) -> Refusal
-    ensures { Entry.PublishDone (Entry.publish_entry blob.now reuse staged.now (record { kept = kept.entry.now; spare = spare.now; list = list.now; image = image.old }) said.old) result (record { kept = kept.entry.now; spare = spare.now; list = list.now; image = image.old }) kept.exit.now image.new said.old said.new }
+    ensures { Entry.PublishDone (Entry.publish_entry blob.now reuse staged.now (record { kept = kept.old; spare = spare.now; list = list.now; image = image.old }) said.old) result (record { kept = kept.old; spare = spare.now; list = list.now; image = image.old }) kept.new image.new said.old said.new }
 {
     let room = (staged::STAGED <= staged.len()) & (2 <= said.len());
     if !room {

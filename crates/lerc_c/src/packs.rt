@@ -68,7 +68,7 @@ pub(crate) fn write_pack(
     pack: &mut [u8],
     said: &mut [u64],
 ) -> Refusal
-    ensures { Packs.PackWriteDone (record { rows = rows.entry.now; columns = columns.now; lengths = lengths.now; bodies = bodies.now }) (Packs.pack_write_entry (record { rows = rows.entry.now; columns = columns.now; lengths = lengths.now; bodies = bodies.now }) (length pack.old) said.old) result pack.old pack.new said.old said.new }
+    ensures { Packs.PackWriteDone (record { rows = rows.now; columns = columns.now; lengths = lengths.now; bodies = bodies.now }) (Packs.pack_write_entry (record { rows = rows.now; columns = columns.now; lengths = lengths.now; bodies = bodies.now }) (length pack.old) said.old) result pack.old pack.new said.old said.new }
 {
     let room = said.len();
     if room < 1 {

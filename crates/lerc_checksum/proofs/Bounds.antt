@@ -12,7 +12,7 @@ use lib.Dec.{eqb}
 use Rattle.lerc_words.proofs.Binding.{cond-elim}
 use Rattle.lerc_checksum.specs.declared.Sums.{Sums}
 use Rattle.lerc_checksum.specs.Checksum.{word, counted, fold, folded, group_words, sums_to, closed_to, with_last, last_sums}
-use Rattle.lerc_checksum.specs.Parts.{up_to_lem, Small}
+use Rattle.lerc_checksum.specs.Parts.{up_to, Small}
 use Rattle.lerc_checksum.specs.Laws.{Bytes}
 
 -- a word of two bytes is below 65,536
@@ -30,23 +30,23 @@ last-word-le s b h =
 
 -- ---- within a group
 
-pub up_to-add : (n m : ℕ) → up_to_lem (n + m) ≡ up_to_lem n + m * n + up_to_lem m
+pub up_to-add : (n m : ℕ) → up_to (n + m) ≡ up_to n + m * n + up_to m
 up_to-add n zero = rw (add-zero n) (omega arith)
 up_to-add n (suc m) = rw (add-suc n m) (omega (arith, up_to-add n m, suc-mul m n))
 
-pub up_to-mono : (n m : ℕ) → n ≤ m → up_to_lem n ≤ up_to_lem m
+pub up_to-mono : (n m : ℕ) → n ≤ m → up_to n ≤ up_to m
 up_to-mono n m h =
     let e : n + (m - n) ≡ m = omega arith in
-    rw (e) at (let x : up_to_lem n ≤ up_to_lem (n + (m - n)) = omega (arith, up_to-add n (m - n)) in x)
+    rw (e) at (let x : up_to n ≤ up_to (n + (m - n)) = omega (arith, up_to-add n (m - n)) in x)
 
 -- of a group at most 64,620
-up_to-le : (n : ℕ) → n ≤ group_words → up_to_lem n ≤ 64620
+up_to-le : (n : ℕ) → n ≤ group_words → up_to n ≤ 64620
 up_to-le n h = up_to-mono n 359 h
 
 -- sums within a group, n words after a fold
 pub record Within (n : ℕ) (t : Sums) : Type 0 where
   pub first : t.first ≤ 65895 + n * 65535
-  pub second : t.second ≤ 130517 + n * 65895 + up_to_lem n * 65535
+  pub second : t.second ≤ 130517 + n * 65895 + up_to n * 65535
 
 -- right after a fold no word is counted yet
 pub within_none : (t : Sums) → Small t → Within 0 t

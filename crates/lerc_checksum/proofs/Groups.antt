@@ -12,7 +12,7 @@ use lib.ListN.{length, get_or, get_or-eq_default}
 use borrow.Author.Tests.{eq-eqb, ne_eqb}
 use Rattle.lerc_checksum.specs.declared.Sums.{Sums}
 use Rattle.lerc_checksum.specs.Checksum.{word, start, counted, folded, sums_to, closed_to, group_words}
-use Rattle.lerc_checksum.specs.Parts.{run, up_to_lem, RoomFor, Small}
+use Rattle.lerc_checksum.specs.Parts.{run, up_to, RoomFor, Small}
 use Rattle.lerc_checksum.specs.Laws.{Bytes}
 use Rattle.lerc_checksum.proofs.Bounds.{word_lt, up_to-add, up_to-mono}
 
@@ -45,7 +45,7 @@ run-run s k n (suc m) t = rw (add-suc n m, run-run s k n m t, add_assoc k n m)
 -- how far n words may raise both sums
 record Grown (n : ℕ) (t u : Sums) : Type 0 where
   first : u.first ≤ t.first + n * 65535
-  second : u.second ≤ t.second + n * t.first + up_to_lem n * 65535
+  second : u.second ≤ t.second + n * t.first + up_to n * 65535
 
 grown : (s : List ℕ) → Bytes s → (k n : ℕ) (t : Sums) → Grown n t (run s k n t)
 unfolding run
@@ -69,7 +69,7 @@ room-left s b k i m t small h =
     let g = grown s b k i t in
     let a : i * t.first ≤ i * 65895 = mul-le-mul (le_refl i) small.first in
     let c : m * (run s k i t).first ≤ m * (65895 + i * 65535) = mul-le-mul (le_refl m) (let x : (run s k i t).first ≤ 65895 + i * 65535 = omega (arith, g.first, small.first) in x) in
-    let d : up_to_lem (i + m) ≤ up_to_lem 359 = up_to-mono (i + m) 359 h in
+    let d : up_to (i + m) ≤ up_to 359 = up_to-mono (i + m) 359 h in
     omega (arith, g.second, small.second, a, c, d, up_to-add i m)
 
 -- ---- groups

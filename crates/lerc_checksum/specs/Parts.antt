@@ -68,13 +68,13 @@ pub record Gathers (m : ℕ) (l : Lanes) (t : Sums) : Type 0 where
 -- ---- room
 
 -- 1 + 2 + .. + n
-abbrev pub up_to_lem : ℕ → ℕ
-up_to_lem zero = 0
-up_to_lem (suc n) = up_to_lem n + suc n
+abbrev pub up_to : ℕ → ℕ
+up_to zero = 0
+up_to (suc n) = up_to n + suc n
 
 -- n more words keep both sums below 2^32
 abbrev pub RoomFor : ℕ → Sums → Type 0
-RoomFor n t = t.second + n * t.first + up_to_lem n * 65535 < 2 ^ 32
+RoomFor n t = t.second + n * t.first + up_to n * 65535 < 2 ^ 32
 
 -- sums as a fold leaves them: at most 65,535 and the high part of what a group adds up to
 pub record Small (t : Sums) : Type 0 where

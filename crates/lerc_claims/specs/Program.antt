@@ -1,14 +1,14 @@
 -- The program: its text for every input, over the promise of `lerc_program::answer` as the checker reads it.
 -- Assumes nothing.
 use Rattle.std.specs.Prelude.{ℕ, ◌≤◌, ◌<◌, ◌≡◌, List, length, take, drop}
-use Rattle.std.specs.Borrow.{Bor}
+use Rattle.std.specs.Borrow.{Bor, MutBor}
 use Rattle.lerc_text.specs.Ascii.{ascii}
 use Rattle.lerc_program.specs.Program.{bytes_most, program_text}
 use Rattle.lerc_program.proofs.answer.Reads as answer
 
 -- what it is lent: the input, and a buffer, before the call or after it
 abbrev pub Lent : Type 0
-Lent = Bor (List ℕ) × (Bor (List ℕ) × Unit {0})
+Lent = Bor (List ℕ) × (MutBor (List ℕ) × Unit {0})
 
 abbrev pub input : Lent → List ℕ
 input a = a.0.now

@@ -38,7 +38,7 @@ use Rattle.lerc_contracts.specs.ByteImage.{pixel, target, prediction, value, byt
 use Rattle.lerc_contracts.specs.Between.{order_of, place_of, imaged}
 use Rattle.lerc_contracts.specs.ByteClauses.{PredictionClauses, ByteFinishCases, DecodedCases}
 use Rattle.lerc_contracts.proofs.CellOrder.{cells_are}
-use Rattle.lerc_contracts.proofs.ByteOrder.{pixels-are, depth_low, place_is, places-are, up_to_lem, is_done, paint-none, paint-all, paint-valid, paint-skip}
+use Rattle.lerc_contracts.proofs.ByteOrder.{pixels-are, depth_low, place_is, places-are, up_to, is_done, paint-none, paint-all, paint-valid, paint-skip}
 
 -- ---- one step of `finish`
 
@@ -193,7 +193,7 @@ module _ (s : List ℕ) (h : Header) (g : Shaped (shape_of h)) (mask : List ℕ)
   module _ (image : List ℕ) (room : cells (shape_of h) ≤ length image) where
     -- the image once the first k cells are done
     abbrev so_far : Bool → ℕ → List ℕ
-    so_far delta k = up_to_lem h g mask delta image (word_of delta) k
+    so_far delta k = up_to h g mask delta image (word_of delta) k
 
     -- the word above
     above-is : (k : ℕ) → k < cells (shape_of h) → h.columns ≤ k % pixels (shape_of h) → pixel_valid mask (k % pixels (shape_of h) - h.columns) ≡ true

@@ -127,8 +127,8 @@ module _ (h : Header) (g : Shaped (shape_of h)) (mask : List ℕ) (delta : Bool)
   abbrev pub is_done : ℕ → ℕ → Bool
   is_done k c = is_valid_cell (shape_of h) mask c && ltb (order_of h delta c) k
 
-  abbrev pub up_to_lem : ℕ → List ℕ
-  up_to_lem k = painted image (is_done k) word
+  abbrev pub up_to : ℕ → List ℕ
+  up_to k = painted image (is_done k) word
 
   valid-is : (c : ℕ) → is_valid_cell (shape_of h) mask c ≡ true → (c < cells (shape_of h)) × (pixel_valid mask (c / h.depth) ≡ true)
   unfolding is_valid_cell
@@ -142,14 +142,14 @@ module _ (h : Header) (g : Shaped (shape_of h)) (mask : List ℕ) (delta : Bool)
       go false e = refl
       go true e = near (order_of h delta c) k (λ o. d e (sym (order-target h g delta c (valid-is c e).0) ∙ ap (target h delta) o))
 
-  pub paint-none : image ≡ up_to_lem 0
+  pub paint-none : image ≡ up_to 0
   paint-none = painted-none image word (is_done 0) (λ c l. go c (is_valid_cell (shape_of h) mask c))
     where
       go : (c : ℕ) (b : Bool) → (b && ltb (order_of h delta c) 0) ≡ false
       go c true = le-ltb (order_of h delta c) 0 (omega arith)
       go c false = refl
 
-  pub paint-all : up_to_lem (cells (shape_of h)) ≡ painted image (is_valid_cell (shape_of h) mask) word
+  pub paint-all : up_to (cells (shape_of h)) ≡ painted image (is_valid_cell (shape_of h) mask) word
   paint-all = painted_same image word (is_done (cells (shape_of h))) (is_valid_cell (shape_of h) mask) (λ c l. go c (is_valid_cell (shape_of h) mask c) refl)
     where
       go : (c : ℕ) (b : Bool) → is_valid_cell (shape_of h) mask c ≡ b → (b && ltb (order_of h delta c) (cells (shape_of h))) ≡ b
@@ -161,14 +161,14 @@ module _ (h : Header) (g : Shaped (shape_of h)) (mask : List ℕ) (delta : Bool)
     unfolding is_valid_cell
     valid-there v = rw (lt-ltb (target h delta k) (cells (shape_of h)) (target-low h g delta k l), target-pixel h g delta k l, v)
 
-    pub paint-valid : cells (shape_of h) ≤ length image → pixel_valid mask (pixel h delta k) ≡ true → set (up_to_lem k) (target h delta k) (word (target h delta k)) ≡ up_to_lem (k + 1)
+    pub paint-valid : cells (shape_of h) ≤ length image → pixel_valid mask (pixel h delta k) ≡ true → set (up_to k) (target h delta k) (word (target h delta k)) ≡ up_to (k + 1)
     paint-valid room v =
         let low = target-low h g delta k l in
         painted-set image word (is_done k) (is_done (k + 1)) (target h delta k) (omega arith)
         (rw (valid-there v, target-order h g delta k l, lt-ltb k (k + 1) (omega arith)))
         (λ c d. others k c (λ e. d))
 
-    pub paint-skip : pixel_valid mask (pixel h delta k) ≡ false → up_to_lem k ≡ up_to_lem (k + 1)
+    pub paint-skip : pixel_valid mask (pixel h delta k) ≡ false → up_to k ≡ up_to (k + 1)
     paint-skip v =
         painted_same image word (is_done k) (is_done (k + 1))
         (λ c _. sym (others k c (λ e o.

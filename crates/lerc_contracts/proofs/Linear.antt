@@ -77,17 +77,17 @@ module _ (s : List ℕ) (h : Header) (mask constants : List ℕ) (raw : Bool) wh
 
 module _ (h : Header) (mask image : List ℕ) (word : ℕ → ℕ) (room : cells (shape_of h) ≤ length image) where
   -- the image once the first k cells are done
-  abbrev up_to_lem : ℕ → List ℕ
-  up_to_lem k = painted image (valid_upto (shape_of h) mask k) word
+  abbrev up_to : ℕ → List ℕ
+  up_to k = painted image (valid_upto (shape_of h) mask k) word
 
   module _ (k : ℕ) (l : k < cells (shape_of h)) where
-    paint-valid : pixel_valid mask (k / h.depth) ≡ true → set (up_to_lem k) k (word k) ≡ up_to_lem (k + 1)
+    paint-valid : pixel_valid mask (k / h.depth) ≡ true → set (up_to k) k (word k) ≡ up_to (k + 1)
     unfolding valid_upto is_valid_cell
     paint-valid v = painted-set image word (valid_upto (shape_of h) mask k) (valid_upto (shape_of h) mask (k + 1)) k (omega arith)
         (rw (lt-ltb k (cells (shape_of h)) l, v, lt-ltb k (k + 1) (omega arith)))
         (λ c d. rw (near c k d))
 
-    paint-skip : pixel_valid mask (k / h.depth) ≡ false → up_to_lem k ≡ up_to_lem (k + 1)
+    paint-skip : pixel_valid mask (k / h.depth) ≡ false → up_to k ≡ up_to (k + 1)
     unfolding valid_upto is_valid_cell
     paint-skip v = painted_same image word (valid_upto (shape_of h) mask k) (valid_upto (shape_of h) mask (k + 1)) (λ c _. go c (eqb c k) refl)
       where
@@ -105,22 +105,22 @@ module _ (h : Header) (mask image : List ℕ) (word : ℕ → ℕ) (room : cells
 
     -- all words are there
     module _ (go : (k : ℕ) → k < cells (shape_of h) → pixel_valid mask (k / h.depth) ≡ true → linear_value s h (pos (before k)) k raw constants ≡ some (record { at = pos (before k + 1); value = word k })) where
-      ends : (fuel k : ℕ) → k ≡ cells (shape_of h) → run k (up_to_lem k) fuel ≡ some (record { at = pos (before (cells (shape_of h))); image = up_to_lem (cells (shape_of h)) })
+      ends : (fuel k : ℕ) → k ≡ cells (shape_of h) → run k (up_to k) fuel ≡ some (record { at = pos (before (cells (shape_of h))); image = up_to (cells (shape_of h)) })
       ends fuel k e = linear-done s h mask constants raw k _ _ fuel e ∙ rw (e)
 
-      pub linear-all : (fuel k : ℕ) → k ≤ cells (shape_of h) → cells (shape_of h) ≤ k + fuel → run k (up_to_lem k) fuel ≡ some (record { at = pos (before (cells (shape_of h))); image = up_to_lem (cells (shape_of h)) })
+      pub linear-all : (fuel k : ℕ) → k ≤ cells (shape_of h) → cells (shape_of h) ≤ k + fuel → run k (up_to k) fuel ≡ some (record { at = pos (before (cells (shape_of h))); image = up_to (cells (shape_of h)) })
       linear-all zero k l f = ends zero k (omega arith)
       linear-all (suc fuel) k l f = more (dec_lt k (cells (shape_of h))) (linear-all fuel (k + 1))
         where
-          more : Dec (k < cells (shape_of h)) → (k + 1 ≤ cells (shape_of h) → cells (shape_of h) ≤ k + 1 + fuel → run (k + 1) (up_to_lem (k + 1)) fuel ≡ some (record { at = pos (before (cells (shape_of h))); image = up_to_lem (cells (shape_of h)) }))
-              → run k (up_to_lem k) (suc fuel) ≡ some (record { at = pos (before (cells (shape_of h))); image = up_to_lem (cells (shape_of h)) })
+          more : Dec (k < cells (shape_of h)) → (k + 1 ≤ cells (shape_of h) → cells (shape_of h) ≤ k + 1 + fuel → run (k + 1) (up_to (k + 1)) fuel ≡ some (record { at = pos (before (cells (shape_of h))); image = up_to (cells (shape_of h)) }))
+              → run k (up_to k) (suc fuel) ≡ some (record { at = pos (before (cells (shape_of h))); image = up_to (cells (shape_of h)) })
           more (no o) rest = ends (suc fuel) k (omega arith)
           more (yes o) rest = look (pixel_valid mask (k / h.depth)) refl
             where
               d : k ≡ cells (shape_of h) → ⊥
               d e = omega arith
 
-              look : (b : Bool) → pixel_valid mask (k / h.depth) ≡ b → run k (up_to_lem k) (suc fuel) ≡ some (record { at = pos (before (cells (shape_of h))); image = up_to_lem (cells (shape_of h)) })
+              look : (b : Bool) → pixel_valid mask (k / h.depth) ≡ b → run k (up_to k) (suc fuel) ≡ some (record { at = pos (before (cells (shape_of h))); image = up_to (cells (shape_of h)) })
               look true v =
                   let e : before (k + 1) ≡ before k + 1 = count-more k _ ∙ rw (v) in
                   (linear-cases s h mask constants raw).linear-step k _ _ d fuel _ v (go k o v) ∙ rw (paint-valid k o v, ← e) (rest (omega arith) (omega arith))

@@ -58,13 +58,13 @@ module _ (s : List ℕ) (h : Header) (t : Tile) (m : Mode) (q mask : List ℕ) (
 
 module _ (h : Header) (mask : List ℕ) (n : ℕ) (start : List ℕ) (g : Shaped (shape_of h)) (below : n < block_count (shape_of h)) (room : cells (shape_of h) ≤ length start) where
   -- the image once the first k places are done
-  abbrev up_to_lem : List ℕ → ℕ → List ℕ
-  up_to_lem words k = painted start (upto (shape_of h) mask n k) (word_of (shape_of h) mask (λ i. words))
+  abbrev up_to : List ℕ → ℕ → List ℕ
+  up_to words k = painted start (upto (shape_of h) mask n k) (word_of (shape_of h) mask (λ i. words))
 
-  paint-none : (words : List ℕ) → start ≡ up_to_lem words 0
+  paint-none : (words : List ℕ) → start ≡ up_to words 0
   paint-none words = painted-none start _ (upto (shape_of h) mask n 0) (λ c r. upto_zero (shape_of h) mask n c)
 
-  paint-all : (words : List ℕ) → up_to_lem words (tile_size (tile_of (shape_of h) n)) ≡ scattered (shape_of h) mask n words start
+  paint-all : (words : List ℕ) → up_to words (tile_size (tile_of (shape_of h) n)) ≡ scattered (shape_of h) mask n words start
   paint-all words = painted_same start _ _ _ (λ c r. upto_all (shape_of h) g mask n below c)
 
   module _ (words : List ℕ) (k : ℕ) (l : k < tile_size (tile_of (shape_of h) n)) where
@@ -73,13 +73,13 @@ module _ (h : Header) (mask : List ℕ) (n : ℕ) (start : List ℕ) (g : Shaped
     index_is = rw (cell-block (shape_of h) g n k below l, cell-place (shape_of h) g n k below l)
 
     paint-valid : pixel_valid mask (pixel_of (shape_of h) (tile_of (shape_of h) n) k) ≡ true
-        → set (up_to_lem words k) (cell_of (shape_of h) n k) (get_or words (rank (shape_of h) mask (tile_of (shape_of h) n) k) 0) ≡ up_to_lem words (k + 1)
+        → set (up_to words k) (cell_of (shape_of h) n k) (get_or words (rank (shape_of h) mask (tile_of (shape_of h) n) k) 0) ≡ up_to words (k + 1)
     paint-valid v =
         rw (← index_is)
         (painted-set start (word_of (shape_of h) mask (λ i. words)) (upto (shape_of h) mask n k) (upto (shape_of h) mask n (k + 1)) (cell_of (shape_of h) n k) (omega (arith, cell-lt (shape_of h) g n k below l, room))
         (upto-adds (shape_of h) g mask n below k l v) (upto-other (shape_of h) g mask n below k l))
 
-    paint-skip : pixel_valid mask (pixel_of (shape_of h) (tile_of (shape_of h) n) k) ≡ false → up_to_lem words k ≡ up_to_lem words (k + 1)
+    paint-skip : pixel_valid mask (pixel_of (shape_of h) (tile_of (shape_of h) n) k) ≡ false → up_to words k ≡ up_to words (k + 1)
     paint-skip v = painted_same start _ _ _ (λ c q. sym (upto-skips (shape_of h) g mask n below k l v c))
 
   module _ (s : List ℕ) (m : Mode) (q : List ℕ) (maximum : ℕ) (pos idx : ℕ → ℕ) where
@@ -111,22 +111,22 @@ module _ (h : Header) (mask : List ℕ) (n : ℕ) (start : List ℕ) (g : Shaped
 
     -- all steps go
     module _ (words : List ℕ) (go : (i : ℕ) → i < before size → Goes i (get_or words i 0)) where
-      ends : (fuel k : ℕ) → k ≡ size → run k (up_to_lem words k) fuel ≡ finished m q (pos (before size)) (idx (before size)) (up_to_lem words size)
+      ends : (fuel k : ℕ) → k ≡ size → run k (up_to words k) fuel ≡ finished m q (pos (before size)) (idx (before size)) (up_to words size)
       ends fuel k e = finish-done s h (tile_of (shape_of h) n) m q mask maximum k _ _ _ fuel (e ∙ sym area) ∙ rw (e)
 
-      pub finish-all : (fuel k : ℕ) → k ≤ size → size ≤ k + fuel → run k (up_to_lem words k) fuel ≡ finished m q (pos (before size)) (idx (before size)) (up_to_lem words size)
+      pub finish-all : (fuel k : ℕ) → k ≤ size → size ≤ k + fuel → run k (up_to words k) fuel ≡ finished m q (pos (before size)) (idx (before size)) (up_to words size)
       finish-all zero k l f = ends zero k (omega arith)
       finish-all (suc fuel) k l f = more (dec_lt k size) (finish-all fuel (k + 1))
         where
-          more : Dec (k < size) → (k + 1 ≤ size → size ≤ k + 1 + fuel → run (k + 1) (up_to_lem words (k + 1)) fuel ≡ finished m q (pos (before size)) (idx (before size)) (up_to_lem words size))
-              → run k (up_to_lem words k) (suc fuel) ≡ finished m q (pos (before size)) (idx (before size)) (up_to_lem words size)
+          more : Dec (k < size) → (k + 1 ≤ size → size ≤ k + 1 + fuel → run (k + 1) (up_to words (k + 1)) fuel ≡ finished m q (pos (before size)) (idx (before size)) (up_to words size))
+              → run k (up_to words k) (suc fuel) ≡ finished m q (pos (before size)) (idx (before size)) (up_to words size)
           more (no o) rest = ends (suc fuel) k (omega arith)
           more (yes o) rest = look (pixel_valid mask (pixel_of (shape_of h) (tile_of (shape_of h) n) k)) refl
             where
               d : k ≡ (tile_of (shape_of h) n).w * (tile_of (shape_of h) n).h → ⊥
               d e = omega (arith, area)
 
-              look : (b : Bool) → pixel_valid mask (pixel_of (shape_of h) (tile_of (shape_of h) n) k) ≡ b → run k (up_to_lem words k) (suc fuel) ≡ finished m q (pos (before size)) (idx (before size)) (up_to_lem words size)
+              look : (b : Bool) → pixel_valid mask (pixel_of (shape_of h) (tile_of (shape_of h) n) k) ≡ b → run k (up_to words k) (suc fuel) ≡ finished m q (pos (before size)) (idx (before size)) (up_to words size)
               look true v =
                   let (e, b) = valid-step k o v in
                   (finish-cases s h (tile_of (shape_of h) n) m q mask maximum).finish-step k _ _ _ d fuel _ (rw (pixel-is h (tile_of (shape_of h) n) k) v) (go (before k) b)

@@ -17,11 +17,11 @@ blob = blob_with 218 36
 
 -- version, zeros and count
 abbrev pub head : ℕ → ℕ → ℕ → List ℕ
-head version zero count = version ∷ 0 ∷ 0 ∷ zero ∷ count ∷ 0 ∷ 0 ∷ 0 ∷ []
+head version spare count = version ∷ 0 ∷ 0 ∷ spare ∷ count ∷ 0 ∷ 0 ∷ 0 ∷ []
 
 -- row, column, kind, depth less one, a zero byte, start, length
 abbrev pub entry : ℕ → ℕ → ℕ → ℕ → ℕ → ℕ → ℕ → List ℕ
-entry row column kind depth zero start long = row ∷ 0 ∷ column ∷ 0 ∷ kind ∷ depth ∷ 0 ∷ zero ∷ start ∷ 0 ∷ 0 ∷ 0 ∷ long ∷ 0 ∷ 0 ∷ 0 ∷ []
+entry row column kind depth spare start long = row ∷ 0 ∷ column ∷ 0 ∷ kind ∷ depth ∷ 0 ∷ spare ∷ start ∷ 0 ∷ 0 ∷ 0 ∷ long ∷ 0 ∷ 0 ∷ 0 ∷ []
 
 abbrev pub one : List ℕ → List ℕ
 one e = head 1 0 1 ++ e ++ blob

@@ -35,7 +35,7 @@ pub fn write_pack(
     bodies: &[u8],
     out: &mut [u8],
 ) -> WriteAnswer
-    ensures { Writing.PackWritten (record { rows = rows.entry.now; columns = columns.now; lengths = lengths.now; bodies = bodies.now }) result out.old out.new }
+    ensures { Writing.PackWritten (record { rows = rows.now; columns = columns.now; lengths = lengths.now; bodies = bodies.now }) result out.old out.new }
 {
     let n = rows.len();
     let alike = (columns.len() == n) & (lengths.len() == n) & (n <= TILES);

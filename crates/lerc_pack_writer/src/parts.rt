@@ -32,7 +32,7 @@ fn is_whole(blob: &[u8]) -> bool
 // All tiles in one pass: `at` is where the next body begins, `least` the least key that may follow.
 pub(crate) fn tiles_right(rows: &[u16], columns: &[u16], lengths: &[usize], bodies: &[u8]) -> bool
     requires { (length columns.now ≡ length rows.now) × (length lengths.now ≡ length rows.now) }
-    ensures { result ≡ Parts.given_tiles (record { rows = rows.entry.now; columns = columns.now; lengths = lengths.now; bodies = bodies.now }) }
+    ensures { result ≡ Parts.given_tiles (record { rows = rows.now; columns = columns.now; lengths = lengths.now; bodies = bodies.now }) }
 {
     let n = rows.len();
     let mut at = 0;
@@ -115,7 +115,7 @@ fn quad(b: &[u8], at: usize) -> u32
 // All entries, one behind the other; kind and depth are read from the blobs' headers, at 38 and 22.
 fn put_entries(rows: &[u16], columns: &[u16], lengths: &[usize], bodies: &[u8], out: &mut [u8])
     requires { Parts.ToPut (record { rows = rows.now; columns = columns.now; lengths = lengths.now; bodies = bodies.now }) (length out.old) }
-    ensures { out.new ≡ Parts.table_given (record { rows = rows.entry.now; columns = columns.now; lengths = lengths.now; bodies = bodies.now }) (length rows.entry.now) }
+    ensures { out.new ≡ Parts.table_given (record { rows = rows.now; columns = columns.now; lengths = lengths.now; bodies = bodies.now }) (length rows.now) }
 {
     let n = rows.len();
     let mut at = 0;
@@ -147,7 +147,7 @@ pub(crate) fn put_pack(
     out: &mut [u8],
 )
     requires { Parts.ToWrite (record { rows = rows.now; columns = columns.now; lengths = lengths.now; bodies = bodies.now }) (length out.old) }
-    ensures { out.new ≡ over (Writing.pack_given (record { rows = rows.entry.now; columns = columns.now; lengths = lengths.now; bodies = bodies.now })) out.old }
+    ensures { out.new ≡ over (Writing.pack_given (record { rows = rows.now; columns = columns.now; lengths = lengths.now; bodies = bodies.now })) out.old }
 {
     let table = HEAD + ENTRY * rows.len();
     let end = table + bodies.len();
