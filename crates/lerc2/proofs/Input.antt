@@ -1,10 +1,6 @@
 -- Laws of what the program reads and writes.
 -- Assumes nothing.
-use Prim.Native.Nat.{ℕ, ◌≤◌, ◌<◌}
-use mathlib.Core.Path.{◌≡◌, ◌∙◌, sym, ap}
-use mathlib.Core.List.{List}
-use native.Mathlib.Omega.{arith}
-use lib.ListN.{length, take, length-take}
+use Rattle.std.proofs.Common.{ℕ, ◌≡◌, ◌≤◌, ◌<◌, ◌∙◌, sym, ap, List, length, take, arith, length-take}
 use lib.Seq.{take_all}
 use Rattle.lerc_words.specs.Lists.{over}
 use Rattle.lerc_program.specs.Program.{bytes_most, program_text, Answered}

@@ -1,96 +1,96 @@
 // Stored packed counts: of each record of standard input, the plan and the counts, or why they are refused.
 // A record is its size (2 bytes), the start (1 byte) and the bytes. tests/bits/make.py wrote them, and what is to be said of them.
-ghost use Rattle.std.specs.Prelude.{◌+◌, ◌<◌, ◌≤◌, length};
+#![tactic(auto)]
+
+ghost use Rattle.std.specs.Prelude.{◌+◌, ◌<◌, ◌≤◌, length, IfOk};
 
 use lerc_bits::{CountsAnswer, PlanAnswer};
 use lerc_words::WordAnswer;
-use libc::{STDIN_FILENO, STDOUT_FILENO};
+use std::io;
+use std::io::Read;
 
-fn say(v: u64) {
-    io::write_all(STDOUT_FILENO, b" ");
-    io::print_decimal(STDOUT_FILENO, v);
+fn say(rt: &impl Print, v: u64) -> io::Result<()> {
+    print!(rt; " {v}")
 }
 
-fn say_plan(s: &[u8], start: usize) {
-    io::write_all(STDOUT_FILENO, b"plan");
+fn say_plan(rt: &impl Print, s: &[u8], start: usize) -> io::Result<()> {
+    print!(rt; "plan")?;
     let a = lerc_bits::inspect(s, start);
     let PlanAnswer::Plan(p) = a else {
         let why = a.refusal();
-        io::write_all(STDOUT_FILENO, b" refused");
-        say_value(why.number);
-        return;
+        print!(rt; " refused")?;
+        return say_value(rt, why.number);
     };
-    say(p.n as u64);
-    say(p.bits as u64);
-    say(p.entries as u64);
-    say(p.table as u64);
-    say(p.at as u64);
-    say(p.width as u64);
-    say(p.next as u64);
+    say(rt, p.n as u64)?;
+    say(rt, p.bits as u64)?;
+    say(rt, p.entries as u64)?;
+    say(rt, p.table as u64)?;
+    say(rt, p.at as u64)?;
+    say(rt, p.width as u64)?;
+    say(rt, p.next as u64)
 }
 
-fn say_value(v: u32) {
-    say(v as u64);
+fn say_value(rt: &impl Print, v: u32) -> io::Result<()> {
+    say(rt, v as u64)
 }
 
-fn say_kept(v: u64) {
-    io::write_all(STDOUT_FILENO, b" kept");
-    say(v);
+fn say_kept(rt: &impl Print, v: u64) -> io::Result<()> {
+    print!(rt; " kept")?;
+    say(rt, v)
 }
 
 // the first n entries, and how many of the others hold what they held
-fn say_entries(out: &[u32; 256], n: usize) {
+fn say_entries(rt: &impl Print, out: &[u32; 256], n: usize) -> io::Result<()> {
     let mut kept = 0;
     for k in 0..256 {
         let v = out[k];
         if k < n {
-            say_value(v);
+            say_value(rt, v)?;
         } else if v == 4000000000 {
             kept += 1;
         }
     }
-    say_kept(kept);
+    say_kept(rt, kept)
 }
 
 // planted: an entry behind the first two is not kept, and must be missing in the count
-fn say_planted() {
+fn say_planted(rt: &impl Print) -> io::Result<()> {
     let mut out = [4000000000u32; 256];
     out[200] = 7;
-    io::write_all(STDOUT_FILENO, b"planted");
-    say_entries(&out, 2);
-    io::write_all(STDOUT_FILENO, b"\n");
+    print!(rt; "planted")?;
+    say_entries(rt, &out, 2)?;
+    println!(rt)
 }
 
-fn say_counts(s: &[u8], start: usize) {
+fn say_counts(rt: &impl Print, s: &[u8], start: usize) -> io::Result<()> {
     let mut out = [4000000000u32; 256];
     let a = lerc_bits::decode(s, start, &mut out);
     let CountsAnswer::Counts { n, next } = a else {
         let why = a.refusal();
-        io::write_all(STDOUT_FILENO, b"refused");
-        say_value(why.number);
-        say_entries(&out, 0);
-        return;
+        print!(rt; "refused")?;
+        say_value(rt, why.number)?;
+        return say_entries(rt, &out, 0);
     };
-    io::write_all(STDOUT_FILENO, b"counts");
-    say(n as u64);
-    say(next as u64);
-    say_entries(&out, n);
+    print!(rt; "counts")?;
+    say(rt, n as u64)?;
+    say(rt, next as u64)?;
+    say_entries(rt, &out, n)
 }
 
 fn wide(x: u8) -> usize {
     x as usize
 }
 
-fn say_record(r: &[u8]) {
+fn say_record(rt: &impl Print, r: &[u8]) -> io::Result<()> {
     if r.len() < 3 {
-        return;
+        return Ok(());
     }
     let start = wide(r[2]);
     let s = &r[3..];
-    say_plan(s, start);
-    io::write_all(STDOUT_FILENO, b"\n");
-    say_counts(s, start);
-    io::write_all(STDOUT_FILENO, b"\n");
+    say_plan(rt, s, start)?;
+    println!(rt)?;
+    say_counts(rt, s, start)?;
+    println!(rt)
 }
 
 // where the record at `at` ends
@@ -111,18 +111,34 @@ fn record_end(s: &[u8], at: usize) -> usize
     s.len()
 }
 
-fn say_all(s: &[u8]) {
+fn say_all(rt: &impl Print, s: &[u8]) -> io::Result<()> {
     let mut at = 0;
     while at < s.len() {
         let end = record_end(s, at);
-        say_record(&s[at..end]);
+        say_record(rt, &s[at..end])?;
         at = end;
     }
+    Ok(())
 }
 
-fn main() {
-    say_planted();
+// reads until the buffer is full or the input ends; how many bytes came
+fn read_full(from: &mut impl Read, into: &mut [u8]) -> io::Result<usize>
+    ensures { IfOk result (λ n. n ≤ length into.new) }
+{
+    let mut done = 0;
+    while done < into.len() {
+        let n = from.read(&mut into[done..])?;
+        if n == 0 {
+            break;
+        }
+        done += n;
+    }
+    Ok(done)
+}
+
+fn main(rt: HostRuntime) -> io::Result<()> {
+    say_planted(&rt)?;
     let mut input = [0u8; 65536];
-    let n = io::read_full(STDIN_FILENO, &mut input);
-    say_all(&input[..n]);
+    let n = read_full(&mut rt.stdin(), &mut input)?;
+    say_all(&rt, &input[..n])
 }

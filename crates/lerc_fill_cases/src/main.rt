@@ -3,14 +3,19 @@
 // Every block is filled in a scattered order, with repeats and refused numbers between, into an image of marked words.
 // The valid cells must then hold Esri's words, and all others the mark. The last blobs are planted: beside each is an expectation
 // that is wrong, and the line must say so.
-ghost use Rattle.std.specs.Prelude.{◌≤◌, ◌<◌, length};
+#![tactic(auto)]
+
+ghost use Rattle.std.specs.Prelude.{◌≤◌, ◌<◌, length, IfOk};
 
 use lerc_header::{Header, HeaderAnswer};
 use lerc_image::{FillAnswer, WalkAnswer};
 use lerc_ranges::{Ranges, RangesAnswer};
 use lerc_validity::MaskAnswer;
 use lerc_words::{Refusal, bytes};
-use libc::STDOUT_FILENO;
+use std::fs::File;
+use std::io;
+use std::io::Read;
+use std::rt::Files;
 
 const BLOBS: usize = 108;
 
@@ -62,14 +67,13 @@ fn add(a: usize, b: usize) -> usize {
     a % 1_000_000_000 + b % 1_000_000_000
 }
 
-fn print(label: &[u8], v: usize) {
-    io::write_all(STDOUT_FILENO, label);
-    io::print_decimal(STDOUT_FILENO, v as u64);
+fn print(rt: &impl Print, label: &str, v: usize) -> io::Result<()> {
+    print!(rt; "{label}{v}")
 }
 
-fn refuse(step: &[u8], why: Refusal) -> Tally {
-    print(step, why.number as usize);
-    Tally::none()
+fn refuse(rt: &impl Print, step: &str, why: Refusal) -> io::Result<Tally> {
+    print(rt, step, why.number as usize)?;
+    Ok(Tally::none())
 }
 
 // the two bytes of a field: no blob here is larger
@@ -215,104 +219,119 @@ fn fill_all(
 }
 
 // how it ended: 1 if every cell is right and every number past the last was refused
-fn judge(expect: &[u8], image: &[u64; ROOM], refused: bool) -> usize {
+fn judge(rt: &impl Print, expect: &[u8], image: &[u64; ROOM], refused: bool) -> io::Result<usize> {
     if !refused {
-        io::write_all(STDOUT_FILENO, b" a number past the last is not refused");
-        return 0;
+        print!(rt; " a number past the last is not refused")?;
+        return Ok(0);
     }
     let cell = first_other(expect, image);
     if cell < ROOM {
-        print(b" differs at cell ", cell);
-        return 0;
+        print(rt, " differs at cell ", cell)?;
+        return Ok(0);
     }
-    io::write_all(STDOUT_FILENO, b" same");
-    1
+    print!(rt; " same")?;
+    Ok(1)
 }
 
-fn fill_masked(blob: &[u8], h: Header, ranges: Ranges, mask: &[u8], expect: &[u8]) -> Tally {
+fn fill_masked(
+    rt: &impl Print,
+    blob: &[u8],
+    h: Header,
+    ranges: Ranges,
+    mask: &[u8],
+    expect: &[u8],
+) -> io::Result<Tally> {
     let mut list = [0usize; BLOCKS];
     let walked = lerc_image::walk(blob, h, ranges, mask, &mut list[..]);
     let WalkAnswer::Walked { blocks, end } = walked else {
-        return refuse(b" walk refused ", walked.refusal());
+        return refuse(rt, " walk refused ", walked.refusal());
     };
-    print(b" blocks ", blocks);
-    print(b" end ", end);
+    print(rt, " blocks ", blocks)?;
+    print(rt, " end ", end)?;
     if BLOCKS < blocks {
-        return Tally::none();
+        return Ok(Tally::none());
     }
     let mut image = [MARK; ROOM];
     let said = fill_all(blob, h, ranges, mask, &list, expect, blocks, &mut image[..]);
-    print(b" words ", said.words);
-    Tally {
+    print(rt, " words ", said.words)?;
+    Ok(Tally {
         blocks,
         words: said.words,
-        same: judge(expect, &image, said.refused),
-    }
+        same: judge(rt, expect, &image, said.refused)?,
+    })
 }
 
-fn report(blob: &[u8], expect: &[u8]) -> Tally {
+fn report(rt: &impl Print, blob: &[u8], expect: &[u8]) -> io::Result<Tally> {
     let read = lerc_header::read_header(blob);
     let HeaderAnswer::Read(h) = read else {
-        return refuse(b" header refused ", read.refusal());
+        return refuse(rt, " header refused ", read.refusal());
     };
     let kept = [0u8; 512];
     let mut spare = [0u8; 512];
     let said = lerc_validity::prepare_mask(blob, h, false, &kept, &mut spare);
     let MaskAnswer::Spare(_n) = said else {
-        return refuse(b" mask refused ", said.refusal());
+        return refuse(rt, " mask refused ", said.refusal());
     };
     let mask = lerc_validity::mask_in_force(&kept, &spare, said);
     let got = lerc_ranges::read_ranges(blob, h);
     let answer = got.answer;
     let RangesAnswer::Read = answer else {
-        return refuse(b" ranges refused ", answer.refusal());
+        return refuse(rt, " ranges refused ", answer.refusal());
     };
-    fill_masked(blob, h, got.ranges, mask, expect)
+    fill_masked(rt, blob, h, got.ranges, mask, expect)
+}
+
+// reads until the buffer is full or the input ends; how many bytes came
+fn read_full(from: &mut impl Read, into: &mut [u8]) -> io::Result<usize>
+    ensures { IfOk result (λ n. n ≤ length into.new) }
+{
+    let mut done = 0;
+    while done < into.len() {
+        let n = from.read(&mut into[done..])?;
+        if n == 0 {
+            break;
+        }
+        done += n;
+    }
+    Ok(done)
 }
 
 // the bytes of a file; none if it is missing
-fn load(i: usize, into: &mut [u8; BYTES]) -> usize
-    ensures { result ≤ length into.new }
+fn load(rt: &(impl Alloc + Files), i: usize, into: &mut [u8; BYTES]) -> io::Result<usize>
+    ensures { IfOk result (λ n. n ≤ length into.new) }
 {
-    let name = [
-        48 + (i / 100 % 10) as u8,
-        48 + (i / 10 % 10) as u8,
-        48 + (i % 10) as u8,
-    ];
-    let fd = os::open_read(&name);
-    if fd < 0 {
-        return 0;
-    }
-    let n = io::read_full(fd, &mut into[..]);
-    libc::close(fd);
-    n
+    let name = format!(in rt.alloc(); "{i:03}")?;
+    let Ok(mut file) = File::open(rt, name.as_str()) else {
+        return Ok(0);
+    };
+    read_full(&mut file, &mut into[..])
 }
 
-fn one(i: usize) -> Tally
+fn one(rt: &(impl Alloc + Files + Print), i: usize) -> io::Result<Tally>
     requires { i < 108 }
 {
-    io::print_decimal(STDOUT_FILENO, i as u64);
+    print!(rt; "{i}")?;
     let mut blob = [0u8; BYTES];
-    let n = load(2 * i, &mut blob);
+    let n = load(rt, 2 * i, &mut blob)?;
     let mut expect = [0u8; BYTES];
-    let m = load(2 * i + 1, &mut expect);
-    let t = report(&blob[..n], &expect[..m]);
-    io::write_all(STDOUT_FILENO, b"\n");
-    t
+    let m = load(rt, 2 * i + 1, &mut expect)?;
+    let t = report(rt, &blob[..n], &expect[..m])?;
+    println!(rt)?;
+    Ok(t)
 }
 
-fn print_total(all: Tally) {
-    print(b"blobs ", BLOBS);
-    print(b" blocks ", all.blocks);
-    print(b" words ", all.words);
-    print(b" same ", all.same);
-    io::write_all(STDOUT_FILENO, b"\n");
+fn print_total(rt: &impl Print, all: Tally) -> io::Result<()> {
+    print(rt, "blobs ", BLOBS)?;
+    print(rt, " blocks ", all.blocks)?;
+    print(rt, " words ", all.words)?;
+    print(rt, " same ", all.same)?;
+    println!(rt)
 }
 
-fn main() {
+fn main(rt: HostRuntime) -> io::Result<()> {
     let mut all = Tally::none();
     for i in 0..BLOBS {
-        all = all.plus(one(i));
+        all = all.plus(one(&rt, i)?);
     }
-    print_total(all);
+    print_total(&rt, all)
 }

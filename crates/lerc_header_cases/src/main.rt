@@ -1,97 +1,97 @@
 // Stored headers and ranges: of each record of standard input, what the readers say, in a line.
 // A record is its size (4 bytes), another length (4 bytes) and a blob. tests/header/make.py wrote them, and the lines.
-ghost use Rattle.std.specs.Prelude.{◌+◌, ◌<◌, ◌≤◌, length};
+#![tactic(auto)]
+
+ghost use Rattle.std.specs.Prelude.{◌+◌, ◌<◌, ◌≤◌, length, IfOk};
 
 use lerc_header::{Header, HeaderAnswer, HeldAnswer};
 use lerc_ranges::Ranges;
 use lerc_words::WordAnswer;
-use libc::{STDIN_FILENO, STDOUT_FILENO};
+use std::io;
+use std::io::Read;
 
-fn say(name: &[u8], v: u64) {
-    io::write_all(STDOUT_FILENO, name);
-    io::write_all(STDOUT_FILENO, b" ");
-    io::print_decimal(STDOUT_FILENO, v);
+fn say(rt: &impl Print, name: &str, v: u64) -> io::Result<()> {
+    print!(rt; "{name} {v}")
 }
 
-fn say_header(blob: &[u8]) {
+fn say_header(rt: &impl Print, blob: &[u8]) -> io::Result<()> {
     let a = lerc_header::read_header(blob);
     let HeaderAnswer::Read(h) = a else {
         let why = a.refusal();
-        say(b"refused", why.number as u64);
-        return;
+        return say(rt, "refused", why.number as u64);
     };
-    say(b"rows", h.rows as u64);
-    say(b" columns", h.columns as u64);
-    say(b" depth", h.depth as u64);
-    say(b" valid", h.valid as u64);
-    say(b" side", h.side as u64);
-    say(b" size", h.size as u64);
-    say(b" kind", h.kind as u64);
-    say(b" error", h.error);
-    say(b" min", h.min);
-    say(b" max", h.max);
-    say(b" mask", h.mask as u64);
+    say(rt, "rows", h.rows as u64)?;
+    say(rt, " columns", h.columns as u64)?;
+    say(rt, " depth", h.depth as u64)?;
+    say(rt, " valid", h.valid as u64)?;
+    say(rt, " side", h.side as u64)?;
+    say(rt, " size", h.size as u64)?;
+    say(rt, " kind", h.kind as u64)?;
+    say(rt, " error", h.error)?;
+    say(rt, " min", h.min)?;
+    say(rt, " max", h.max)?;
+    say(rt, " mask", h.mask as u64)
 }
 
 // what follows from a header by value, beside a slice of another length
-fn say_held(h: Header, len: usize) {
+fn say_held(rt: &impl Print, h: Header, len: usize) -> io::Result<()> {
     let a = h.held(len);
     let HeldAnswer::Held(e) = a else {
         let why = a.refusal();
-        say(b" held refused", why.number as u64);
-        return;
+        return say(rt, " held refused", why.number as u64);
     };
-    say(b" held pixels", e.pixels as u64);
-    say(b" cells", e.cells as u64);
-    say(b" mask", e.mask as u64);
-    say(b" blocks", e.blocks as u64);
-    say(b" ranges", e.ranges as u64);
-    say(b" size", e.size as u64);
+    say(rt, " held pixels", e.pixels as u64)?;
+    say(rt, " cells", e.cells as u64)?;
+    say(rt, " mask", e.mask as u64)?;
+    say(rt, " blocks", e.blocks as u64)?;
+    say(rt, " ranges", e.ranges as u64)?;
+    say(rt, " size", e.size as u64)
 }
 
-fn say_flag(flag: bool) {
+fn say_flag(rt: &impl Print, flag: bool) -> io::Result<()> {
     if flag {
-        say(b" constant", 1);
+        say(rt, " constant", 1)
     } else {
-        say(b" constant", 0);
+        say(rt, " constant", 0)
     }
 }
 
-fn say_pair(name: &[u8], r: Ranges, i: usize) {
+fn say_pair(rt: &impl Print, name: &str, r: Ranges, i: usize) -> io::Result<()> {
     if i < 64 {
-        say(name, r.min[i]);
-        say(b"", r.max[i]);
+        say(rt, name, r.min[i])?;
+        say(rt, "", r.max[i])?;
     }
+    Ok(())
 }
 
 // the pairs of the first depth, the middle one and the last one, and the last entry of all
-fn say_pairs(r: Ranges, depth: usize) {
-    say_pair(b" first", r, 0);
-    say_pair(b" middle", r, depth / 2);
+fn say_pairs(rt: &impl Print, r: Ranges, depth: usize) -> io::Result<()> {
+    say_pair(rt, " first", r, 0)?;
+    say_pair(rt, " middle", r, depth / 2)?;
     if 0 < depth {
-        say_pair(b" top", r, depth - 1);
+        say_pair(rt, " top", r, depth - 1)?;
     }
-    say_pair(b" last", r, 63);
+    say_pair(rt, " last", r, 63)
 }
 
 // where the body begins, and the mark of a constant one
-fn say_place(r: Ranges) {
-    say(b" at", r.at as u64);
-    say_flag(r.constant);
+fn say_place(rt: &impl Print, r: Ranges) -> io::Result<()> {
+    say(rt, " at", r.at as u64)?;
+    say_flag(rt, r.constant)
 }
 
-fn say_ranges(blob: &[u8], h: Header) {
-    io::write_all(STDOUT_FILENO, b" ranges");
+fn say_ranges(rt: &impl Print, blob: &[u8], h: Header) -> io::Result<()> {
+    print!(rt; " ranges")?;
     let got = lerc_ranges::read_ranges(blob, h);
     let answer = got.answer;
     let ranges = got.ranges;
     let why = answer.refusal();
     if why.number != 0 {
-        say(b" refused", why.number as u64);
-        say_place(ranges);
+        say(rt, " refused", why.number as u64)?;
+        say_place(rt, ranges)
     } else {
-        say_place(ranges);
-        say_pairs(ranges, h.depth as usize);
+        say_place(rt, ranges)?;
+        say_pairs(rt, ranges, h.depth as usize)
     }
 }
 
@@ -117,17 +117,17 @@ fn fields(blob: &[u8]) -> Header {
     }
 }
 
-fn say_record(r: &[u8]) {
+fn say_record(rt: &impl Print, r: &[u8]) -> io::Result<()> {
     if r.len() < 8 {
-        return;
+        return Ok(());
     }
     let len = quad(r, 4);
     let blob = &r[8..];
     let h = fields(blob);
-    say_header(blob);
-    say_held(h, len as usize);
-    say_ranges(blob, h);
-    io::write_all(STDOUT_FILENO, b"\n");
+    say_header(rt, blob)?;
+    say_held(rt, h, len as usize)?;
+    say_ranges(rt, blob, h)?;
+    println!(rt)
 }
 
 // where the record at `at` ends
@@ -148,17 +148,33 @@ fn record_end(s: &[u8], at: usize) -> usize
     s.len()
 }
 
-fn say_all(s: &[u8]) {
+fn say_all(rt: &impl Print, s: &[u8]) -> io::Result<()> {
     let mut at = 0;
     while at < s.len() {
         let end = record_end(s, at);
-        say_record(&s[at..end]);
+        say_record(rt, &s[at..end])?;
         at = end;
     }
+    Ok(())
 }
 
-fn main() {
+// reads until the buffer is full or the input ends; how many bytes came
+fn read_full(from: &mut impl Read, into: &mut [u8]) -> io::Result<usize>
+    ensures { IfOk result (λ n. n ≤ length into.new) }
+{
+    let mut done = 0;
+    while done < into.len() {
+        let n = from.read(&mut into[done..])?;
+        if n == 0 {
+            break;
+        }
+        done += n;
+    }
+    Ok(done)
+}
+
+fn main(rt: HostRuntime) -> io::Result<()> {
     let mut input = [0u8; 131072];
-    let n = io::read_full(STDIN_FILENO, &mut input);
-    say_all(&input[..n]);
+    let n = read_full(&mut rt.stdin(), &mut input)?;
+    say_all(&rt, &input[..n])
 }

@@ -4,14 +4,19 @@
 // filled with its mark before the call. After it every entry is looked at: it must hold what the case says, or still its mark. The line
 // of a case has each answer, and then "same" or the first entry of each slice that differs. The cases called "planted" have expectations
 // that are wrong, and their lines must say so.
-ghost use Rattle.std.specs.Prelude.{◌≤◌, ◌<◌, length};
+#![tactic(auto)]
+
+ghost use Rattle.std.specs.Prelude.{◌≤◌, ◌<◌, length, IfOk};
 
 use lerc::{PublishAnswer, ReadAnswer, StageAnswer};
 use lerc_header::Header;
 use lerc_image::{FillAnswer, WalkAnswer};
 use lerc_ranges::Ranges;
 use lerc_words::{Refusal, bytes, peek};
-use libc::STDOUT_FILENO;
+use std::fs::File;
+use std::io;
+use std::io::Read;
+use std::rt::Files;
 
 // 20 numbers of 4 bytes
 const HEAD: usize = 80;
@@ -49,7 +54,7 @@ const WALK: usize = 2;
 
 const FILL: usize = 3;
 
-#[derive(Drop)]
+#[derive(Clone, Copy)]
 struct Tally {
     cases: usize,
     same: usize,
@@ -65,7 +70,7 @@ impl Tally {
 }
 
 // an answer: number and place of a refusal, or 0 twice and what the operation reports
-#[derive(Drop)]
+#[derive(Clone, Copy)]
 struct Said {
     number: usize,
     place: usize,
@@ -84,7 +89,7 @@ impl Said {
 
 // The head of a case. First the bytes of its parts and the slices' lengths; then how many bytes of each mask, starts and cells the
 // expectation has; then the answer. Where a header is given by value the body begins at `body`.
-#[derive(Drop)]
+#[derive(Clone, Copy)]
 struct Case {
     blob: usize,
     rest: usize,
@@ -166,13 +171,12 @@ fn lesser(a: usize, b: usize) -> usize
     if a < b { a } else { b }
 }
 
-fn print_text(text: &[u8]) {
-    io::write_all(STDOUT_FILENO, text);
+fn print_text(rt: &impl Print, text: &str) -> io::Result<()> {
+    print!(rt; "{text}")
 }
 
-fn print(label: &[u8], v: usize) {
-    io::write_all(STDOUT_FILENO, label);
-    io::print_decimal(STDOUT_FILENO, v as u64);
+fn print(rt: &impl Print, label: &str, v: usize) -> io::Result<()> {
+    print!(rt; "{label}{v}")
 }
 
 // the four bytes at `at`, zeros past the end
@@ -330,57 +334,58 @@ fn sum_of(have: &[u64]) -> u64 {
 }
 
 // whether all entries are as wanted; if not, the first that differs is told
-fn told(label: &[u8], other: usize, n: usize) -> bool {
+fn told(rt: &impl Print, label: &str, other: usize, n: usize) -> io::Result<bool> {
     if other < n {
-        print(label, other);
-        return false;
+        print(rt, label, other)?;
+        return Ok(false);
     }
-    true
+    Ok(true)
 }
 
-fn is_same_image(have: &[u64], expect: &[u8], c: Case) -> bool {
+fn is_same_image(rt: &impl Print, have: &[u64], expect: &[u8], c: Case) -> io::Result<bool> {
     if c.is_summed() {
         let is_same = sum_of(have) == c.sum as u64;
         if !is_same {
-            io::write_all(STDOUT_FILENO, b" sum differs");
+            print!(rt; " sum differs")?;
         }
-        return is_same;
+        return Ok(is_same);
     }
     told(
-        b" differs at cell ",
+        rt,
+        " differs at cell ",
         other_word(have, expect, c),
         have.len(),
     )
 }
 
-fn print_said(said: Said, operation: usize) {
+fn print_said(rt: &impl Print, said: Said, operation: usize) -> io::Result<()> {
     if 0 < said.number {
-        print(b" refused ", said.number);
-        print(b" at ", said.place);
-        return;
+        print(rt, " refused ", said.number)?;
+        return print(rt, " at ", said.place);
     }
     if operation == FILL {
-        print(b" words ", said.words);
-        return;
+        return print(rt, " words ", said.words);
     }
-    print(b" blocks ", said.blocks);
-    print(b" end ", said.end);
+    print(rt, " blocks ", said.blocks)?;
+    print(rt, " end ", said.end)?;
     if operation == STAGE {
-        print(b" words ", said.words);
+        print(rt, " words ", said.words)?;
     }
+    Ok(())
 }
 
-fn print_name(operation: usize) {
+fn print_name(rt: &impl Print, operation: usize) -> io::Result<()> {
     match operation {
-        0 => print_text(b" staged"),
-        1 => print_text(b" read"),
-        2 => print_text(b" walked"),
-        _ => print_text(b" filled"),
+        0 => print_text(rt, " staged"),
+        1 => print_text(rt, " read"),
+        2 => print_text(rt, " walked"),
+        _ => print_text(rt, " filled"),
     }
 }
 
 // 1 if nothing differs
 fn judge(
+    rt: &impl Print,
     c: Case,
     operation: usize,
     said: Said,
@@ -389,30 +394,31 @@ fn judge(
     spare: &[u8],
     list: &[usize],
     image: &[u64],
-) -> usize {
-    print_name(operation);
-    print_said(said, operation);
+) -> io::Result<usize> {
+    print_name(rt, operation)?;
+    print_said(rt, said, operation)?;
     let wanted = c.wanted(operation);
     let answered = said.is(wanted);
     if !answered {
-        print_text(b" and not");
-        print_said(wanted, operation);
+        print_text(rt, " and not")?;
+        print_said(rt, wanted, operation)?;
     }
     let a = other_byte(kept, expect, c.before, c.kept, KEPT);
     let b = other_byte(spare, expect, c.spare_at(), c.spare, SPARE);
-    let masks = told(b" differs at kept ", a, kept.len())
-        & told(b" differs at spare ", b, spare.len());
+    let masks = told(rt, " differs at kept ", a, kept.len())?
+        & told(rt, " differs at spare ", b, spare.len())?;
     let starts = told(
-        b" differs at start ",
+        rt,
+        " differs at start ",
         other_start(list, expect, c),
         list.len(),
-    );
-    let words = is_same_image(image, expect, c);
+    )?;
+    let words = is_same_image(rt, image, expect, c)?;
     if answered & masks & starts & words {
-        io::write_all(STDOUT_FILENO, b" same");
-        return 1;
+        print!(rt; " same")?;
+        return Ok(1);
     }
-    0
+    Ok(0)
 }
 
 // the case's bytes, then marks
@@ -593,6 +599,7 @@ fn call(
 }
 
 fn call_lent(
+    rt: &impl Print,
     c: Case,
     operation: usize,
     blob: &[u8],
@@ -601,7 +608,7 @@ fn call_lent(
     spare: &mut [u8],
     list: &mut [usize],
     image: &mut [u64],
-) -> usize {
+) -> io::Result<usize> {
     mark(&mut kept[..], expect, c.before);
     let said = call(
         c,
@@ -613,6 +620,7 @@ fn call_lent(
         &mut image[..],
     );
     judge(
+        rt,
         c,
         operation,
         said,
@@ -633,7 +641,13 @@ fn starts(c: Case, operation: usize, expect: &[u8]) -> [usize; BLOCKS] {
     out
 }
 
-fn run(c: Case, operation: usize, blob: &[u8], expect: &[u8]) -> usize {
+fn run(
+    rt: &impl Print,
+    c: Case,
+    operation: usize,
+    blob: &[u8],
+    expect: &[u8],
+) -> io::Result<usize> {
     let mut kept = [KEPT; MASKS];
     let mut spare = [SPARE; MASKS];
     let mut list = starts(c, operation, expect);
@@ -643,6 +657,7 @@ fn run(c: Case, operation: usize, blob: &[u8], expect: &[u8]) -> usize {
     let l = lesser(c.lent_list, BLOCKS);
     let i = lesser(c.lent_image, CELLS);
     call_lent(
+        rt,
         c,
         operation,
         blob,
@@ -655,78 +670,91 @@ fn run(c: Case, operation: usize, blob: &[u8], expect: &[u8]) -> usize {
 }
 
 // 1 if nothing differs
-fn run_all(c: Case, blob: &[u8], expect: &[u8]) -> usize {
+fn run_all(rt: &impl Print, c: Case, blob: &[u8], expect: &[u8]) -> io::Result<usize> {
     if c.walks() {
-        return run(c, WALK, blob, expect);
+        return run(rt, c, WALK, blob, expect);
     }
     if c.fills() {
-        return run(c, FILL, blob, expect);
+        return run(rt, c, FILL, blob, expect);
     }
-    let staged = run(c, STAGE, blob, expect);
-    lesser(staged, run(c, READ, blob, expect))
+    let staged = run(rt, c, STAGE, blob, expect)?;
+    Ok(lesser(staged, run(rt, c, READ, blob, expect)?))
+}
+
+// reads until the buffer is full or the input ends; how many bytes came
+fn read_full(from: &mut impl Read, into: &mut [u8]) -> io::Result<usize>
+    ensures { IfOk result (λ n. n ≤ length into.new) }
+{
+    let mut done = 0;
+    while done < into.len() {
+        let n = from.read(&mut into[done..])?;
+        if n == 0 {
+            break;
+        }
+        done += n;
+    }
+    Ok(done)
 }
 
 // the next bytes of a file
-fn load(fd: i32, n: usize, into: &mut [u8]) -> usize
-    ensures { result ≤ length into.new }
+fn load(from: &mut impl Read, n: usize, into: &mut [u8]) -> io::Result<usize>
+    ensures { IfOk result (λ n. n ≤ length into.new) }
 {
     let m = lesser(n, into.len());
-    io::read_full(fd, &mut into[..m])
+    read_full(from, &mut into[..m])
 }
 
-fn one(fd: i32) -> usize {
+fn one(rt: &impl Print, from: &mut impl Read) -> io::Result<usize> {
     let mut head = [0u8; HEAD];
-    io::read_full(fd, &mut head[..]);
+    read_full(from, &mut head[..])?;
     let c = case_of(&head);
     let mut blob = [0u8; BYTES];
-    let n = load(fd, c.blob, &mut blob[..]);
+    let n = load(from, c.blob, &mut blob[..])?;
     let mut expect = [0u8; REST];
-    let m = load(fd, c.rest, &mut expect[..]);
-    run_all(c, &blob[..n], &expect[..m])
+    let m = load(from, c.rest, &mut expect[..])?;
+    run_all(rt, c, &blob[..n], &expect[..m])
 }
 
-fn line(fd: i32, name: &[u8], i: usize) -> usize {
-    io::write_all(STDOUT_FILENO, name);
-    print(b" ", i);
-    let same = one(fd);
-    io::write_all(STDOUT_FILENO, b"\n");
-    same
+fn line(rt: &impl Print, from: &mut impl Read, name: &str, i: usize) -> io::Result<usize> {
+    print!(rt; "{name}")?;
+    print(rt, " ", i)?;
+    let same = one(rt, from)?;
+    println!(rt)?;
+    Ok(same)
 }
 
-fn lines(fd: i32, name: &[u8], cases: usize) -> usize {
+fn lines(rt: &impl Print, from: &mut impl Read, name: &str, cases: usize) -> io::Result<usize> {
     let mut same = 0;
     for i in 0..cases {
-        same = add(same, line(fd, name, i));
+        same = add(same, line(rt, from, name, i)?);
     }
-    same
+    Ok(same)
 }
 
-fn print_tally(name: &[u8], t: Tally) {
-    io::write_all(STDOUT_FILENO, name);
-    print(b" cases ", t.cases);
-    print(b" same ", t.same);
-    io::write_all(STDOUT_FILENO, b"\n");
+fn print_tally(rt: &impl Print, name: &str, t: Tally) -> io::Result<()> {
+    print!(rt; "{name}")?;
+    print(rt, " cases ", t.cases)?;
+    print(rt, " same ", t.same)?;
+    println!(rt)
 }
 
-fn file(name: &[u8], cases: usize) -> Tally {
-    let fd = os::open_read(name);
-    if fd < 0 {
-        return Tally { cases, same: 0 };
-    }
-    let same = lines(fd, name, cases);
-    libc::close(fd);
+fn file(rt: &(impl Files + Print), name: &str, cases: usize) -> io::Result<Tally> {
+    let Ok(mut from) = File::open(rt, name) else {
+        return Ok(Tally { cases, same: 0 });
+    };
+    let same = lines(rt, &mut from, name, cases)?;
     let t = Tally { cases, same };
-    print_tally(name, t);
-    t
+    print_tally(rt, name, t)?;
+    Ok(t)
 }
 
-fn main() {
+fn main(rt: HostRuntime) -> io::Result<()> {
     let mut all = Tally { cases: 0, same: 0 };
-    all = all.plus(file(b"esri", 39));
-    all = all.plus(file(b"probes", 19));
-    all = all.plus(file(b"accepted", 206));
-    all = all.plus(file(b"refused", 844));
-    all = all.plus(file(b"others", 105));
-    all = all.plus(file(b"planted", 15));
-    print_tally(b"all", all);
+    all = all.plus(file(&rt, "esri", 39)?);
+    all = all.plus(file(&rt, "probes", 19)?);
+    all = all.plus(file(&rt, "accepted", 206)?);
+    all = all.plus(file(&rt, "refused", 844)?);
+    all = all.plus(file(&rt, "others", 105)?);
+    all = all.plus(file(&rt, "planted", 15)?);
+    print_tally(&rt, "all", all)
 }

@@ -2,22 +2,26 @@
 // Prints for each the mask in force: reused or new, its length, how many pixels are valid, a sum over these, and one over
 // how many are valid in each of many parts.
 // `stdout` has the same of the mask that Esri's decoder gives, and of those by hand what the rules give: tests/mask/make.py wrote it.
-ghost use Rattle.std.specs.Prelude.{◌≤◌};
+#![tactic(auto)]
+
+ghost use Rattle.std.specs.Prelude.{◌≤◌, length, IfOk};
 
 use lerc_header::{Header, HeaderAnswer};
 use lerc_validity::MaskAnswer;
 use lerc_words::Refusal;
-use libc::STDOUT_FILENO;
+use std::fs::File;
+use std::io;
+use std::io::Read;
+use std::rt::Files;
 
 const FILES: usize = 79;
 
-fn print(label: &[u8], v: usize) {
-    io::write_all(STDOUT_FILENO, label);
-    io::print_decimal(STDOUT_FILENO, v as u64);
+fn print(rt: &impl Print, label: &str, v: usize) -> io::Result<()> {
+    print!(rt; "{label}{v}")
 }
 
-fn print_refusal(why: Refusal) {
-    print(b" refused ", why.number as usize);
+fn print_refusal(rt: &impl Print, why: Refusal) -> io::Result<()> {
+    print(rt, " refused ", why.number as usize)
 }
 
 // the places of the valid pixels, in order
@@ -45,14 +49,14 @@ fn parts_of(mask: &[u8], pixels: usize) -> usize {
     sum
 }
 
-fn print_mask(mask: &[u8], h: Header) {
+fn print_mask(rt: &impl Print, mask: &[u8], h: Header) -> io::Result<()> {
     let rows = h.rows as usize;
     let columns = h.columns as usize;
     let pixels = rows * columns;
-    print(b" bytes ", mask.len());
-    print(b" valid ", lerc_mask::count(mask, pixels));
-    print(b" sum ", sum_of(mask, pixels));
-    print(b" parts ", parts_of(mask, pixels));
+    print(rt, " bytes ", mask.len())?;
+    print(rt, " valid ", lerc_mask::count(mask, pixels))?;
+    print(rt, " sum ", sum_of(mask, pixels))?;
+    print(rt, " parts ", parts_of(mask, pixels))
 }
 
 fn lesser(a: usize, b: usize) -> usize
@@ -71,52 +75,61 @@ fn keep(mask: &[u8], kept: &mut [u8]) {
 }
 
 // a new mask becomes the kept one
-fn report(blob: &[u8], kept: &mut [u8]) {
+fn report(rt: &impl Print, blob: &[u8], kept: &mut [u8]) -> io::Result<()> {
     let read = lerc_header::read_header(blob);
     let HeaderAnswer::Read(h) = read else {
-        print_refusal(read.refusal());
-        return;
+        return print_refusal(rt, read.refusal());
     };
     let mut spare = [0u8; 512];
     let said = lerc_validity::prepare_mask(blob, h, true, &kept[..], &mut spare);
     match said {
         MaskAnswer::Kept(_n) => {
-            io::write_all(STDOUT_FILENO, b" kept");
-            print_mask(lerc_validity::mask_in_force(&kept[..], &spare, said), h);
+            print!(rt; " kept")?;
+            print_mask(rt, lerc_validity::mask_in_force(&kept[..], &spare, said), h)?;
         }
         MaskAnswer::Spare(_n) => {
-            io::write_all(STDOUT_FILENO, b" new");
-            print_mask(lerc_validity::mask_in_force(&kept[..], &spare, said), h);
+            print!(rt; " new")?;
+            print_mask(rt, lerc_validity::mask_in_force(&kept[..], &spare, said), h)?;
             keep(&spare, kept);
         }
         MaskAnswer::Refused(why) => {
-            print_refusal(why);
+            print_refusal(rt, why)?;
         }
     }
+    Ok(())
 }
 
-fn one(i: usize, kept: &mut [u8; 512]) {
-    let name = [
-        48 + (i / 100 % 10) as u8,
-        48 + (i / 10 % 10) as u8,
-        48 + (i % 10) as u8,
-    ];
-    io::write_all(STDOUT_FILENO, &name);
-    let fd = os::open_read(&name);
-    if fd < 0 {
-        io::write_all(STDOUT_FILENO, b" missing\n");
-        return;
+// reads until the buffer is full or the input ends; how many bytes came
+fn read_full(from: &mut impl Read, into: &mut [u8]) -> io::Result<usize>
+    ensures { IfOk result (λ n. n ≤ length into.new) }
+{
+    let mut done = 0;
+    while done < into.len() {
+        let n = from.read(&mut into[done..])?;
+        if n == 0 {
+            break;
+        }
+        done += n;
     }
-    let mut input = [0u8; 16384];
-    let _n = io::read_full(fd, &mut input);
-    libc::close(fd);
-    report(&input, &mut kept[..]);
-    io::write_all(STDOUT_FILENO, b"\n");
+    Ok(done)
 }
 
-fn main() {
+fn one(rt: &(impl Alloc + Files + Print), i: usize, kept: &mut [u8; 512]) -> io::Result<()> {
+    let name = format!(in rt.alloc(); "{i:03}")?;
+    print!(rt; "{name}")?;
+    let Ok(mut file) = File::open(rt, name.as_str()) else {
+        return println!(rt; " missing");
+    };
+    let mut input = [0u8; 16384];
+    read_full(&mut file, &mut input)?;
+    report(rt, &input, &mut kept[..])?;
+    println!(rt)
+}
+
+fn main(rt: HostRuntime) -> io::Result<()> {
     let mut kept = [0u8; 512];
     for i in 0..FILES {
-        one(i, &mut kept);
+        one(&rt, i, &mut kept)?;
     }
+    Ok(())
 }

@@ -3,12 +3,17 @@
 // them, and the lines that must come out, from the words of the rules. The line of a case has the answer and a sum of what was read
 // or of the whole output, then "same" or what was expected. The output has its marks before the call: a refusal must leave them all,
 // and a pack those behind it. The cases called "planted" have expectations that are wrong, and their lines must say so.
-ghost use Rattle.std.specs.Prelude.{◌≤◌, length};
+#![tactic(auto)]
+
+ghost use Rattle.std.specs.Prelude.{◌≤◌, length, IfOk};
 
 use lerc_pack::{Entry, EntryAnswer, PackAnswer};
 use lerc_pack_writer::WriteAnswer;
 use lerc_words::{Refusal, peek};
-use libc::STDOUT_FILENO;
+use std::fs::File;
+use std::io;
+use std::io::Read;
+use std::rt::Files;
 
 // 14 numbers of 4 bytes and 3 of 8 bytes
 const HEAD: usize = 80;
@@ -30,7 +35,7 @@ const MARK: u8 = 0xA5;
 // a prime below 2^32
 const PRIME: u64 = 4294967291;
 
-#[derive(Drop)]
+#[derive(Clone, Copy)]
 struct Tally {
     cases: usize,
     same: usize,
@@ -47,7 +52,7 @@ impl Tally {
 
 // The head of a case: which bytes of the slice are others than in the case before, and how many are lent; then what the writer is
 // given, then what must come out, then the count and the number of an entry.
-#[derive(Drop)]
+#[derive(Clone, Copy)]
 struct Case {
     operation: usize,
     at: usize,
@@ -88,7 +93,7 @@ impl Case {
 }
 
 // What came out: a refusal, or 0 and how many tiles or bytes; and a sum.
-#[derive(Drop)]
+#[derive(Clone, Copy)]
 struct Found {
     number: usize,
     place: usize,
@@ -124,18 +129,17 @@ fn lesser(a: usize, b: usize) -> usize
     if a < b { a } else { b }
 }
 
-fn print_word(word: &[u8]) {
-    io::write_all(STDOUT_FILENO, word);
+fn print_word(rt: &impl Print, word: &str) -> io::Result<()> {
+    print!(rt; "{word}")
 }
 
-fn print(label: &[u8], v: usize) {
-    io::write_all(STDOUT_FILENO, label);
-    io::print_decimal(STDOUT_FILENO, v as u64);
+fn print(rt: &impl Print, label: &str, v: usize) -> io::Result<()> {
+    print!(rt; "{label}{v}")
 }
 
-fn print_refusal(label: &[u8], number: usize, place: usize) {
-    print(label, number);
-    print(b" at ", place);
+fn print_refusal(rt: &impl Print, label: &str, number: usize, place: usize) -> io::Result<()> {
+    print(rt, label, number)?;
+    print(rt, " at ", place)
 }
 
 fn quad(s: &[u8], at: usize) -> usize {
@@ -199,14 +203,14 @@ fn with_entry(sum: u64, e: Entry, body: u64) -> u64 {
     with_word(g, body)
 }
 
-fn print_entry(e: Entry, body: u64) {
-    print(b" row ", e.row as usize);
-    print(b" column ", e.column as usize);
-    print(b" kind ", e.kind as usize);
-    print(b" depth ", e.depth as usize);
-    print(b" start ", e.start);
-    print(b" length ", e.length);
-    print(b" sum ", body as usize);
+fn print_entry(rt: &impl Print, e: Entry, body: u64) -> io::Result<()> {
+    print(rt, " row ", e.row as usize)?;
+    print(rt, " column ", e.column as usize)?;
+    print(rt, " kind ", e.kind as usize)?;
+    print(rt, " depth ", e.depth as usize)?;
+    print(rt, " start ", e.start)?;
+    print(rt, " length ", e.length)?;
+    print(rt, " sum ", body as usize)
 }
 
 // the refusal that the answer carries, 0 where it is none
@@ -219,17 +223,15 @@ fn outcome(why: Refusal, value: usize, sum: u64) -> Found {
     }
 }
 
-fn print_why(why: Refusal) {
-    print_refusal(b" refused ", why.number as usize, why.at);
+fn print_why(rt: &impl Print, why: Refusal) -> io::Result<()> {
+    print_refusal(rt, " refused ", why.number as usize, why.at)
 }
 
-fn print_one(pack: &[u8], count: usize, i: usize) {
+fn print_one(rt: &impl Print, pack: &[u8], count: usize, i: usize) -> io::Result<()> {
     let said = lerc_pack::entry_in(pack, count, i);
     match said {
-        EntryAnswer::Read(e) => {
-            print_entry(e, sum_of(lerc_pack::body_in(pack, count, i)));
-        }
-        EntryAnswer::Refused(why) => print_why(why),
+        EntryAnswer::Read(e) => { print_entry(rt, e, sum_of(lerc_pack::body_in(pack, count, i))) }
+        EntryAnswer::Refused(why) => print_why(rt, why),
     }
 }
 
@@ -246,21 +248,21 @@ fn read_one(pack: &[u8], count: usize, i: usize, sum: u64) -> Found {
 }
 
 // of many entries the first ones are shown; the sum is of all
-fn tell_entry(pack: &[u8], count: usize, i: usize, sum: u64) -> u64 {
+fn tell_entry(rt: &impl Print, pack: &[u8], count: usize, i: usize, sum: u64) -> io::Result<u64> {
     if i < SHOWN {
-        print(b"\n  ", i);
-        print_one(pack, count, i);
+        print(rt, "\n  ", i)?;
+        print_one(rt, pack, count, i)?;
     }
     let one = read_one(pack, count, i, sum);
-    one.sum
+    Ok(one.sum)
 }
 
-fn tell_entries(pack: &[u8], count: usize) -> u64 {
+fn tell_entries(rt: &impl Print, pack: &[u8], count: usize) -> io::Result<u64> {
     let mut sum = 0;
     for i in 0..count {
-        sum = tell_entry(pack, count, i, sum);
+        sum = tell_entry(rt, pack, count, i, sum)?;
     }
-    sum
+    Ok(sum)
 }
 
 // all zeros where it is refused
@@ -333,17 +335,17 @@ fn other_byte(out: &[u8], pack: &[u8], n: usize) -> usize {
 }
 
 // whether all bytes are as wanted; if not, the first that differs is told
-fn is_as_wanted(out: &[u8], pack: &[u8], n: usize) -> bool {
+fn is_as_wanted(rt: &impl Print, out: &[u8], pack: &[u8], n: usize) -> io::Result<bool> {
     let other = other_byte(out, pack, n);
     if other < out.len() {
-        print(b" differs at byte ", other);
-        return false;
+        print(rt, " differs at byte ", other)?;
+        return Ok(false);
     }
-    true
+    Ok(true)
 }
 
 // whether the entries and bodies that are read are written as the pack that they are from
-fn is_written_so(pack: &[u8], count: usize, out: &mut [u8]) -> bool {
+fn is_written_so(rt: &impl Print, pack: &[u8], count: usize, out: &mut [u8]) -> io::Result<bool> {
     let rows = rows_of(pack, count);
     let columns = columns_of(pack, count);
     let lengths = lengths_of(pack, count);
@@ -358,57 +360,57 @@ fn is_written_so(pack: &[u8], count: usize, out: &mut [u8]) -> bool {
     );
     let why = said.refusal();
     if why.number != 0 {
-        print_refusal(b" and again refused ", why.number as usize, why.at);
-        return false;
+        print_refusal(rt, " and again refused ", why.number as usize, why.at)?;
+        return Ok(false);
     }
-    is_as_wanted(&out[..], pack, pack.len())
+    is_as_wanted(rt, &out[..], pack, pack.len())
 }
 
-fn is_written_again(pack: &[u8], count: usize) -> bool {
+fn is_written_again(rt: &impl Print, pack: &[u8], count: usize) -> io::Result<bool> {
     let mut out = [MARK; BYTES];
     let room = lesser(pack.len(), BYTES);
-    is_written_so(pack, count, &mut out[..room])
+    is_written_so(rt, pack, count, &mut out[..room])
 }
 
-fn open(pack: &[u8]) -> Found {
+fn open(rt: &impl Print, pack: &[u8]) -> io::Result<Found> {
     let said = lerc_pack::open_pack(pack);
     let why = said.refusal();
     let PackAnswer::Opened(count) = said else {
-        print_why(why);
-        return outcome(why, 0, 0);
+        print_why(rt, why)?;
+        return Ok(outcome(why, 0, 0));
     };
-    print(b" opened ", count);
-    let sum = tell_entries(pack, count);
-    print_word(b"\n ");
-    outcome(why, count, sum)
+    print(rt, " opened ", count)?;
+    let sum = tell_entries(rt, pack, count)?;
+    print_word(rt, "\n ")?;
+    Ok(outcome(why, count, sum))
 }
 
-fn judge(c: Case, have: Found) -> bool {
-    print(b" sum ", have.sum as usize);
+fn judge(rt: &impl Print, c: Case, have: Found) -> io::Result<bool> {
+    print(rt, " sum ", have.sum as usize)?;
     if have.is_wanted(c) {
-        return true;
+        return Ok(true);
     }
     if 0 < c.number {
-        print_refusal(b" and not refused ", c.number, c.place);
+        print_refusal(rt, " and not refused ", c.number, c.place)?;
     } else {
-        print(b" and not value ", c.value);
+        print(rt, " and not value ", c.value)?;
     }
-    print(b" sum ", c.sum as usize);
-    false
+    print(rt, " sum ", c.sum as usize)?;
+    Ok(false)
 }
 
-fn run_open(c: Case, pack: &[u8]) -> bool {
-    let have = open(pack);
-    let is_same = judge(c, have);
+fn run_open(rt: &impl Print, c: Case, pack: &[u8]) -> io::Result<bool> {
+    let have = open(rt, pack)?;
+    let is_same = judge(rt, c, have)?;
     if have.number != 0 {
-        return is_same;
+        return Ok(is_same);
     }
-    is_same & is_written_again(pack, have.value)
+    Ok(is_same & is_written_again(rt, pack, have.value)?)
 }
 
-fn run_read(c: Case, pack: &[u8]) -> bool {
-    print_one(pack, c.count, c.index);
-    judge(c, read_one(pack, c.count, c.index, 0))
+fn run_read(rt: &impl Print, c: Case, pack: &[u8]) -> io::Result<bool> {
+    print_one(rt, pack, c.count, c.index)?;
+    judge(rt, c, read_one(pack, c.count, c.index, 0))
 }
 
 // rows or columns as they are stored from `at` on
@@ -448,45 +450,66 @@ fn write(c: Case, bodies: &[u8], rest: &[u8], out: &mut [u8]) -> WriteAnswer {
     )
 }
 
-fn found_of(said: WriteAnswer, sum: u64) -> Found {
+fn found_of(rt: &impl Print, said: WriteAnswer, sum: u64) -> io::Result<Found> {
     let why = said.refusal();
     let WriteAnswer::Written(n) = said else {
-        print_why(why);
-        return outcome(why, 0, sum);
+        print_why(rt, why)?;
+        return Ok(outcome(why, 0, sum));
     };
-    print(b" written ", n);
-    outcome(why, n, sum)
+    print(rt, " written ", n)?;
+    Ok(outcome(why, n, sum))
 }
 
-fn write_lent(c: Case, pack: &[u8], rest: &[u8], out: &mut [u8]) -> bool {
+fn write_lent(
+    rt: &impl Print,
+    c: Case,
+    pack: &[u8],
+    rest: &[u8],
+    out: &mut [u8],
+) -> io::Result<bool> {
     let from = lesser(c.from, pack.len());
     let end = lesser(c.bodies, pack.len() - from) + from;
     let said = write(c, &pack[from..end], rest, &mut out[..]);
-    let is_same = judge(c, found_of(said, sum_of(&out[..])));
-    is_same & is_as_wanted(&out[..], pack, c.written())
+    let is_same = judge(rt, c, found_of(rt, said, sum_of(&out[..]))?)?;
+    Ok(is_same & is_as_wanted(rt, &out[..], pack, c.written())?)
 }
 
-fn run_write(c: Case, pack: &[u8], rest: &[u8]) -> bool {
+fn run_write(rt: &impl Print, c: Case, pack: &[u8], rest: &[u8]) -> io::Result<bool> {
     let mut out = [MARK; BYTES];
     let room = lesser(c.room, BYTES);
-    write_lent(c, pack, rest, &mut out[..room])
+    write_lent(rt, c, pack, rest, &mut out[..room])
 }
 
-fn run(c: Case, pack: &[u8], rest: &[u8]) -> bool {
+fn run(rt: &impl Print, c: Case, pack: &[u8], rest: &[u8]) -> io::Result<bool> {
     let operation = c.operation;
     match operation {
-        0 => run_open(c, pack),
-        1 => run_read(c, pack),
-        _ => run_write(c, pack, rest),
+        0 => run_open(rt, c, pack),
+        1 => run_read(rt, c, pack),
+        _ => run_write(rt, c, pack, rest),
     }
 }
 
+// reads until the buffer is full or the input ends; how many bytes came
+fn read_full(from: &mut impl Read, into: &mut [u8]) -> io::Result<usize>
+    ensures { IfOk result (λ n. n ≤ length into.new) }
+{
+    let mut done = 0;
+    while done < into.len() {
+        let n = from.read(&mut into[done..])?;
+        if n == 0 {
+            break;
+        }
+        done += n;
+    }
+    Ok(done)
+}
+
 // the next bytes of a file
-fn load(fd: i32, n: usize, into: &mut [u8]) -> usize
-    ensures { result ≤ length into.new }
+fn load(from: &mut impl Read, n: usize, into: &mut [u8]) -> io::Result<usize>
+    ensures { IfOk result (λ n. n ≤ length into.new) }
 {
     let m = lesser(n, into.len());
-    io::read_full(fd, &mut into[..m])
+    read_full(from, &mut into[..m])
 }
 
 // the first n bytes over and over
@@ -503,72 +526,83 @@ fn repeat(n: usize, into: &mut [u8]) {
 }
 
 // what is another pack than that of the case before
-fn change(fd: i32, c: Case, slice: &mut [u8]) {
+fn change(from: &mut impl Read, c: Case, slice: &mut [u8]) -> io::Result<()> {
     let at = lesser(c.at, slice.len());
     let end = lesser(c.changed, slice.len() - at) + at;
-    let n = load(fd, c.piece, &mut slice[at..end]);
+    let n = load(from, c.piece, &mut slice[at..end])?;
     repeat(n, &mut slice[at..end]);
+    Ok(())
 }
 
-fn one(fd: i32, slice: &mut [u8]) -> bool {
+fn one(rt: &impl Print, from: &mut impl Read, slice: &mut [u8]) -> io::Result<bool> {
     let mut head = [0u8; HEAD];
-    io::read_full(fd, &mut head[..]);
+    read_full(from, &mut head[..])?;
     let c = case_of(&head);
-    change(fd, c, &mut slice[..]);
+    change(from, c, &mut slice[..])?;
     let mut rest = [0u8; REST];
-    let m = load(fd, c.rest(), &mut rest[..]);
+    let m = load(from, c.rest(), &mut rest[..])?;
     let n = lesser(c.lent, slice.len());
-    run(c, &slice[..n], &rest[..m])
+    run(rt, c, &slice[..n], &rest[..m])
 }
 
 // 1 if nothing differs
-fn line(fd: i32, name: &[u8], i: usize, slice: &mut [u8]) -> usize {
-    print_word(name);
-    print(b" ", i);
-    if one(fd, &mut slice[..]) {
-        print_word(b" same\n");
-        return 1;
+fn line(
+    rt: &impl Print,
+    from: &mut impl Read,
+    name: &str,
+    i: usize,
+    slice: &mut [u8],
+) -> io::Result<usize> {
+    print_word(rt, name)?;
+    print(rt, " ", i)?;
+    if one(rt, from, &mut slice[..])? {
+        print_word(rt, " same\n")?;
+        return Ok(1);
     }
-    print_word(b"\n");
-    0
+    print_word(rt, "\n")?;
+    Ok(0)
 }
 
-fn lines(fd: i32, name: &[u8], cases: usize, slice: &mut [u8]) -> usize {
+fn lines(
+    rt: &impl Print,
+    from: &mut impl Read,
+    name: &str,
+    cases: usize,
+    slice: &mut [u8],
+) -> io::Result<usize> {
     let mut same = 0;
     for i in 0..cases {
-        same = add(same, line(fd, name, i, &mut slice[..]));
+        same = add(same, line(rt, from, name, i, &mut slice[..])?);
     }
-    same
+    Ok(same)
 }
 
-fn print_tally(name: &[u8], t: Tally) {
-    print_word(name);
-    print(b" cases ", t.cases);
-    print(b" same ", t.same);
-    print_word(b"\n");
+fn print_tally(rt: &impl Print, name: &str, t: Tally) -> io::Result<()> {
+    print_word(rt, name)?;
+    print(rt, " cases ", t.cases)?;
+    print(rt, " same ", t.same)?;
+    print_word(rt, "\n")
 }
 
-fn file(name: &[u8], cases: usize) -> Tally {
-    let fd = os::open_read(name);
-    if fd < 0 {
-        return Tally { cases, same: 0 };
-    }
+fn file(rt: &(impl Files + Print), name: &str, cases: usize) -> io::Result<Tally> {
+    let Ok(mut from) = File::open(rt, name) else {
+        return Ok(Tally { cases, same: 0 });
+    };
     let mut slice = [0u8; BYTES];
-    let same = lines(fd, name, cases, &mut slice[..]);
-    libc::close(fd);
+    let same = lines(rt, &mut from, name, cases, &mut slice[..])?;
     let t = Tally { cases, same };
-    print_tally(name, t);
-    t
+    print_tally(rt, name, t)?;
+    Ok(t)
 }
 
-fn main() {
+fn main(rt: HostRuntime) -> io::Result<()> {
     let mut all = Tally { cases: 0, same: 0 };
-    all = all.plus(file(b"accepted", 65));
-    all = all.plus(file(b"refused", 317));
-    all = all.plus(file(b"entries", 117));
-    all = all.plus(file(b"written", 39));
-    all = all.plus(file(b"unwritten", 226));
-    all = all.plus(file(b"large", 76));
-    all = all.plus(file(b"planted", 18));
-    print_tally(b"all", all);
+    all = all.plus(file(&rt, "accepted", 65)?);
+    all = all.plus(file(&rt, "refused", 317)?);
+    all = all.plus(file(&rt, "entries", 117)?);
+    all = all.plus(file(&rt, "written", 39)?);
+    all = all.plus(file(&rt, "unwritten", 226)?);
+    all = all.plus(file(&rt, "large", 76)?);
+    all = all.plus(file(&rt, "planted", 18)?);
+    print_tally(&rt, "all", all)
 }

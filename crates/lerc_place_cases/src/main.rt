@@ -3,12 +3,16 @@
 // sentence gives its place. A case is a head, the mask that is lent and the bytes of a blob. The header by value has the fields as
 // they stand there, whatever is lent of them, and the ranges by value come from the head alone: no operation's answer goes into the
 // call of another. Some calls are accepted, so that a reader that refuses all does not write these lines.
-ghost use Rattle.std.specs.Prelude.{◌≤◌, length};
+#![tactic(auto)]
+
+ghost use Rattle.std.specs.Prelude.{◌≤◌, length, IfOk};
 
 use lerc_header::Header;
 use lerc_ranges::Ranges;
 use lerc_words::{Refusal, peek};
-use libc::STDOUT_FILENO;
+use std::fs::File;
+use std::io;
+use std::io::Read;
 
 const CASES: usize = 1161;
 
@@ -30,7 +34,7 @@ const DEPTHS: usize = 64;
 const NOWHERE: usize = 0x1234_5678_9ABC;
 
 // The head of a case: the operation, the lengths of what is lent, then what is given by value.
-#[derive(Drop)]
+#[derive(Clone, Copy)]
 struct Case {
     operation: usize,
     flags: usize,
@@ -89,13 +93,12 @@ fn lesser(a: usize, b: usize) -> usize
     if a < b { a } else { b }
 }
 
-fn print_word(word: &[u8]) {
-    io::write_all(STDOUT_FILENO, word);
+fn print_word(rt: &impl Print, word: &str) -> io::Result<()> {
+    print!(rt; "{word}")
 }
 
-fn print(label: &[u8], v: usize) {
-    io::write_all(STDOUT_FILENO, label);
-    io::print_decimal(STDOUT_FILENO, v as u64);
+fn print(rt: &impl Print, label: &str, v: usize) -> io::Result<()> {
+    print!(rt; "{label}{v}")
 }
 
 // the four bytes at `at`, zeros past the end
@@ -201,14 +204,14 @@ fn read(c: Case, blob: &[u8], kept: &mut [u8]) -> Refusal {
     said.refusal()
 }
 
-fn print_name(operation: usize) {
+fn print_name(rt: &impl Print, operation: usize) -> io::Result<()> {
     match operation {
-        0 => print_word(b" header"),
-        1 => print_word(b" mask"),
-        2 => print_word(b" ranges"),
-        3 => print_word(b" walk"),
-        4 => print_word(b" fill"),
-        _ => print_word(b" read"),
+        0 => print_word(rt, " header"),
+        1 => print_word(rt, " mask"),
+        2 => print_word(rt, " ranges"),
+        3 => print_word(rt, " walk"),
+        4 => print_word(rt, " fill"),
+        _ => print_word(rt, " read"),
     }
 }
 
@@ -226,68 +229,80 @@ fn call(c: Case, h: Header, blob: &[u8], mask: &mut [u8]) -> Refusal {
 }
 
 // 1 for a refusal
-fn print_answer(why: Refusal) -> usize
-    ensures { result ≤ 1 }
+fn print_answer(rt: &impl Print, why: Refusal) -> io::Result<usize>
+    ensures { IfOk result (λ n. n ≤ 1) }
 {
     if why.number == 0 {
-        io::write_all(STDOUT_FILENO, b" accepted\n");
-        return 0;
+        println!(rt; " accepted")?;
+        return Ok(0);
     }
-    print(b" refused ", why.number as usize);
-    print(b" at ", why.at);
-    io::write_all(STDOUT_FILENO, b"\n");
-    1
+    print(rt, " refused ", why.number as usize)?;
+    print(rt, " at ", why.at)?;
+    println!(rt)?;
+    Ok(1)
 }
 
-fn run(c: Case, blob: &[u8], mask: &mut [u8]) -> usize
-    ensures { result ≤ 1 }
+fn run(rt: &impl Print, c: Case, blob: &[u8], mask: &mut [u8]) -> io::Result<usize>
+    ensures { IfOk result (λ n. n ≤ 1) }
 {
-    print_name(c.operation);
+    print_name(rt, c.operation)?;
     let n = lesser(c.lent, blob.len());
     let why = call(c, fields(blob), &blob[..n], &mut mask[..]);
-    print_answer(why)
+    print_answer(rt, why)
+}
+
+// reads until the buffer is full or the input ends; how many bytes came
+fn read_full(from: &mut impl Read, into: &mut [u8]) -> io::Result<usize>
+    ensures { IfOk result (λ n. n ≤ length into.new) }
+{
+    let mut done = 0;
+    while done < into.len() {
+        let n = from.read(&mut into[done..])?;
+        if n == 0 {
+            break;
+        }
+        done += n;
+    }
+    Ok(done)
 }
 
 // the next bytes of a file
-fn load(fd: i32, n: usize, into: &mut [u8]) -> usize
-    ensures { result ≤ length into.new }
+fn load(from: &mut impl Read, n: usize, into: &mut [u8]) -> io::Result<usize>
+    ensures { IfOk result (λ n. n ≤ length into.new) }
 {
     let m = lesser(n, into.len());
-    io::read_full(fd, &mut into[..m])
+    read_full(from, &mut into[..m])
 }
 
-fn one(fd: i32, i: usize) -> usize
-    ensures { result ≤ 1 }
+fn one(rt: &impl Print, from: &mut impl Read, i: usize) -> io::Result<usize>
+    ensures { IfOk result (λ n. n ≤ 1) }
 {
-    io::print_decimal(STDOUT_FILENO, i as u64);
+    print!(rt; "{i}")?;
     let mut head = [0u8; HEAD];
-    io::read_full(fd, &mut head[..]);
+    read_full(from, &mut head[..])?;
     let c = case_of(&head);
     let mut mask = [0u8; MASKS];
-    let m = load(fd, c.mask, &mut mask[..]);
+    let m = load(from, c.mask, &mut mask[..])?;
     let mut blob = [0u8; BYTES];
-    let n = load(fd, c.blob, &mut blob[..]);
-    run(c, &blob[..n], &mut mask[..m])
+    let n = load(from, c.blob, &mut blob[..])?;
+    run(rt, c, &blob[..n], &mut mask[..m])
 }
 
 // how many were refused
-fn lines(fd: i32) -> usize {
+fn lines(rt: &impl Print, from: &mut impl Read) -> io::Result<usize> {
     let mut refused = 0;
     for i in 0..CASES {
-        refused += one(fd, i);
+        refused += one(rt, from, i)?;
     }
-    refused
+    Ok(refused)
 }
 
-fn main() {
-    let fd = os::open_read(b"cases");
-    if fd < 0 {
-        io::write_all(STDOUT_FILENO, b"missing\n");
-        return;
-    }
-    let refused = lines(fd);
-    libc::close(fd);
-    print(b"cases ", CASES);
-    print(b" refused ", refused);
-    io::write_all(STDOUT_FILENO, b"\n");
+fn main(rt: HostRuntime) -> io::Result<()> {
+    let Ok(mut from) = File::open(&rt, "cases") else {
+        return println!(rt; "missing");
+    };
+    let refused = lines(&rt, &mut from)?;
+    print(&rt, "cases ", CASES)?;
+    print(&rt, " refused ", refused)?;
+    println!(rt)
 }

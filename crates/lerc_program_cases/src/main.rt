@@ -1,7 +1,14 @@
 // Stored inputs and the program's text for each: tests/program/make.py encodes them from cells that it knows, and says what is written.
 // Of each a line has its number and its bytes; then comes as much of the buffer as `answer` says. Before the call it is full of marks.
+#![tactic(auto)]
+
+ghost use Rattle.std.specs.Prelude.{◌≤◌, length, IfOk};
+
 use lerc_program::TEXT;
-use libc::STDOUT_FILENO;
+use std::fs::File;
+use std::io;
+use std::io::Read;
+use std::rt::Files;
 
 const FILES: usize = 117;
 
@@ -10,39 +17,47 @@ const ROOM: usize = 66000;
 
 const MARK: u8 = 0xA5;
 
-fn print(label: &[u8], v: usize) {
-    io::write_all(STDOUT_FILENO, label);
-    io::print_decimal(STDOUT_FILENO, v as u64);
+fn print(rt: &impl Print, label: &str, v: usize) -> io::Result<()> {
+    print!(rt; "{label}{v}")
 }
 
-fn print_text(input: &[u8]) {
+fn print_text(rt: &impl Print, input: &[u8]) -> io::Result<()> {
     let mut out = [MARK; TEXT];
     let r = lerc_program::answer(input, &mut out);
-    io::write_all(STDOUT_FILENO, &out[..r]);
+    rt.write_all(&out[..r])
 }
 
-fn one(i: usize) {
-    print(b"input ", i);
-    let name = [
-        48 + (i / 100 % 10) as u8,
-        48 + (i / 10 % 10) as u8,
-        48 + (i % 10) as u8,
-    ];
-    let fd = os::open_read(&name);
-    if fd < 0 {
-        io::write_all(STDOUT_FILENO, b" missing\n");
-        return;
+// reads until the buffer is full or the input ends; how many bytes came
+fn read_full(from: &mut impl Read, into: &mut [u8]) -> io::Result<usize>
+    ensures { IfOk result (λ n. n ≤ length into.new) }
+{
+    let mut done = 0;
+    while done < into.len() {
+        let n = from.read(&mut into[done..])?;
+        if n == 0 {
+            break;
+        }
+        done += n;
     }
+    Ok(done)
+}
+
+fn one(rt: &(impl Alloc + Files + Print), i: usize) -> io::Result<()> {
+    print(rt, "input ", i)?;
+    let name = format!(in rt.alloc(); "{i:03}")?;
+    let Ok(mut file) = File::open(rt, name.as_str()) else {
+        return println!(rt; " missing");
+    };
     let mut input = [0u8; ROOM];
-    let n = io::read_full(fd, &mut input);
-    libc::close(fd);
-    print(b" bytes ", n);
-    io::write_all(STDOUT_FILENO, b"\n");
-    print_text(&input[..n]);
+    let n = read_full(&mut file, &mut input)?;
+    print(rt, " bytes ", n)?;
+    println!(rt)?;
+    print_text(rt, &input[..n])
 }
 
-fn main() {
+fn main(rt: HostRuntime) -> io::Result<()> {
     for i in 0..FILES {
-        one(i);
+        one(&rt, i)?;
     }
+    Ok(())
 }

@@ -3,11 +3,16 @@
 // Each slice is filled with its mark before the call. After it every entry is looked at: it must hold what the case says, or still
 // its mark. The line of a case has the answer, and then "same" or the first entry of each slice that differs. The cases called
 // "planted" have expectations that are wrong, and their lines must say so.
-ghost use Rattle.std.specs.Prelude.{◌≤◌, ◌<◌, length};
+#![tactic(auto)]
+
+ghost use Rattle.std.specs.Prelude.{◌≤◌, ◌<◌, length, IfOk};
 
 use lerc::{PublishAnswer, ReadAnswer, StageAnswer};
 use lerc_words::{Refusal, bytes, peek};
-use libc::STDOUT_FILENO;
+use std::fs::File;
+use std::io;
+use std::io::Read;
+use std::rt::Files;
 
 // 18 numbers of 4 bytes
 const HEAD: usize = 72;
@@ -34,7 +39,7 @@ const MARK: u64 = 0xFEED_FACE_CAFE;
 // a prime below 2^32
 const PRIME: u64 = 4294967291;
 
-#[derive(Drop)]
+#[derive(Clone, Copy)]
 struct Tally {
     cases: usize,
     same: usize,
@@ -51,7 +56,7 @@ impl Tally {
 
 // The head of a case. First the bytes of its parts and the slices' lengths; then how many bytes of each mask, starts and cells the
 // expectation has.
-#[derive(Drop)]
+#[derive(Clone, Copy)]
 struct Case {
     blob: usize,
     rest: usize,
@@ -124,9 +129,8 @@ fn lesser(a: usize, b: usize) -> usize
     if a < b { a } else { b }
 }
 
-fn print(label: &[u8], v: usize) {
-    io::write_all(STDOUT_FILENO, label);
-    io::print_decimal(STDOUT_FILENO, v as u64);
+fn print(rt: &impl Print, label: &str, v: usize) -> io::Result<()> {
+    print!(rt; "{label}{v}")
 }
 
 fn field(head: &[u8; HEAD], at: usize) -> usize {
@@ -250,24 +254,25 @@ fn sum_of(have: &[u64]) -> u64 {
 }
 
 // whether all entries are as wanted; if not, the first that differs is told
-fn told(label: &[u8], other: usize, n: usize) -> bool {
+fn told(rt: &impl Print, label: &str, other: usize, n: usize) -> io::Result<bool> {
     if other < n {
-        print(label, other);
-        return false;
+        print(rt, label, other)?;
+        return Ok(false);
     }
-    true
+    Ok(true)
 }
 
-fn is_same_image(have: &[u64], expect: &[u8], c: Case) -> bool {
+fn is_same_image(rt: &impl Print, have: &[u64], expect: &[u8], c: Case) -> io::Result<bool> {
     if c.is_summed() {
         let is_same = sum_of(have) == c.sum as u64;
         if !is_same {
-            io::write_all(STDOUT_FILENO, b" sum differs");
+            print!(rt; " sum differs")?;
         }
-        return is_same;
+        return Ok(is_same);
     }
     told(
-        b" differs at cell ",
+        rt,
+        " differs at cell ",
         other_word(have, expect, c),
         have.len(),
     )
@@ -286,35 +291,35 @@ fn is_same_answer(answer: ReadAnswer, c: Case) -> bool {
     }
 }
 
-fn print_answer(answer: ReadAnswer) {
+fn print_answer(rt: &impl Print, answer: ReadAnswer) -> io::Result<()> {
     match answer {
         ReadAnswer::Whole {
             header: _h,
             blocks,
             end,
         } => {
-            print(b" blocks ", blocks);
-            print(b" end ", end);
+            print(rt, " blocks ", blocks)?;
+            print(rt, " end ", end)
         }
         ReadAnswer::Refused(why) => {
-            print(b" refused ", why.number as usize);
-            print(b" at ", why.at);
+            print(rt, " refused ", why.number as usize)?;
+            print(rt, " at ", why.at)
         }
     }
 }
 
-fn print_wanted(c: Case) {
+fn print_wanted(rt: &impl Print, c: Case) -> io::Result<()> {
     if 0 < c.number {
-        print(b" and not refused ", c.number);
-        print(b" at ", c.place);
-        return;
+        print(rt, " and not refused ", c.number)?;
+        return print(rt, " at ", c.place);
     }
-    print(b" and not blocks ", c.starts);
-    print(b" end ", c.end);
+    print(rt, " and not blocks ", c.starts)?;
+    print(rt, " end ", c.end)
 }
 
 // 1 if nothing differs
 fn judge(
+    rt: &impl Print,
     c: Case,
     answer: ReadAnswer,
     expect: &[u8],
@@ -322,27 +327,28 @@ fn judge(
     spare: &[u8],
     list: &[usize],
     image: &[u64],
-) -> usize {
-    print_answer(answer);
+) -> io::Result<usize> {
+    print_answer(rt, answer)?;
     let said = is_same_answer(answer, c);
     if !said {
-        print_wanted(c);
+        print_wanted(rt, c)?;
     }
     let a = other_byte(kept, expect, c.before, c.kept, KEPT);
     let b = other_byte(spare, expect, c.spare_at(), c.spare, SPARE);
-    let masks = told(b" differs at kept ", a, kept.len())
-        & told(b" differs at spare ", b, spare.len());
+    let masks = told(rt, " differs at kept ", a, kept.len())?
+        & told(rt, " differs at spare ", b, spare.len())?;
     let starts = told(
-        b" differs at start ",
+        rt,
+        " differs at start ",
         other_start(list, expect, c),
         list.len(),
-    );
-    let words = is_same_image(image, expect, c);
+    )?;
+    let words = is_same_image(rt, image, expect, c)?;
     if said & masks & starts & words {
-        io::write_all(STDOUT_FILENO, b" same");
-        return 1;
+        print!(rt; " same")?;
+        return Ok(1);
     }
-    0
+    Ok(0)
 }
 
 // the case's bytes, then marks
@@ -412,6 +418,7 @@ fn finish(
 }
 
 fn read_lent(
+    rt: &impl Print,
     c: Case,
     blob: &[u8],
     expect: &[u8],
@@ -419,7 +426,7 @@ fn read_lent(
     spare: &mut [u8],
     list: &mut [usize],
     image: &mut [u64],
-) -> usize {
+) -> io::Result<usize> {
     prepare(c, expect, &mut kept[..]);
     let reuse = c.reuses();
     let given = lerc::stage(
@@ -440,6 +447,7 @@ fn read_lent(
         &mut image[..],
     );
     judge(
+        rt,
         c,
         answer,
         expect,
@@ -450,7 +458,7 @@ fn read_lent(
     )
 }
 
-fn run(c: Case, blob: &[u8], expect: &[u8], kept: &mut [u8]) -> usize {
+fn run(rt: &impl Print, c: Case, blob: &[u8], expect: &[u8], kept: &mut [u8]) -> io::Result<usize> {
     let mut spare = [SPARE; MASKS];
     let mut list = [NOWHERE; BLOCKS];
     let mut image = [MARK; CELLS];
@@ -459,6 +467,7 @@ fn run(c: Case, blob: &[u8], expect: &[u8], kept: &mut [u8]) -> usize {
     let l = lesser(c.lent_list, BLOCKS);
     let i = lesser(c.lent_image, CELLS);
     read_lent(
+        rt,
         c,
         blob,
         expect,
@@ -469,73 +478,98 @@ fn run(c: Case, blob: &[u8], expect: &[u8], kept: &mut [u8]) -> usize {
     )
 }
 
+// reads until the buffer is full or the input ends; how many bytes came
+fn read_full(from: &mut impl Read, into: &mut [u8]) -> io::Result<usize>
+    ensures { IfOk result (λ n. n ≤ length into.new) }
+{
+    let mut done = 0;
+    while done < into.len() {
+        let n = from.read(&mut into[done..])?;
+        if n == 0 {
+            break;
+        }
+        done += n;
+    }
+    Ok(done)
+}
+
 // the next bytes of a file
-fn load(fd: i32, n: usize, into: &mut [u8]) -> usize
-    ensures { result ≤ length into.new }
+fn load(from: &mut impl Read, n: usize, into: &mut [u8]) -> io::Result<usize>
+    ensures { IfOk result (λ n. n ≤ length into.new) }
 {
     let m = lesser(n, into.len());
-    io::read_full(fd, &mut into[..m])
+    read_full(from, &mut into[..m])
 }
 
-fn one(fd: i32, kept: &mut [u8]) -> usize {
+fn one(rt: &impl Print, from: &mut impl Read, kept: &mut [u8]) -> io::Result<usize> {
     let mut head = [0u8; HEAD];
-    io::read_full(fd, &mut head[..]);
+    read_full(from, &mut head[..])?;
     let c = case_of(&head);
     let mut blob = [0u8; BYTES];
-    let n = load(fd, c.blob, &mut blob[..]);
+    let n = load(from, c.blob, &mut blob[..])?;
     let mut expect = [0u8; REST];
-    let m = load(fd, c.rest, &mut expect[..]);
-    run(c, &blob[..n], &expect[..m], &mut kept[..])
+    let m = load(from, c.rest, &mut expect[..])?;
+    run(rt, c, &blob[..n], &expect[..m], &mut kept[..])
 }
 
-fn line(fd: i32, name: &[u8], i: usize, kept: &mut [u8]) -> usize {
-    io::write_all(STDOUT_FILENO, name);
-    print(b" ", i);
-    let same = one(fd, &mut kept[..]);
-    io::write_all(STDOUT_FILENO, b"\n");
-    same
+fn line(
+    rt: &impl Print,
+    from: &mut impl Read,
+    name: &str,
+    i: usize,
+    kept: &mut [u8],
+) -> io::Result<usize> {
+    print!(rt; "{name}")?;
+    print(rt, " ", i)?;
+    let same = one(rt, from, &mut kept[..])?;
+    println!(rt)?;
+    Ok(same)
 }
 
-fn lines(fd: i32, name: &[u8], cases: usize, kept: &mut [u8]) -> usize {
+fn lines(
+    rt: &impl Print,
+    from: &mut impl Read,
+    name: &str,
+    cases: usize,
+    kept: &mut [u8],
+) -> io::Result<usize> {
     let mut same = 0;
     for i in 0..cases {
-        same = add(same, line(fd, name, i, &mut kept[..]));
+        same = add(same, line(rt, from, name, i, &mut kept[..])?);
     }
-    same
+    Ok(same)
 }
 
-fn print_tally(name: &[u8], t: Tally) {
-    io::write_all(STDOUT_FILENO, name);
-    print(b" cases ", t.cases);
-    print(b" same ", t.same);
-    io::write_all(STDOUT_FILENO, b"\n");
+fn print_tally(rt: &impl Print, name: &str, t: Tally) -> io::Result<()> {
+    print!(rt; "{name}")?;
+    print(rt, " cases ", t.cases)?;
+    print(rt, " same ", t.same)?;
+    println!(rt)
 }
 
-fn file(name: &[u8], cases: usize) -> Tally {
-    let fd = os::open_read(name);
-    if fd < 0 {
-        return Tally { cases, same: 0 };
-    }
+fn file(rt: &(impl Files + Print), name: &str, cases: usize) -> io::Result<Tally> {
+    let Ok(mut from) = File::open(rt, name) else {
+        return Ok(Tally { cases, same: 0 });
+    };
     let mut kept = [KEPT; MASKS];
-    let same = lines(fd, name, cases, &mut kept[..]);
-    libc::close(fd);
+    let same = lines(rt, &mut from, name, cases, &mut kept[..])?;
     let t = Tally { cases, same };
-    print_tally(name, t);
-    t
+    print_tally(rt, name, t)?;
+    Ok(t)
 }
 
-fn main() {
+fn main(rt: HostRuntime) -> io::Result<()> {
     let mut all = Tally { cases: 0, same: 0 };
-    all = all.plus(file(b"v4", 198));
-    all = all.plus(file(b"v4-crafted", 78));
-    all = all.plus(file(b"v4-bands", 24));
-    all = all.plus(file(b"v4-published", 7));
-    all = all.plus(file(b"v4-large", 4));
-    all = all.plus(file(b"probes", 80));
-    all = all.plus(file(b"beyond", 16));
-    all = all.plus(file(b"rules", 71));
-    all = all.plus(file(b"refused", 386));
-    all = all.plus(file(b"damaged", 78));
-    all = all.plus(file(b"planted", 11));
-    print_tally(b"all", all);
+    all = all.plus(file(&rt, "v4", 198)?);
+    all = all.plus(file(&rt, "v4-crafted", 78)?);
+    all = all.plus(file(&rt, "v4-bands", 24)?);
+    all = all.plus(file(&rt, "v4-published", 7)?);
+    all = all.plus(file(&rt, "v4-large", 4)?);
+    all = all.plus(file(&rt, "probes", 80)?);
+    all = all.plus(file(&rt, "beyond", 16)?);
+    all = all.plus(file(&rt, "rules", 71)?);
+    all = all.plus(file(&rt, "refused", 386)?);
+    all = all.plus(file(&rt, "damaged", 78)?);
+    all = all.plus(file(&rt, "planted", 11)?);
+    print_tally(&rt, "all", all)
 }
