@@ -14,14 +14,16 @@ trap 'rm -rf "$dir"' EXIT
 mkdir -p "$dir/crates/measured/src"
 for c in lerc_words lerc_numeric lerc_bits; do
     cp -r "$root/crates/$c" "$dir/crates/$c"
-    rm -rf "$dir/crates/$c/must-fail"
+    rm -rf "$dir/crates/$c/must-fail" "$dir/crates/$c/out"
 done
-printf 'lerc_words:\nlerc_numeric: lerc_words\nlerc_bits: lerc_words\nmeasured: lerc_words lerc_numeric lerc_bits\n' >"$dir/crates.txt"
+printf 'lerc_words:\nlerc_numeric: lerc_words\nlerc_bits: lerc_words\nmeasured staticlib: lerc_words lerc_numeric lerc_bits\n' >"$dir/crates.txt"
 cat >"$dir/crates/measured/src/lib.rt" <<'R'
+#![tactic(auto)]
+
 use lerc_bits::CountsAnswer;
 use lerc_bits::PlanAnswer;
 
-#[no_mangle]
+#[unsafe(no_mangle)]
 pub extern "C" fn measured_decode(s: &[u8], start: usize, out: &mut [u32; 256]) -> u64 {
     let a = lerc_bits::decode(s, start, out);
     let CountsAnswer::Counts { n, next: _next } = a else {
@@ -30,7 +32,7 @@ pub extern "C" fn measured_decode(s: &[u8], start: usize, out: &mut [u32; 256]) 
     n as u64
 }
 
-#[no_mangle]
+#[unsafe(no_mangle)]
 pub extern "C" fn measured_inspect(s: &[u8], start: usize) -> u64 {
     let a = lerc_bits::inspect(s, start);
     let PlanAnswer::Plan(p) = a else {
@@ -39,29 +41,29 @@ pub extern "C" fn measured_inspect(s: &[u8], start: usize) -> u64 {
     p.next as u64
 }
 
-#[no_mangle]
+#[unsafe(no_mangle)]
 pub extern "C" fn measured_plus(a: u64, b: u64) -> u64 {
     lerc_numeric::plus(a, b)
 }
 
-#[no_mangle]
+#[unsafe(no_mangle)]
 pub extern "C" fn measured_scale(a: u64, q: u32) -> u64 {
     lerc_numeric::scale(a, q)
 }
 
-#[no_mangle]
+#[unsafe(no_mangle)]
 pub extern "C" fn measured_narrow(v: u64) -> u32 {
     lerc_numeric::narrow(v)
 }
 
-#[no_mangle]
+#[unsafe(no_mangle)]
 pub extern "C" fn measured_number(v: u64, kind: u32) -> u64 {
     lerc_numeric::number(v, kind)
 }
 R
-cd "$dir"
-rt staticlib measured >"$dir/log" 2>&1 || { cat "$dir/log"; exit 1; }
+cd "$dir/crates/measured"
+rt lib --cpu=x86-64 >"$dir/log" 2>&1 || { cat "$dir/log"; exit 1; }
 for d in bits numeric; do
-    cc -O2 -o "$dir/$d" "$root/bench/$d.c" "$dir/target/staticlib/libmeasured.a"
+    cc -O2 -o "$dir/$d" "$root/bench/$d.c" out/libmeasured.a
     "$dir/$d"
 done

@@ -14,7 +14,8 @@ say() { printf '%s: %s\n' "$name" "$*" >&2; }
 lines_of() { # CRATE
     awk -v crate="$1" '
         { sub(/#.*/, ""); at = index($0, ":") }
-        at { own = substr($0, 1, at - 1); gsub(/[ \t]/, "", own); below[own] = substr($0, at + 1) }
+        # behind a name may stand what kind of crate it is
+        at { own = substr($0, 1, at - 1); sub(/^[ \t]+/, "", own); sub(/[ \t].*/, "", own); below[own] = substr($0, at + 1) }
         END {
             todo[count = 1] = crate
             for (k = 1; k <= count; k++) {
@@ -26,15 +27,34 @@ lines_of() { # CRATE
         }' "$root/crates.txt"
 }
 
-# the crates that CRATE is made from, itself among them
-crates_of() { lines_of "$1" | sed 's/:.*//'; } # CRATE
+# the crates that CRATE is made from, itself among them, each behind those that it uses
+crates_of() { # CRATE
+    lines_of "$1" | awk '
+        { at = index($0, ":"); own[NR] = substr($0, 1, at - 1); uses[NR] = substr($0, at + 1); is_ours[own[NR]] = 1 }
+        END {
+            for (left = NR; left; left = now) {
+                now = left
+                for (k = 1; k <= NR; k++) {
+                    if (done[own[k]]) continue
+                    waits = 0
+                    n = split(uses[k], use, " ")
+                    for (j = 1; j <= n; j++) if (use[j] in is_ours && !done[use[j]]) waits = 1
+                    if (waits) continue
+                    print own[k]
+                    done[own[k]] = 1
+                    now--
+                }
+                if (now == left) exit 1
+            }
+        }'
+}
 
-# one sum of all that CRATE is made from; the wrong bodies are no part of it
+# one sum of all that CRATE is made from; the wrong bodies, and what rt made, are no part of it
 sources_sum() { # CRATE
     lines=$(lines_of "$1") || return 2
     [ -n "$lines" ] || { say "$root/crates.txt has no crate $1"; return 2; }
     # shellcheck disable=SC2046
-    files=$(cd "$root/crates" && find $(crates_of "$1") -name must-fail -prune -o -type f -exec sha256sum {} +) || {
+    files=$(cd "$root/crates" && find $(crates_of "$1") \( -name must-fail -o -name out \) -prune -o -type f -exec sha256sum {} +) || {
         say "the sources of $1 in $root/crates cannot all be read"
         return 2
     }
@@ -66,7 +86,7 @@ mark() { # FILE CRATE SUM
     record "$1" "$2" >"$1.of.new.$$" && mv -f "$1.of.new.$$" "$1.of"
 }
 
-# One at a time: rt writes in target/ as it likes. The lock goes with the last process that has it, a prover that outlives
+# One at a time: rt writes in the crates' out/ as it likes. The lock goes with the last process that has it, a prover that outlives
 # its caller among them.
 take_lock() {
     lock=$kept/lock
@@ -87,42 +107,51 @@ take_lock() {
 
 give_lock() { exec 9>&-; }
 
-# Runs rt in a group of its own, so that all of it can be stopped (its provers ignore an interrupt), and says which crates
-# of CRATE were proved, as they are. Status of rt; what it said is in $said.
+# Proves CRATE and all below it, the lowest first, by `rt lib`, and CRATE itself by the WORDS, each in its folder. Says which of
+# them were proved, as they are. Status of the rt that failed, or 0; what all of them said is in $said, and the words of the
+# last one in $last.
 run_rt() { # CRATE WORDS...
     crate=$1
     shift
-    all=$(crates_of "$crate" | wc -l) count=0
-    said=$kept/$name.said pipe=$kept/$name.pipe
-    rm -f "$pipe"
-    mkfifo "$pipe" && : >"$said" || return 2
+    crates=$(crates_of "$crate") || { say "$root/crates.txt has a circle below $crate"; return 2; }
+    all=$(printf '%s\n' "$crates" | wc -l) count=0
+    said=$kept/$name.said one=$kept/$name.one
+    : >"$said" || return 2
     own_group=$(command -v setsid)
     trap 'stop_rt INT' INT
     trap 'stop_rt TERM' TERM
     trap 'stop_rt HUP' HUP
-    (cd "$root" && exec ${own_group:+"$own_group"} rt "$@") </dev/null >"$pipe" 2>&1 &
+    for each in $crates; do
+        if [ "$each" = "$crate" ]; then begin_rt "$@"; else begin_rt lib; fi
+        end_rt || return
+    done
+    trap - INT TERM HUP
+}
+
+# starts rt in the folder of $each, in a group of its own, so that all of it can be stopped (its provers ignore an interrupt)
+begin_rt() { # WORDS...
+    begun=$(date +%s)
+    last="rt $*' in crates/$each"
+    (cd "$root/crates/$each" && exec ${own_group:+"$own_group"} rt "$@") </dev/null >"$one" 2>&1 &
     prover=$!
-    while IFS= read -r line; do
-        printf '%s\n' "$line" >>"$said"
-        case $line in
-        'rt: '*' proved (unchanged since '*) count=$((count + 1)) ;;
-        'rt: '*' proved ('*' s)')
-            count=$((count + 1))
-            line=${line#rt: }
-            say "proved $count of $all: ${line%% *} ${line#* proved }"
-            ;;
-        esac
-    done <"$pipe"
+}
+
+# waits for it, and tells if it proved something
+end_rt() {
     wait "$prover"
     status=$?
-    trap - INT TERM HUP
-    rm -f "$pipe"
+    cat "$one" >>"$said"
+    count=$((count + 1))
+    # a crate that is built of the same text says nothing of a proof
+    if grep -q '^logic=proved' "$one"; then say "proved $count of $all: $each ($(($(date +%s) - begun)) s)"; fi
+    rm -f "$one"
+    [ "$status" -eq 0 ] || trap - INT TERM HUP
     return "$status"
 }
 
 # the lines of what rt said that tell why it failed
 show_failure() {
-    why=$(grep -E ': error|NOT PROVED|FAILED' "$said" | cut -c 1-300 | head -n 20)
+    why=$(grep -E ': error|error\[|^fn .*: (not proved|no proof)' "$said" | cut -c 1-300 | head -n 20)
     [ -n "$why" ] || why=$(tail -n 20 "$said")
     printf '%s\n' "$why" >&2
 }
@@ -131,7 +160,7 @@ stop_rt() { # SIGNAL
     trap - INT TERM HUP
     kill -TERM "-$prover" 2>/dev/null || kill -TERM "$prover" 2>/dev/null
     wait "$prover" 2>/dev/null
-    rm -f "$pipe"
+    rm -f "$one"
     say "broken off; crates that were proved are not proved again"
     kill "-$1" $$
 }
