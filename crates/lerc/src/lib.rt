@@ -342,7 +342,7 @@ fn publish_masked(
     list: &[usize],
     image: &mut [u64],
 ) -> PublishAnswer
-    requires { (header_says blob.now ≡ ok h) × (room h (record { kept = kept.now; spare = spare.now; list = list.now; image = image.old }) ≡ true) }
+    requires { (header_says blob.now ≡ ok h) × (room h (record { kept = kept.old; spare = spare.now; list = list.now; image = image.old }) ≡ true) }
     ensures { Publishing blob.now reuse given result (record { kept = kept.old; spare = spare.now; list = list.now; image = image.old }) kept.new image.new }
 {
     let size = h.size as usize;

@@ -29,7 +29,7 @@ pub extern "C" fn lerc2_read(
     said: &mut [u64],
     place: &mut [u64],
 ) -> u32
-    ensures { Entry.Returned (λ why. Entry.ReadDone (Entry.placing place.old (Entry.read_entry blob.now reuse (record { kept = kept.entry.now; spare = spare.old; list = list.old; image = image.old }) said.old)) (Entry.placing place.old (Entry.masked_entry blob.now reuse (record { kept = kept.entry.now; spare = spare.old; list = list.old; image = image.old }) said.old)) why (record { kept = kept.entry.now; spare = spare.old; list = list.old; image = image.old }) (record { kept = kept.exit.now; spare = spare.new; list = list.new; image = image.new }) said.old said.new) result place.old place.new }
+    ensures { Entry.Returned (λ why. Entry.ReadDone (Entry.placing place.old (Entry.read_entry blob.now reuse (record { kept = kept.old; spare = spare.old; list = list.old; image = image.old }) said.old)) (Entry.placing place.old (Entry.masked_entry blob.now reuse (record { kept = kept.old; spare = spare.old; list = list.old; image = image.old }) said.old)) why (record { kept = kept.old; spare = spare.old; list = list.old; image = image.old }) (record { kept = kept.new; spare = spare.new; list = list.new; image = image.new }) said.old said.new) result place.old place.new }
 {
     lerc_c::lerc2_read(
         blob,
@@ -56,7 +56,7 @@ pub extern "C" fn lerc2_stage(
     staged: &mut [u64],
     place: &mut [u64],
 ) -> u32
-    ensures { Entry.Returned (λ why. Entry.StageDone (Entry.placing place.old (Entry.stage_entry blob.now reuse (record { kept = kept.entry.now; spare = spare.old; list = list.old; image = image.now }) staged.old)) (Entry.placing place.old (Entry.staged_mask_entry blob.now reuse (record { kept = kept.entry.now; spare = spare.old; list = list.old; image = image.now }) staged.old)) why (record { kept = kept.entry.now; spare = spare.old; list = list.old; image = image.now }) spare.new list.new staged.old staged.new) result place.old place.new }
+    ensures { Entry.Returned (λ why. Entry.StageDone (Entry.placing place.old (Entry.stage_entry blob.now reuse (record { kept = kept.now; spare = spare.old; list = list.old; image = image.now }) staged.old)) (Entry.placing place.old (Entry.staged_mask_entry blob.now reuse (record { kept = kept.now; spare = spare.old; list = list.old; image = image.now }) staged.old)) why (record { kept = kept.now; spare = spare.old; list = list.old; image = image.now }) spare.new list.new staged.old staged.new) result place.old place.new }
 {
     lerc_c::lerc2_stage(
         blob,
@@ -83,7 +83,7 @@ pub extern "C" fn lerc2_publish(
     said: &mut [u64],
     place: &mut [u64],
 ) -> u32
-    ensures { Entry.Returned (λ why. Entry.PublishDone (Entry.placing place.old (Entry.publish_entry blob.now reuse staged.now (record { kept = kept.entry.now; spare = spare.now; list = list.now; image = image.old }) said.old)) why (record { kept = kept.entry.now; spare = spare.now; list = list.now; image = image.old }) kept.exit.now image.new said.old said.new) result place.old place.new }
+    ensures { Entry.Returned (λ why. Entry.PublishDone (Entry.placing place.old (Entry.publish_entry blob.now reuse staged.now (record { kept = kept.old; spare = spare.now; list = list.now; image = image.old }) said.old)) why (record { kept = kept.old; spare = spare.now; list = list.now; image = image.old }) kept.new image.new said.old said.new) result place.old place.new }
 {
     lerc_c::lerc2_publish(
         blob,
@@ -220,7 +220,7 @@ pub extern "C" fn lerc2_pack_write(
     said: &mut [u64],
     place: &mut [u64],
 ) -> u32
-    ensures { Entry.Returned (λ why. Packs.PackWriteDone (record { rows = rows.entry.now; columns = columns.now; lengths = lengths.now; bodies = bodies.now }) (Entry.placing place.old (Packs.pack_write_entry (record { rows = rows.entry.now; columns = columns.now; lengths = lengths.now; bodies = bodies.now }) (length pack.old) said.old)) why pack.old pack.new said.old said.new) result place.old place.new }
+    ensures { Entry.Returned (λ why. Packs.PackWriteDone (record { rows = rows.now; columns = columns.now; lengths = lengths.now; bodies = bodies.now }) (Entry.placing place.old (Packs.pack_write_entry (record { rows = rows.now; columns = columns.now; lengths = lengths.now; bodies = bodies.now }) (length pack.old) said.old)) why pack.old pack.new said.old said.new) result place.old place.new }
 {
     lerc_c::lerc2_pack_write(
         rows,

@@ -55,7 +55,7 @@ module _ (s : List ℕ) (h : Header) (m : Mode) (q : List ℕ) (at index maximum
   unfolding value
   value-cases = record {
     raw-past = λ f l. rw (eq-eqb m.flag 0 f, lt-leb (at + type_size h.kind) (length s) l);
-    raw_word_lem = λ f l. rw (eq-eqb m.flag 0 f, le-leb (at + type_size h.kind) (length s) l);
+    raw_word = λ f l. rw (eq-eqb m.flag 0 f, le-leb (at + type_size h.kind) (length s) l);
     zero_word = λ f. rw (ne_eqb m.flag 0 (λ e. omega arith), eq-eqb m.flag 2 f);
     level-word = λ f w e. rw (ne_eqb m.flag 0 (λ e. omega arith), ne_eqb m.flag 2 (λ e. omega arith), eq-eqb m.flag 3 f, ne_eqb m.flag 1 (λ e. omega arith), e);
     level-none = λ f r e. rw (ne_eqb m.flag 0 (λ e. omega arith), ne_eqb m.flag 2 (λ e. omega arith), eq-eqb m.flag 3 f, ne_eqb m.flag 1 (λ e. omega arith), e);
@@ -140,7 +140,7 @@ module _ (h : Header) (mask : List ℕ) (n : ℕ) (start : List ℕ) (g : Shaped
         words = tabulate many (λ k. little (type_size h.kind) s (m.at + k * type_size h.kind))
 
         goes : (i : ℕ) → pos i + z ≤ length s → value s h m q (pos i) 0 maximum ≡ some (record { value = little z s (pos i); at = pos (i + 1); q = 0 })
-        goes i l = (value-cases s h m q (pos i) 0 maximum).raw_word_lem f l ∙ rw (next i)
+        goes i l = (value-cases s h m q (pos i) 0 maximum).raw_word f l ∙ rw (next i)
 
         step : (i : ℕ) → Dec (pos i + z ≤ length s)
             → (value s h m q (pos i) 0 maximum ≡ none) ⊎ ((w : ℕ) × (value s h m q (pos i) 0 maximum ≡ some (record { value = w; at = pos (i + 1); q = 0 })))

@@ -96,7 +96,7 @@ pub record ValueCases (s : List ℕ) (h : Header) (m : Mode) (q : List ℕ) (at 
   -- 4.29
   pub raw-past : m.flag ≡ 0 → length s < at + type_size h.kind → value s h m q at index maximum ≡ none
   -- 4.30
-  pub raw_word_lem : m.flag ≡ 0 → at + type_size h.kind ≤ length s → value s h m q at index maximum ≡ some (record { value = little (type_size h.kind) s at; at = at + type_size h.kind; q = index })
+  pub raw_word : m.flag ≡ 0 → at + type_size h.kind ≤ length s → value s h m q at index maximum ≡ some (record { value = little (type_size h.kind) s at; at = at + type_size h.kind; q = index })
   -- 4.31
   pub zero_word : m.flag ≡ 2 → value s h m q at index maximum ≡ some (record { value = 0; at = at; q = index })
   -- 4.32, 4.36

@@ -57,7 +57,7 @@ fn decode(
     image: &mut [u64],
     out: &mut [u8],
 ) -> usize
-    requires { Ready blob.now (record { kept = kept.now; spare = spare.old; list = list.old; image = image.old }) }
+    requires { Ready blob.now (record { kept = kept.old; spare = spare.old; list = list.old; image = image.old }) }
     ensures { Put out.old 0 (program_text blob.now) result out.new }
 {
     let answer = lerc::read(
