@@ -6,20 +6,9 @@ set -eu
 usage='bench/two.sh NAME=FOLDER NAME=FOLDER [FOLDER] [--floats] [--only NAME] [--rounds N] [--no-counts] [--no-times]'
 root=$(cd "$(dirname "$(readlink -f "$0")")/.." && pwd)
 . "$root/bench/words.sh"
-names=() archives=()
-while [ $# -gt 0 ] && [ ${#names[@]} -lt 2 ]; do
-    case $1 in
-    -h | --help) read_words "$1" ;;
-    *=*) ;;
-    *) wrong "$1: NAME=FOLDER, twice" ;;
-    esac
-    case ${1%%=*} in '' | *[!A-Za-z0-9_-]*) wrong "$1: a name has letters, digits, - and _" ;; esac
-    [ -f "${1#*=}/liblerc_c.a" ] || wrong "${1#*=}: there is no liblerc_c.a"
-    names+=("${1%%=*}") archives+=("$(cd "${1#*=}" && pwd)")
-    shift
-done
-[ ${#names[@]} -eq 2 ] || wrong "NAME=FOLDER, twice"
-[ "${names[0]}" != "${names[1]}" ] || wrong "two names, and not ${names[0]} twice"
+case ${1:-} in -h | --help) read_words "$1" ;; esac
+read_archives "$@"
+shift 2
 read_words "$@"
 case " ${words[*]} " in *' --plot '*) wrong "--plot: of one archive alone" ;; esac
 needed cargo

@@ -37,6 +37,20 @@ read_esri() {
     esac
 }
 
+# Two archives, the first two words, as `names` and `archives`, the folders with whole paths.
+read_archives() { # NAME=FOLDER NAME=FOLDER ...
+    local word
+    names=() archives=()
+    for word in "${@:1:2}"; do
+        case $word in *=*) ;; *) wrong "$word: NAME=FOLDER, twice" ;; esac
+        case ${word%%=*} in '' | *[!A-Za-z0-9_-]*) wrong "$word: a name has letters, digits, - and _" ;; esac
+        [ -f "${word#*=}/liblerc_c.a" ] || wrong "${word#*=}: there is no liblerc_c.a"
+        names+=("${word%%=*}") archives+=("$(cd "${word#*=}" && pwd)")
+    done
+    [ ${#names[@]} -eq 2 ] || wrong "NAME=FOLDER, twice"
+    [ "${names[0]}" != "${names[1]}" ] || wrong "two names, and not ${names[0]} twice"
+}
+
 # The words of whole.sh, two.sh and arm64.sh as those of the program in bench/whole, with whole paths.
 read_words() {
     local folder=''

@@ -349,6 +349,19 @@ wrong_words 'usage: bench/huffman.sh' bench/huffman.sh
 wrong_words 'usage: bench/huffman.sh' bench/huffman.sh --nosuch
 wrong_words 'usage: bench/mask.sh' bench/mask.sh --rounds 3
 wrong_words 'usage: bench/sum.sh' bench/sum.sh nosuch
+wrong_words 'usage: bench/fill.sh' bench/fill.sh nosuch
+wrong_words 'usage: bench/fill.sh' bench/fill.sh --nosuch
+wrong_words 'a name has letters' bench/fill.sh "a name=$ROOM"
+wrong_words 'there is no liblerc_c.a' bench/fill.sh "before=$ROOM/bin"
+wrong_words 'usage: bench/two.sh' bench/two.sh
+wrong_words 'usage: bench/two.sh' bench/two.sh nosuch
+wrong_words 'there is no liblerc_c.a' bench/two.sh "before=$ROOM/bin"
+mkdir "$ROOM/two" && : >"$ROOM/two/liblerc_c.a"
+for script in fill two; do
+    wrong_words 'NAME=FOLDER, twice' "bench/$script.sh" "before=$ROOM/two"
+    wrong_words 'two names, and not before twice' "bench/$script.sh" "before=$ROOM/two" "before=$ROOM/two"
+done
+wrong_words 'usage: bench/fill.sh' bench/fill.sh "before=$ROOM/two" "after=$ROOM/two" "more=$ROOM/two"
 wrong_words 'usage: bench/arm64.sh' bench/arm64.sh nosuch
 wrong_words 'usage: bench/arm64.sh' bench/arm64.sh one nosuch
 wrong_words 'usage: bench/measure.sh' bench/measure.sh nosuch
@@ -370,6 +383,10 @@ gives 'sum.sh without cc' 2 missing bench/sum.sh
 says 'sum.sh without cc' 'cc is not there'
 gives 'sum.sh --help' 0 bench/sum.sh --help
 writes 'sum.sh --help' 'usage: bench/sum.sh'
+gives 'fill.sh without cc' 2 missing bench/fill.sh
+says 'fill.sh without cc' 'cc is not there'
+gives 'fill.sh --help' 0 bench/fill.sh --help
+writes 'fill.sh --help' 'usage: bench/fill.sh [NAME=FOLDER NAME=FOLDER]'
 gives 'profile.sh without cargo' 2 missing bench/profile.sh README.md
 says 'profile.sh without cargo' 'cargo is not there'
 gives 'native.sh without the kit' 2 missing bench/native.sh lerc_c
