@@ -5,6 +5,7 @@
 // that is wrong, and the line must say so.
 #![tactic(auto)]
 
+ghost use Rattle.std.specs.Str.{IsAscii};
 ghost use Rattle.std.specs.Prelude.{◌≤◌, ◌<◌, length, IfOk};
 
 use lerc_header::{Header, HeaderAnswer};
@@ -296,18 +297,39 @@ fn read_full(from: &mut impl Read, into: &mut [u8]) -> io::Result<usize>
     Ok(done)
 }
 
+// three digits, the name of a file
+fn digits(i: usize) -> [u8; 3]
+    ensures { IsAscii result }
+{
+    [
+        48 + (i / 100 % 10) as u8,
+        48 + (i / 10 % 10) as u8,
+        48 + (i % 10) as u8,
+    ]
+}
+
+fn text(name: &[u8]) -> &str
+    requires { IsAscii name.now }
+{
+    match str::from_utf8(name) {
+        Ok(text) => text,
+        Err(_) => unreachable!(),
+    }
+}
+
 // the bytes of a file; none if it is missing
-fn load(rt: &(impl Alloc + Files), i: usize, into: &mut [u8; BYTES]) -> io::Result<usize>
+fn load(rt: &impl Files, i: usize, into: &mut [u8; BYTES]) -> io::Result<usize>
     ensures { IfOk result (λ n. n ≤ length into.new) }
 {
-    let name = format!(in rt.alloc(); "{i:03}")?;
-    let Ok(mut file) = File::open(rt, name.as_str()) else {
+    let three = digits(i);
+    let name = text(&three);
+    let Ok(mut file) = File::open(rt, name) else {
         return Ok(0);
     };
     read_full(&mut file, &mut into[..])
 }
 
-fn one(rt: &(impl Alloc + Files + Print), i: usize) -> io::Result<Tally>
+fn one(rt: &(impl Files + Print), i: usize) -> io::Result<Tally>
     requires { i < 108 }
 {
     print!(rt; "{i}")?;

@@ -4,6 +4,7 @@
 // `stdout` has the same of the mask that Esri's decoder gives, and of those by hand what the rules give: tests/mask/make.py wrote it.
 #![tactic(auto)]
 
+ghost use Rattle.std.specs.Str.{IsAscii};
 ghost use Rattle.std.specs.Prelude.{◌≤◌, length, IfOk};
 
 use lerc_header::{Header, HeaderAnswer};
@@ -114,10 +115,31 @@ fn read_full(from: &mut impl Read, into: &mut [u8]) -> io::Result<usize>
     Ok(done)
 }
 
-fn one(rt: &(impl Alloc + Files + Print), i: usize, kept: &mut [u8; 512]) -> io::Result<()> {
-    let name = format!(in rt.alloc(); "{i:03}")?;
+// three digits, the name of a file
+fn digits(i: usize) -> [u8; 3]
+    ensures { IsAscii result }
+{
+    [
+        48 + (i / 100 % 10) as u8,
+        48 + (i / 10 % 10) as u8,
+        48 + (i % 10) as u8,
+    ]
+}
+
+fn text(name: &[u8]) -> &str
+    requires { IsAscii name.now }
+{
+    match str::from_utf8(name) {
+        Ok(text) => text,
+        Err(_) => unreachable!(),
+    }
+}
+
+fn one(rt: &(impl Files + Print), i: usize, kept: &mut [u8; 512]) -> io::Result<()> {
+    let three = digits(i);
+    let name = text(&three);
     print!(rt; "{name}")?;
-    let Ok(mut file) = File::open(rt, name.as_str()) else {
+    let Ok(mut file) = File::open(rt, name) else {
         return println!(rt; " missing");
     };
     let mut input = [0u8; 16384];

@@ -2,6 +2,7 @@
 // Of each a line has its number and its bytes; then comes as much of the buffer as `answer` says. Before the call it is full of marks.
 #![tactic(auto)]
 
+ghost use Rattle.std.specs.Str.{IsAscii};
 ghost use Rattle.std.specs.Prelude.{◌≤◌, length, IfOk};
 
 use lerc_program::TEXT;
@@ -42,10 +43,31 @@ fn read_full(from: &mut impl Read, into: &mut [u8]) -> io::Result<usize>
     Ok(done)
 }
 
-fn one(rt: &(impl Alloc + Files + Print), i: usize) -> io::Result<()> {
+// three digits, the name of a file
+fn digits(i: usize) -> [u8; 3]
+    ensures { IsAscii result }
+{
+    [
+        48 + (i / 100 % 10) as u8,
+        48 + (i / 10 % 10) as u8,
+        48 + (i % 10) as u8,
+    ]
+}
+
+fn text(name: &[u8]) -> &str
+    requires { IsAscii name.now }
+{
+    match str::from_utf8(name) {
+        Ok(text) => text,
+        Err(_) => unreachable!(),
+    }
+}
+
+fn one(rt: &(impl Files + Print), i: usize) -> io::Result<()> {
     print(rt, "input ", i)?;
-    let name = format!(in rt.alloc(); "{i:03}")?;
-    let Ok(mut file) = File::open(rt, name.as_str()) else {
+    let three = digits(i);
+    let name = text(&three);
+    let Ok(mut file) = File::open(rt, name) else {
         return println!(rt; " missing");
     };
     let mut input = [0u8; ROOM];
