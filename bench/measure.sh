@@ -20,25 +20,20 @@ printf 'lerc_words:\nlerc_numeric: lerc_words\nlerc_bits: lerc_words\nmeasured s
 cat >"$dir/crates/measured/src/lib.rt" <<'R'
 #![tactic(auto)]
 
-use lerc_bits::CountsAnswer;
-use lerc_bits::PlanAnswer;
-
 #[unsafe(no_mangle)]
 pub extern "C" fn measured_decode(s: &[u8], start: usize, out: &mut [u32; 256]) -> u64 {
-    let a = lerc_bits::decode(s, start, out);
-    let CountsAnswer::Counts { n, next: _next } = a else {
-        return 1000;
-    };
-    n as u64
+    match lerc_bits::decode(s, start, out) {
+        Ok(counts) => counts.n as u64,
+        Err(_why) => 1000,
+    }
 }
 
 #[unsafe(no_mangle)]
 pub extern "C" fn measured_inspect(s: &[u8], start: usize) -> u64 {
-    let a = lerc_bits::inspect(s, start);
-    let PlanAnswer::Plan(p) = a else {
-        return 0;
-    };
-    p.next as u64
+    match lerc_bits::inspect(s, start) {
+        Ok(plan) => plan.next as u64,
+        Err(_why) => 0,
+    }
 }
 
 #[unsafe(no_mangle)]

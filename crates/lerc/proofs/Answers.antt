@@ -1,22 +1,22 @@
 -- Answers of staging, compared number by number: alike exactly where they are the same.
 -- Assumes nothing.
 use mathlib.Core.Path.{◌≡◌, refl, ap}
-use mathlib.Core.Bool.{true}
+use mathlib.Core.Bool.{true, false}
 use Prim.Native.Nat.{ℕ}
 use native.Mathlib.Omega.{arith}
 use lib.Dec.{eqb}
 use lib.ListN.{length}
 use borrow.Author.Tests.{eq-eqb, eqb-true}
+use Rattle.lerc_words.specs.declared.Refusal.{Refusal}
+use Rattle.lerc_words.specs.Res.{Res, ok, fail}
 use Rattle.lerc_words.proofs.Binding.{and_is}
 use Rattle.lerc_header.specs.declared.Header.{Header}
-use Rattle.lerc_validity.specs.declared.MaskAnswer.{MaskAnswer}
-use Rattle.lerc_validity.specs.declared.MaskAnswer.TheVariants as mask
+use Rattle.lerc_validity.specs.declared.Mask.{Mask}
+use Rattle.lerc_validity.specs.declared.Mask.TheVariants as mask
 use Rattle.lerc_validity.specs.Validity.{MaskInForce, reused, new}
 use Rattle.lerc.specs.declared.BodyKind.{BodyKind}
 use Rattle.lerc.specs.declared.BodyKind.TheVariants as kind
 use Rattle.lerc.specs.declared.Staged.{Staged}
-use Rattle.lerc.specs.declared.StageAnswer.{StageAnswer}
-use Rattle.lerc.specs.declared.StageAnswer.TheVariants as stage-answer
 use Rattle.lerc.specs.Meaning.{Meaning}
 use Rattle.lerc.specs.Stage.{mask_named, staged_of, same_header, kind_number, same_mask, same_staged, is_answer}
 
@@ -45,7 +45,7 @@ mask-self (reused m) = self (length m)
 mask-self (new m) = self (length m)
 
 -- what staging tells of a meaning is its own answer
-pub answer-self : (m : Meaning) → is_answer (stage-answer.Staged (staged_of m)) (staged_of m) ≡ true
+pub answer-self : (m : Meaning) → is_answer (ok (staged_of m)) (staged_of m) ≡ true
 unfolding same_staged
 answer-self m = rw (header-self m.header, self (kind_number (staged_of m).body), self (staged_of m).blocks, self (staged_of m).end, mask-self m.mask)
 
@@ -106,14 +106,20 @@ kind-same kind.Huffman kind.Raw e = absurd (omega arith)
 kind-same kind.Huffman kind.Blocks e = absurd (omega arith)
 kind-same kind.Huffman kind.Huffman e = refl
 
-mask-same : (a b : MaskAnswer) → same_mask a b ≡ true → a ≡ b
-mask-same (mask.Kept n) (mask.Kept k) e = ap mask.Kept (eqb-true n k e)
-mask-same (mask.Kept n) (mask.Spare k) e = absurd (let z : ◌≡◌ {A = ℕ} 0 1 = cc in omega arith)
-mask-same (mask.Kept n) (mask.Refused r) e = absurd (let z : ◌≡◌ {A = ℕ} 0 1 = cc in omega arith)
-mask-same (mask.Spare n) (mask.Kept k) e = absurd (let z : ◌≡◌ {A = ℕ} 0 1 = cc in omega arith)
-mask-same (mask.Spare n) (mask.Spare k) e = ap mask.Spare (eqb-true n k e)
-mask-same (mask.Spare n) (mask.Refused r) e = absurd (let z : ◌≡◌ {A = ℕ} 0 1 = cc in omega arith)
-mask-same (mask.Refused r) b e = absurd (let z : ◌≡◌ {A = ℕ} 0 1 = cc in omega arith)
+mask-same : (a b : Res Mask) → same_mask a b ≡ true → a ≡ b
+mask-same (ok (mask.Kept n)) (ok (mask.Kept k)) e = ap (λ (x : ℕ). ok (mask.Kept x)) (eqb-true n k e)
+mask-same (ok (mask.Kept n)) (ok (mask.Spare k)) e = absurd (let z : ◌≡◌ {A = ℕ} 0 1 = cc in omega arith)
+mask-same (ok (mask.Kept n)) (fail r) e = absurd (let z : ◌≡◌ {A = ℕ} 0 1 = cc in omega arith)
+mask-same (ok (mask.Spare n)) (ok (mask.Kept k)) e = absurd (let z : ◌≡◌ {A = ℕ} 0 1 = cc in omega arith)
+mask-same (ok (mask.Spare n)) (ok (mask.Spare k)) e = ap (λ (x : ℕ). ok (mask.Spare x)) (eqb-true n k e)
+mask-same (ok (mask.Spare n)) (fail r) e = absurd (let z : ◌≡◌ {A = ℕ} 0 1 = cc in omega arith)
+mask-same (fail r) b e = absurd (let z : ◌≡◌ {A = ℕ} 0 1 = cc in omega arith)
+
+-- a refused mask is no other
+pub mask-refused : (a : Res Mask) (r : Refusal) → same_mask a (fail r) ≡ false
+mask-refused (ok (mask.Kept n)) r = refl
+mask-refused (ok (mask.Spare n)) r = refl
+mask-refused (fail q) r = refl
 
 staged-same : (a b : Staged) → same_staged a b ≡ true → a ≡ b
 unfolding same_staged
@@ -132,6 +138,6 @@ staged-same a b e =
     ) in
     same
 
-pub answer-is : (a : StageAnswer) (b : Staged) → is_answer a b ≡ true → a ≡ stage-answer.Staged b
-answer-is (stage-answer.Staged a) b e = ap stage-answer.Staged (staged-same a b e)
-answer-is (stage-answer.Refused r) b e = absurd (let z : ◌≡◌ {A = ℕ} 0 1 = cc in omega arith)
+pub answer-is : (a : Res Staged) (b : Staged) → is_answer a b ≡ true → a ≡ ok b
+answer-is (ok a) b e = ap ok (staged-same a b e)
+answer-is (fail r) b e = absurd (let z : ◌≡◌ {A = ℕ} 0 1 = cc in omega arith)

@@ -19,13 +19,9 @@ use Rattle.lerc_header.specs.Header.{shape_of, header_says}
 use Rattle.lerc_header.specs.Shape.{cells, mask_length, block_count}
 use Rattle.lerc_validity.specs.Validity.{MaskInForce, reused, new, bytes_of, mask_says, spare_with, holds_mask}
 use Rattle.lerc.specs.declared.Staged.{Staged}
-use Rattle.lerc.specs.declared.StageAnswer.TheVariants as stage-answer
-use Rattle.lerc.specs.declared.PublishAnswer.{PublishAnswer}
-use Rattle.lerc.specs.declared.PublishAnswer.TheVariants as publish-answer
-use Rattle.lerc.specs.declared.ReadAnswer.TheVariants as answer
 use Rattle.lerc.specs.Meaning.{Meaning, body_says, meaning_from, starts_of, end_of}
-use Rattle.lerc.specs.Read.{Lent, room, Masked, masked, read_says, published, refused_after, read_said, read_count, WholeRead}
-use Rattle.lerc.specs.Stage.{staged_of, staged_spare, is_answer, publish_says, PublishTold, body_told, publish_said, StageRead, Publishing}
+use Rattle.lerc.specs.Read.{Lent, room, Masked, masked, read_says, published, refused_after, ReadTold, read_count, WholeRead}
+use Rattle.lerc.specs.Stage.{staged_of, staged_spare, is_answer, publish_says, PublishTold, body_told, StageRead, Publishing}
 use Rattle.lerc.proofs.Answers.{answer-self}
 
 -- ---- more room is room
@@ -94,11 +90,11 @@ spare-held f old e = rw (e) (holds-spare f old)
 list_held : (starts old : List ℕ) {list : List ℕ} → list ≡ over starts old → begins_with starts list ≡ true
 list_held starts old e = rw (e) (begins-over starts old)
 
-answer-held : (m : Meaning) {found : Staged} → found ≡ staged_of m → is_answer (stage-answer.Staged found) (staged_of m) ≡ true
+answer-held : (m : Meaning) {found : Staged} → found ≡ staged_of m → is_answer (ok found) (staged_of m) ≡ true
 answer-held m e = rw (e) (answer-self m)
 
 -- and what was published is what a whole read tells and leaves
-told_is : (m : Meaning) {found : Staged} {end : ℕ} → found ≡ staged_of m → end ≡ end_of m.body → read_said (answer.Whole found.header found.blocks end) ≡ read_count m
+told_is : (m : Meaning) {found : Staged} {end : ℕ} → found ≡ staged_of m → end ≡ end_of m.body → ◌≡◌ {A = Res ReadTold} (ok (record { header = found.header; blocks = found.blocks; end = end })) (read_count m)
 told_is m e n = rw (e, n)
 
 lent_is : (m : Meaning) (l : Lent) {kept spare list image : List ℕ} → kept ≡ (published m l).kept → spare ≡ spare_with m.mask l.spare → list ≡ over (starts_of m.body) l.list → image ≡ (published m l).image
@@ -108,8 +104,8 @@ lent_is m l k s n i = rw (k, s, n, i)
 
 module _ (b : List ℕ) (reuse : Bool) (l : Lent) where
   -- a blob that staging refuses is refused
-  pub read-refused : {why : Refusal} {spare list : List ℕ} → StageRead b reuse (stage-answer.Refused why) l spare list
-      → WholeRead b reuse (answer.Refused why) l (record { kept = l.kept; spare = spare; list = list; image = l.image })
+  pub read-refused : {why : Refusal} {spare list : List ℕ} → StageRead b reuse (fail why) l spare list
+      → WholeRead b reuse (fail why) l (record { kept = l.kept; spare = spare; list = list; image = l.image })
   read-refused t =
       let e = bind-fail (read_says b reuse l) _ (sym t.says) in
       record { says = rw (e); lent = rw (e) (left l (masked b reuse l) t.spare (rw (e) at t.list)) }
@@ -122,7 +118,7 @@ module _ (b : List ℕ) (reuse : Bool) (l : Lent) where
       let (y, _, r) = bind_is (body_says (take w.header.size b) w.header (bytes_of w.mask)) _ q in
       p ∙ ap (λ (x : Meaning). ok (record { header = x.header; mask = x.mask })) (ok-is r)
 
-  module _ {found : Staged} {spare list : List ℕ} (t : StageRead b reuse (stage-answer.Staged found) l spare list) where
+  module _ {found : Staged} {spare list : List ℕ} (t : StageRead b reuse (ok found) l spare list) where
     -- as staging left it
     abbrev pub staged : Lent
     staged = record { kept = l.kept; spare = spare; list = list; image = l.image }
@@ -137,26 +133,26 @@ module _ (b : List ℕ) (reuse : Bool) (l : Lent) where
     list-is = rw means.1 at t.list
 
     -- publishing gives the same meaning
-    pub publishes : publish_says b reuse (stage-answer.Staged found) staged ≡ ok means.0
+    pub publishes : publish_says b reuse (ok found) staged ≡ ok means.0
     unfolding publish_says
     publishes =
         let (m, e, f) = means in
         let again : read_says b reuse staged ≡ ok m = read_again b reuse l staged refl (rw (spare-is) (spare-longer m.mask l.spare)) (rw (list-is) (longer (starts_of m.body) l.list)) (omega arith) e in
         rw (again, spare-held m.mask l.spare spare-is, answer-held m f, list_held (starts_of m.body) l.list list-is)
 
-    module _ {done : PublishAnswer} {kept image : List ℕ} (p : Publishing b reuse (stage-answer.Staged found) done staged kept image) where
-      told : publish_said done ≡ ok (body_told means.0.header means.0.body)
+    module _ {done : Res PublishTold} {kept image : List ℕ} (p : Publishing b reuse (ok found) done staged kept image) where
+      told : done ≡ ok (body_told means.0.header means.0.body)
       told = rw (publishes) at p.says
 
-      pub read-not : {why : Refusal} → done ≡ publish-answer.Refused why → ⊥
-      read-not e = let u = sym (ap publish_said e) ∙ told in let z : ◌≡◌ {A = ℕ} 0 1 = cc in omega arith
+      pub read-not : {why : Refusal} → done ≡ fail why → ⊥
+      read-not e = let u = sym e ∙ told in let z : ◌≡◌ {A = ℕ} 0 1 = cc in omega arith
 
-      pub read_done : {end words : ℕ} → done ≡ publish-answer.Published end words
-          → WholeRead b reuse (answer.Whole found.header found.blocks end) l (record { kept = kept; spare = spare; list = list; image = image })
+      pub read_done : {at : PublishTold} → done ≡ ok at
+          → WholeRead b reuse (ok (record { header = found.header; blocks = found.blocks; end = at.end })) l (record { kept = kept; spare = spare; list = list; image = image })
       unfolding published
-      read_done {end} e =
+      read_done {at} e =
           let (m, q, f) = means in
-          let n : end ≡ end_of m.body = ap (λ (x : PublishTold). x.end) (ok-is (sym (ap publish_said e) ∙ told)) in
+          let n : at.end ≡ end_of m.body = ap (λ (x : PublishTold). x.end) (ok-is (sym e ∙ told)) in
           let k = rw (publishes) at p.kept in
           let i = rw (publishes) at p.image in
           record { says = rw (q) (told_is m f n); lent = rw (q) (lent_is m l k spare-is list-is i) }

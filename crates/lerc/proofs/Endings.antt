@@ -8,40 +8,37 @@ use lib.ListN.{length, take}
 use borrow.Author.Tests.{eq-eqb}
 use Rattle.lerc_words.specs.declared.Refusal.{Refusal}
 use Rattle.lerc_words.specs.Res.{Res, ok, fail, ◌>>=◌, refuse, marked}
-use Rattle.lerc_words.proofs.Binding.{ok-is, bind_is, bind-fail, bind-counts}
+use Rattle.lerc_words.proofs.Binding.{ok-is, bind_is, bind-counts}
 use Rattle.lerc_header.specs.declared.Header.{Header}
 use Rattle.lerc_header.specs.Header.{header_says}
 use Rattle.lerc_ranges.specs.declared.Ranges.{Ranges}
 use Rattle.lerc_ranges.specs.Ranges.{constant_words}
 use Rattle.lerc_block.specs.Block.{raw_words}
 use Rattle.lerc_byte_image.specs.Image.{image_at}
-use Rattle.lerc_validity.specs.declared.MaskAnswer.{MaskAnswer}
-use Rattle.lerc.specs.declared.Staged.{Staged}
-use Rattle.lerc.specs.declared.StageAnswer.TheVariants as stage-answer
-use Rattle.lerc.specs.declared.body.BodyFound.{BodyFound}
+use Rattle.lerc_validity.specs.declared.Mask.{Mask}
+use Rattle.lerc.specs.declared.body.BodyChecked.{BodyChecked}
 use Rattle.lerc.specs.Meaning.{Body, empty, missing_word_at, raw_body, huffman_body, constant_body, body_says, starts_of, meaning_from}
 use Rattle.lerc_validity.specs.Validity.{MaskInForce, bytes_of, mask_says}
 use Rattle.lerc.specs.Read.{Lent, room, Masked, masked, read_says}
-use Rattle.lerc.specs.Stage.{staged_body, stage_said}
+use Rattle.lerc.specs.Stage.{staged_body}
 use Rattle.lerc.specs.Parts.{Ready, body_in, answer_of, image_after, Checked, ToWrite, BodyRead}
 
 -- ---- a body that was checked, and written
 
-module _ {y : Res Body} {s : List ℕ} {h : Header} {m words : List ℕ} {f : BodyFound} (t : Checked y s h m words f) (said : MaskAnswer) where
-  pub checked-no : {why : Refusal} → answer_of h said f ≡ stage-answer.Refused why → y ≡ fail why
-  checked-no e = bind-fail y _ (sym (t.says said) ∙ ap stage_said e)
+pub checked-no : {y : Res Body} {s : List ℕ} {h : Header} {m : List ℕ} {why : Refusal} → Checked y s h m (fail why) → y ≡ fail why
+checked-no t = t.means
 
-  module _ {found : Staged} (e : answer_of h said f ≡ stage-answer.Staged found) where
-    -- the body that is answered for
-    pub checked-ok : (b : Body) × (y ≡ ok b) × (found ≡ staged_body h said b)
-    checked-ok = bind-counts y _ (sym (t.says said) ∙ ap stage_said e)
+module _ {y : Res Body} {s : List ℕ} {h : Header} {m : List ℕ} {c : BodyChecked} (t : Checked y s h m (ok c)) (said : Res Mask) where
+  -- the body that is answered for
+  pub checked-ok : (b : Body) × (y ≡ ok b) × (answer_of h said c.found ≡ staged_body h said b)
+  checked-ok = bind-counts y _ (sym (t.says said))
 
-    -- it can be listed and written
-    pub to_write : Ready s h m → ToWrite s h m words f
-    to_write p = record { ready = p; body = checked-ok.0; is = sym t.means ∙ checked-ok.1 }
+  -- it can be listed and written
+  pub to_write : Ready s h m → ToWrite s h m c.words c.found
+  to_write p = record { ready = p; body = checked-ok.0; is = sym t.means ∙ checked-ok.1 }
 
   -- and then is
-  pub body-written : {image image' : List ℕ} → image' ≡ image_after (body_in s h m words f) h m image → BodyRead y h said m (answer_of h said f) image image'
+  pub body-written : {image image' : List ℕ} → image' ≡ image_after (body_in s h m c.words c.found) h m image → BodyRead y h said m (ok (answer_of h said c.found)) image image'
   body-written {image} w = record { says = t.says said; image = w ∙ ap (λ (x : Res Body). image_after x h m image) (sym t.means) }
 
 -- ---- no starts

@@ -12,7 +12,6 @@ use borrow.Author.Tests.{le-leb, leb-true, ne_eqb}
 use Rattle.lerc_words.specs.declared.Refusal.{Refusal}
 use Rattle.lerc_words.specs.Res.{Res, ok, fail, ◌>>=◌, require}
 use Rattle.lerc_words.specs.Lists.{over}
-use Rattle.lerc_slices.specs.Slices.{accepts_with}
 use Rattle.lerc_validity.specs.Validity.{holds_mask}
 use Rattle.lerc_image.specs.Own.{own_mask}
 use Rattle.lerc_mask.specs.Seek.{given}
@@ -27,9 +26,9 @@ use Rattle.lerc_header.specs.Shape.{pixels, cells, mask_length, block_count}
 use Rattle.lerc_header.proofs.Kept.{held-size, held-own, header-held}
 use Rattle.lerc_mask.specs.Mask.{valid_below, coded, mask_field}
 use Rattle.lerc_mask.proofs.Runs.{coded-is}
-use Rattle.lerc_validity.specs.declared.MaskAnswer.{MaskAnswer}
-use Rattle.lerc_validity.specs.declared.MaskAnswer.TheVariants as mask
-use Rattle.lerc_validity.specs.Validity.{MaskInForce, reused, new, bytes_of, uniform, kept, unrolled, mask_in, mask_says, find_says, prepare_says, mask_said, which, Prepared, in_force}
+use Rattle.lerc_validity.specs.declared.Mask.{Mask}
+use Rattle.lerc_validity.specs.declared.Mask.TheVariants as mask
+use Rattle.lerc_validity.specs.Validity.{MaskInForce, reused, new, bytes_of, uniform, kept, unrolled, mask_in, mask_says, find_says, prepare_says, which, Prepared, in_force}
 use Rattle.lerc_validity.proofs.Preparing.{prepare-find, prepare-says}
 use Rattle.lerc_validity.proofs.Prepared.{Right, prepared-right, in-force}
 use Rattle.lerc.specs.Read.{Lent, room, masked}
@@ -42,14 +41,14 @@ use Rattle.lerc.proofs.Endings.{mask-no, mask-yes}
 
 module _ (kept spare : List ℕ) where
   -- a new mask is copied
-  pub keep-new : {said : MaskAnswer} (n : ℕ) → said ≡ mask.Spare n → (n ≤ length kept) × (n ≤ length spare) → copied (take n spare) kept ≡ over (in_force said kept spare) kept
+  pub keep-new : {said : Res Mask} (n : ℕ) → said ≡ ok (mask.Spare n) → (n ≤ length kept) × (n ≤ length spare) → copied (take n spare) kept ≡ over (in_force said kept spare) kept
   unfolding in_force
   keep-new n e (k, l) =
       let t : take (length kept) (take n spare) ≡ take n spare = take_all (length kept) (take n spare) (simp length-take (omega arith)) in
       rw (e, le-leb n (length spare) l, t)
 
   -- a reused one stands there
-  pub keep-old : {said : MaskAnswer} (n : ℕ) → said ≡ mask.Kept n → kept ≡ over (in_force said kept spare) kept
+  pub keep-old : {said : Res Mask} (n : ℕ) → said ≡ ok (mask.Kept n) → kept ≡ over (in_force said kept spare) kept
   unfolding in_force
   keep-old n e = rw (e) (go (leb n (length kept)) refl)
     where
@@ -57,46 +56,30 @@ module _ (kept spare : List ℕ) where
       go true q = sym (over-itself n kept (leb-true n (length kept) q))
       go false q = refl
 
-  pub keep-none : {said : MaskAnswer} (why : Refusal) → said ≡ mask.Refused why → kept ≡ over (in_force said kept spare) kept
-  unfolding in_force
-  keep-none why e = rw (e)
-
 -- ---- what the answer names
 
-said-is : (a b : MaskAnswer) → mask_said a ≡ ok b → a ≡ b
-said-is (mask.Kept n) b e = cc
-said-is (mask.Spare n) b e = cc
-said-is (mask.Refused r) b e = absurd (let z : ◌≡◌ {A = ℕ} 0 1 = cc in omega arith)
-
-which-is : (f : MaskInForce) → which f ≡ ok (mask_named f)
+pub which-is : (f : MaskInForce) → which f ≡ mask_named f
 which-is (reused m) = refl
 which-is (new m) = refl
 
 -- the mask that was accepted, or the refusal
-pub names : {x : Res MaskInForce} (said : MaskAnswer) → mask_said said ≡ (x >>= which) → (f : MaskInForce) → x ≡ ok f → said ≡ mask_named f
-names {x} said p f e = said-is said (mask_named f) (p ∙ ap (λ (y : Res MaskInForce). y >>= which) e ∙ which-is f)
+pub names : {x : Res MaskInForce} (said : Res Mask) → said ≡ (x >>= which) → (f : MaskInForce) → x ≡ ok f → said ≡ mask_named f
+names {x} said p f e = p ∙ ap (λ (y : Res MaskInForce). y >>= which) e ∙ which-is f
 
-pub refuses : {x : Res MaskInForce} {said : MaskAnswer} {why : Refusal} → mask_said said ≡ (x >>= which) → said ≡ mask.Refused why → x ≡ fail why
-refuses {x} {said} {why} p e = go x (sym (ap mask_said e) ∙ p)
+pub refuses : {x : Res MaskInForce} {said : Res Mask} {why : Refusal} → said ≡ (x >>= which) → said ≡ fail why → x ≡ fail why
+refuses {x} {said} {why} p e = go x (sym e ∙ p)
   where
     go : (y : Res MaskInForce) → fail why ≡ (y >>= which) → y ≡ fail why
-    go (ok f) q = absurd (let u : fail why ≡ ok (mask_named f) = q ∙ which-is f in let z : ◌≡◌ {A = ℕ} 0 1 = cc in omega arith)
+    go (ok (reused m)) q = absurd (let z : ◌≡◌ {A = ℕ} 0 1 = cc in omega arith)
+    go (ok (new m)) q = absurd (let z : ◌≡◌ {A = ℕ} 0 1 = cc in omega arith)
     go (fail r) q = let z : r ≡ why = cc in ap fail z
 
-pub accepted : {x : Res MaskInForce} (said : MaskAnswer) {next : MaskAnswer} → mask_said said ≡ (x >>= which) → mask_said said ≡ ok next → (f : MaskInForce) × (x ≡ ok f)
+pub accepted : {x : Res MaskInForce} (said : Res Mask) {next : Mask} → said ≡ (x >>= which) → said ≡ ok next → (f : MaskInForce) × (x ≡ ok f)
 accepted {x} said {next} p e = go x (sym e ∙ p)
   where
     go : (y : Res MaskInForce) → ok next ≡ (y >>= which) → (f : MaskInForce) × (y ≡ ok f)
     go (ok f) q = (f, refl)
     go (fail r) q = absurd (let z : ◌≡◌ {A = ℕ} 0 1 = cc in omega arith)
-
--- what comparing tells: the spare holds an accepted mask, or it does not
-pub holds : (x : Res MaskInForce) (spare : List ℕ) → accepts_with x (λ f. holds_mask f spare) ≡ true → (f : MaskInForce) × (x ≡ ok f) × (holds_mask f spare ≡ true)
-holds (ok f) spare e = (f, refl, e)
-holds (fail r) spare e = absurd (let z : ◌≡◌ {A = ℕ} 0 1 = cc in omega arith)
-
-pub holds_not : (x : Res MaskInForce) (spare : List ℕ) {f : MaskInForce} → x ≡ ok f → accepts_with x (λ g. holds_mask g spare) ≡ false → holds_mask f spare ≡ false
-holds_not x spare e t = rw (e) at t
 
 -- only a new mask can fail to stand there
 pub is-new : (f : MaskInForce) (spare : List ℕ) → holds_mask f spare ≡ false → (w : List ℕ) × (f ≡ new w)
@@ -192,13 +175,13 @@ module _ (b : List ℕ) (reuse : Bool) (l : Lent) (h : Header) (e : header_says 
     }
 
     -- a mask that was put into the spare
-    pub part-found : {said : MaskAnswer} {newer : List ℕ} → Prepared asked said l.spare newer → in_force said l.kept newer ≡ bytes_of f
+    pub part-found : {said : Res Mask} {newer : List ℕ} → Prepared asked said l.spare newer → in_force said l.kept newer ≡ bytes_of f
     part-found {said} {newer} p = in-force f asked said l.kept l.spare newer i right.part p
 
-    pub fits : {said : MaskAnswer} → said ≡ mask_named f → MaskFits said l.kept l.spare
+    pub fits : {said : Res Mask} → said ≡ mask_named f → MaskFits said l.kept l.spare
     fits {said} n k q = go f right.size (sym n ∙ q)
       where
-        go : (g : MaskInForce) → length (bytes_of g) ≡ mask_length (shape_of h) → mask_named g ≡ mask.Spare k → (k ≤ length l.kept) × (k ≤ length l.spare)
+        go : (g : MaskInForce) → length (bytes_of g) ≡ mask_length (shape_of h) → mask_named g ≡ ok (mask.Spare k) → (k ≤ length l.kept) × (k ≤ length l.spare)
         go (reused w) z u = absurd (let z : ◌≡◌ {A = ℕ} 0 1 = cc in omega arith)
         go (new w) z u = let v : k ≡ length w = cc in (omega (arith, z, v, rooms.kept), omega (arith, z, v, rooms.spare))
 

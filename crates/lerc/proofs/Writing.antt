@@ -10,7 +10,6 @@ use lib.ListN.{length, take}
 use lib.Dec.{leb, eqb}
 use lib.Seq.{get_or-take}
 use borrow.Author.Tests.{eq-eqb, eqb-true, leb-true, le-leb}
-use Rattle.lerc_words.specs.declared.Refusal.{Refusal}
 use Rattle.lerc_words.specs.Res.{Res, ok, fail, ◌>>=◌, marked, require, refuse, after}
 use Rattle.lerc_words.proofs.Marking.{marked-is}
 use Rattle.lerc_words.specs.Lists.{over}
@@ -62,17 +61,6 @@ module _ {s : List ℕ} {h : Header} {m words : List ℕ} {f : BodyFound} (w : T
 
   pub shaped : Shaped (shape_of h)
   shaped = held-shaped h (length s) w.ready.header
-
-  -- ---- nothing was found to write
-
-  pub list-refused : {why : Refusal} (list : List ℕ) → f ≡ found.Refused why → list ≡ listed list
-  list-refused list e = rw (e)
-
-  pub holds-refused : {why : Refusal} (list : List ℕ) → f ≡ found.Refused why → false ≡ holds list
-  holds-refused list e = rw (e)
-
-  pub image-refused : {why : Refusal} (image : List ℕ) → f ≡ found.Refused why → image ≡ filled image
-  image-refused image e = rw (e)
 
   -- ---- empty
 

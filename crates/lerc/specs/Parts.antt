@@ -9,21 +9,20 @@ use Rattle.lerc_header.specs.declared.Extent.{Extent}
 use Rattle.lerc_header.specs.Header.{shape_of, extent_of, held, header_bytes}
 use Rattle.lerc_header.specs.Shape.{pixels, cells, block_count, mask_length}
 use Rattle.lerc_mask.specs.Mask.{valid_below}
-use Rattle.lerc_validity.specs.declared.MaskAnswer.{MaskAnswer}
-use Rattle.lerc_validity.specs.declared.MaskAnswer.TheVariants as mask
+use Rattle.lerc_validity.specs.declared.Mask.{Mask}
+use Rattle.lerc_validity.specs.declared.Mask.TheVariants as mask
 use Rattle.lerc_validity.specs.Validity.{in_force}
 use Rattle.lerc_image.specs.Geometry.{is_valid_cell}
 use Rattle.lerc_image.specs.Paint.{painted}
 use Rattle.lerc_image.specs.Own.{own_mask}
 use Rattle.lerc.specs.declared.BodyKind.{BodyKind}
 use Rattle.lerc.specs.declared.BodyKind.TheVariants as kind
-use Rattle.lerc.specs.declared.StageAnswer.{StageAnswer}
-use Rattle.lerc.specs.declared.StageAnswer.TheVariants as stage-answer
-use Rattle.lerc.specs.declared.PublishAnswer.{PublishAnswer}
+use Rattle.lerc.specs.declared.Staged.{Staged}
+use Rattle.lerc.specs.declared.body.BodyChecked.{BodyChecked}
 use Rattle.lerc.specs.declared.body.BodyFound.{BodyFound}
 use Rattle.lerc.specs.declared.body.BodyFound.TheVariants as found
 use Rattle.lerc.specs.Meaning.{Body, empty, constant, raw_body, block_body, huffman_body, starts_of, cell_word}
-use Rattle.lerc.specs.Stage.{staged_body, stage_said, is_answer, PublishTold, body_told, publish_said}
+use Rattle.lerc.specs.Stage.{staged_body, is_answer, PublishTold, body_told}
 
 -- ---- room
 
@@ -57,28 +56,30 @@ body_in s h m words (found.Constant end) = ok (constant (take h.depth words) end
 body_in s h m words (found.Raw at end) = raw_body s h at
 body_in s h m words (found.Blocks at n end) = block_body s h words m at
 body_in s h m words (found.Huffman delta mode end) = huffman_body s h delta mode
-body_in s h m words (found.Refused r) = fail r
 
-abbrev pub staged_by : Header → MaskAnswer → BodyKind → ℕ → ℕ → StageAnswer
-staged_by h said body blocks end = stage-answer.Staged (record { header = h; body = body; blocks = blocks; end = end; mask = said })
+abbrev pub staged_by : Header → Res Mask → BodyKind → ℕ → ℕ → Staged
+staged_by h said body blocks end = record { header = h; body = body; blocks = blocks; end = end; mask = said }
 
 -- what staging answers for it
-abbrev pub answer_of : Header → MaskAnswer → BodyFound → StageAnswer
+abbrev pub answer_of : Header → Res Mask → BodyFound → Staged
 answer_of h said found.Empty = staged_by h said kind.Empty 0 header_bytes
 answer_of h said (found.Constant end) = staged_by h said kind.Constant 0 end
 answer_of h said (found.Raw at end) = staged_by h said kind.Raw 0 end
 answer_of h said (found.Blocks at n end) = staged_by h said kind.Blocks n end
 answer_of h said (found.Huffman delta mode end) = staged_by h said kind.Huffman 0 end
-answer_of h said (found.Refused r) = stage-answer.Refused r
+
+-- a body that was found, with its words
+abbrev pub with_words : List ℕ → Res BodyFound → Res BodyChecked
+with_words words r = r >>= λ f. ok (record { found = f; words = words })
 
 -- what was found is the body y, and is told as y is
-pub record Checked (y : Res Body) (s : List ℕ) (h : Header) (m words : List ℕ) (f : BodyFound) : Type 0 where
-  pub says : (said : MaskAnswer) → stage_said (answer_of h said f) ≡ (y >>= λ b. ok (staged_body h said b))
-  pub means : y ≡ body_in s h m words f
+pub record Checked (y : Res Body) (s : List ℕ) (h : Header) (m : List ℕ) (r : Res BodyChecked) : Type 0 where
+  pub says : (said : Res Mask) → (r >>= λ c. ok (answer_of h said c.found)) ≡ (y >>= λ b. ok (staged_body h said b))
+  pub means : y ≡ (r >>= λ c. body_in s h m c.words c.found)
 
 -- ---- list and image
 
--- a body was found and not refused
+-- a body was found
 pub record ToWrite (s : List ℕ) (h : Header) (m words : List ℕ) (f : BodyFound) : Type 0 where
   pub ready : Ready s h m
   pub body : Body
@@ -103,38 +104,38 @@ pub record Writable (s : List ℕ) (h : Header) (m words : List ℕ) (f : BodyFo
   pub room : cells (shape_of h) ≤ length image
 
 -- a body that is checked, then written
-pub record BodyRead (y : Res Body) (h : Header) (said : MaskAnswer) (m : List ℕ) (a : StageAnswer) (old-image new-image : List ℕ) : Type 0 where
-  pub says : stage_said a ≡ (y >>= λ b. ok (staged_body h said b))
+pub record BodyRead (y : Res Body) (h : Header) (said : Res Mask) (m : List ℕ) (a : Res Staged) (old-image new-image : List ℕ) : Type 0 where
+  pub says : a ≡ (y >>= λ b. ok (staged_body h said b))
   pub image : new-image ≡ image_after y h m old-image
 
 -- ---- behind an accepted mask
 
 -- a new mask lies within both slices
-abbrev pub MaskFits : MaskAnswer → List ℕ → List ℕ → Type 0
-MaskFits said kept spare = (n : ℕ) → said ≡ mask.Spare n → (n ≤ length kept) × (n ≤ length spare)
+abbrev pub MaskFits : Res Mask → List ℕ → List ℕ → Type 0
+MaskFits said kept spare = (n : ℕ) → said ≡ ok (mask.Spare n) → (n ≤ length kept) × (n ≤ length spare)
 
 -- header, mask and room; the mask is the part that the answer names
-pub record Behind (s : List ℕ) (h : Header) (said : MaskAnswer) (kept spare list image : List ℕ) : Type 0 where
+pub record Behind (s : List ℕ) (h : Header) (said : Res Mask) (kept spare list image : List ℕ) : Type 0 where
   pub ready : Ready s h (in_force said kept spare)
   pub room : cells (shape_of h) ≤ length image
   pub blocks : block_count (shape_of h) ≤ length list
   pub fits : MaskFits said kept spare
 
 -- staged: the body's answer and list
-pub record StagedBehind (y : Res Body) (h : Header) (said : MaskAnswer) (r : StageAnswer) (old-list new-list : List ℕ) : Type 0 where
-  pub says : stage_said r ≡ (y >>= λ b. ok (staged_body h said b))
+pub record StagedBehind (y : Res Body) (h : Header) (said : Res Mask) (r : Res Staged) (old-list new-list : List ℕ) : Type 0 where
+  pub says : r ≡ (y >>= λ b. ok (staged_body h said b))
   pub list : new-list ≡ list_after y old-list
 
 -- the body, where staging gave this answer and this list for it
-unfoldable pub given_body : Res Body → Header → MaskAnswer → StageAnswer → List ℕ → Res Body
+unfoldable pub given_body : Res Body → Header → Res Mask → Res Staged → List ℕ → Res Body
 given_body y h said a list = do
   b ← y
   _ ← require (is_answer a (staged_body h said b) && begins_with (starts_of b) list) 3
   ok b
 
 -- published: the image, and last the kept mask; y is the body that was given
-pub record PublishedBehind (y : Res Body) (h : Header) (m : List ℕ) (r : PublishAnswer) (old-kept new-kept old-image new-image : List ℕ) : Type 0 where
-  pub says : publish_said r ≡ (y >>= λ b. ok (body_told h b))
+pub record PublishedBehind (y : Res Body) (h : Header) (m : List ℕ) (r : Res PublishTold) (old-kept new-kept old-image new-image : List ℕ) : Type 0 where
+  pub says : r ≡ (y >>= λ b. ok (body_told h b))
   pub kept : new-kept ≡ after y old-kept (λ _. over m old-kept)
   pub image : new-image ≡ image_after y h m old-image
 

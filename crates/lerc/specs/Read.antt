@@ -1,8 +1,7 @@
 -- Whole read: its answer, and every lent slice afterwards.
 -- Assumes nothing.
 use Rattle.std.specs.Prelude.{ℕ, ◌≡◌, Bool, ◌&&◌, List, length, take, leb}
-use Rattle.lerc_words.specs.declared.Refusal.{Refusal}
-use Rattle.lerc_words.specs.Res.{Res, ok, fail, ◌>>=◌, refuse, require}
+use Rattle.lerc_words.specs.Res.{Res, ok, fail, ◌>>=◌, require}
 use Rattle.lerc_words.specs.Lists.{over}
 use Rattle.lerc_header.specs.declared.Header.{Header}
 use Rattle.lerc_header.specs.Header.{shape_of, header_says}
@@ -10,8 +9,7 @@ use Rattle.lerc_header.specs.Shape.{cells, mask_length, block_count}
 use Rattle.lerc_validity.specs.Validity.{MaskInForce, bytes_of, mask_says, spare_with}
 use Rattle.lerc_image.specs.Geometry.{is_valid_cell}
 use Rattle.lerc_image.specs.Paint.{painted}
-use Rattle.lerc.specs.declared.ReadAnswer.{ReadAnswer}
-use Rattle.lerc.specs.declared.ReadAnswer.TheVariants as answer
+use Rattle.lerc.specs.declared.Whole.{Whole}
 use Rattle.lerc.specs.Meaning.{Meaning, meaning_from, end_of, starts_of, cell_word}
 
 -- the slices that a whole read is lent
@@ -72,24 +70,14 @@ read_after (fail r) k l = refused_after k l
 
 -- ---- the answer
 
-pub record ReadTold : Type 0 where
-  pub header : Header
-  pub blocks : ℕ
-  pub end : ℕ
-
-abbrev pub read_said : ReadAnswer → Res ReadTold
-read_said (answer.Whole h blocks end) = ok (record { header = h; blocks = blocks; end = end })
-read_said (answer.Refused r) = fail r
-
-abbrev pub refusal_of_read : ReadAnswer → Refusal
-refusal_of_read (answer.Whole h blocks end) = refuse 0
-refusal_of_read (answer.Refused r) = r
+abbrev pub ReadTold : Type 0
+ReadTold = Whole
 
 -- what is reported of a meaning
 abbrev pub read_count : Meaning → Res ReadTold
 read_count m = ok (record { header = m.header; blocks = length (starts_of m.body); end = end_of m.body })
 
 -- "answer, number, and every lent byte afterwards"
-pub record WholeRead (b : List ℕ) (reuse : Bool) (r : ReadAnswer) (old new : Lent) : Type 0 where
-  pub says : read_said r ≡ (read_says b reuse old >>= read_count)
+pub record WholeRead (b : List ℕ) (reuse : Bool) (r : Res ReadTold) (old new : Lent) : Type 0 where
+  pub says : r ≡ (read_says b reuse old >>= read_count)
   pub lent : new ≡ read_after (read_says b reuse old) (masked b reuse old) old

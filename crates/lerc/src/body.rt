@@ -5,17 +5,16 @@ ghost use Rattle.lerc_header.specs.Limits.{depth_limit};
 ghost use Rattle.lerc_header.specs.Header.{shape_of, extent_of, held};
 ghost use Rattle.lerc_header.specs.Shape.{block_count};
 ghost use Rattle.lerc_image.specs.Blocks.{all_blocks};
-ghost use Rattle.lerc_image.specs.Walk.{walk_said, walk_of};
+ghost use Rattle.lerc_image.specs.Walk.{walk_of};
 ghost use Rattle.lerc.specs.Meaning.{missing_word_at, raw_body, block_body, huffman_body, constant_body, swept_body, body_says};
-ghost use Rattle.lerc.specs.Parts.{Ready, answer_of, staged_by, mask_by, body_in, list_after, list_holds, image_after, Checked, ToWrite, Writable};
+ghost use Rattle.lerc.specs.Parts.{Ready, answer_of, staged_by, mask_by, with_words, body_in, list_after, list_holds, image_after, Checked, ToWrite, Writable};
 
-use super::{BodyKind, StageAnswer, Staged, linear};
-use lerc_byte_image::EndAnswer;
+use super::{BodyKind, Staged, linear};
 use lerc_header::{DEPTHS, HEADER, Header, Shape};
-use lerc_image::WalkAnswer;
-use lerc_ranges::{ConstantsAnswer, Ranges, RangesAnswer};
-use lerc_sweep::WayAnswer;
-use lerc_validity::MaskAnswer;
+use lerc_image::Walked;
+use lerc_ranges::Ranges;
+use lerc_sweep::Way;
+use lerc_validity::Mask;
 use lerc_words::Refusal;
 
 // What a body is, where its words or blocks begin, and where it ends.
@@ -39,7 +38,6 @@ pub(crate) enum BodyFound {
         mode: usize,
         end: usize,
     },
-    Refused(Refusal),
 }
 
 // A body that was checked. `words` are the words of a constant body, and the maxima of another.
@@ -51,8 +49,8 @@ pub(crate) struct BodyChecked {
 
 impl BodyChecked {
     // what staging answers, where this mask is in force
-    pub(crate) fn answer(self, header: Header, mask: MaskAnswer) -> StageAnswer
-        ensures { result ≡ answer_of header mask self.found }
+    pub(crate) fn answer(self, header: Header, mask: Mask) -> Staged
+        ensures { result ≡ answer_of header (ok mask) self.found }
     {
         let found = self.found;
         match found {
@@ -69,21 +67,20 @@ impl BodyChecked {
                 mode: _mode,
                 end,
             } => tell(header, mask, BodyKind::Huffman, 0, end),
-            BodyFound::Refused(why) => StageAnswer::Refused(why),
         }
     }
 }
 
-fn tell(header: Header, mask: MaskAnswer, body: BodyKind, blocks: usize, end: usize) -> StageAnswer
-    ensures { result ≡ staged_by header mask body blocks end }
+fn tell(header: Header, mask: Mask, body: BodyKind, blocks: usize, end: usize) -> Staged
+    ensures { result ≡ staged_by header (ok mask) body blocks end }
 {
-    StageAnswer::Staged(Staged {
+    Staged {
         header,
         body,
         blocks,
         end,
-        mask,
-    })
+        mask: Ok(mask),
+    }
 }
 
 fn shape(h: Header) -> Shape
@@ -98,25 +95,16 @@ fn shape(h: Header) -> Shape
 }
 
 // the minimum of each depth, stored: 9
-fn check_constant(h: Header, r: Ranges) -> BodyChecked
+fn check_constant(h: Header, r: Ranges) -> Result<BodyChecked, Refusal>
     requires { (h.depth ≤ depth_limit) × (length r.min ≡ depth_limit) }
-    ensures { (s m : List ℕ) → Checked (constant_body h r) s h m result.words result.found }
+    ensures { (s m : List ℕ) → Checked (constant_body h r) s h m result }
 {
     let low = r.min;
-    let got = lerc_ranges::convert(low, h.depth, h.kind);
-    let words = got.words;
-    let answer = got.answer;
-    let ConstantsAnswer::Stored = answer else {
-        let why = answer.refusal();
-        return BodyChecked {
-            found: BodyFound::Refused(why),
-            words,
-        };
-    };
-    BodyChecked {
+    let words = lerc_ranges::convert(low, h.depth, h.kind)?;
+    Ok(BodyChecked {
         found: BodyFound::Constant { end: r.at },
         words,
-    }
+    })
 }
 
 // 1, at the first word that is not whole
@@ -134,21 +122,21 @@ fn missing_word(len: usize, at: usize, kind: u32) -> Refusal
 }
 
 // raw words, which must all fit: 1
-fn check_raw(s: &[u8], h: Header, at: usize) -> BodyFound
+fn check_raw(s: &[u8], h: Header, at: usize) -> Result<BodyFound, Refusal>
     requires { held h (length s.now) ≡ ok (extent_of h) }
-    ensures { (m words : List ℕ) → Checked (raw_body s.now h at) s.now h m words result }
+    ensures { (m words : List ℕ) → Checked (raw_body s.now h at) s.now h m (with_words words result) }
 {
     let bytes = h.valid as usize * h.depth as usize * lerc_numeric::size(h.kind);
     if s.len() < bytes {
-        return BodyFound::Refused(missing_word(s.len(), at, h.kind));
+        return Err(missing_word(s.len(), at, h.kind));
     }
     if s.len() - bytes < at {
-        return BodyFound::Refused(missing_word(s.len(), at, h.kind));
+        return Err(missing_word(s.len(), at, h.kind));
     }
-    BodyFound::Raw {
+    Ok(BodyFound::Raw {
         at,
         end: at + bytes,
-    }
+    })
 }
 
 // Blocks (1, 8, 9), judged by a mask that is held, or else by the one that stands in the blob.
@@ -159,9 +147,9 @@ fn judge_blocks(
     at: usize,
     mask: &[u8],
     lent: bool,
-) -> WalkAnswer
+) -> Result<Walked, Refusal>
     requires { Ready s.now h (mask_by s.now h lent mask.now) }
-    ensures { walk_said result ≡ walk_of h (all_blocks s.now h maxima.now (mask_by s.now h lent mask.now) at) }
+    ensures { result ≡ walk_of h (all_blocks s.now h maxima.now (mask_by s.now h lent mask.now) at) }
 {
     if lent {
         return lerc_image::check_tiles(s, h, mask, maxima, at);
@@ -176,74 +164,69 @@ fn check_blocks(
     at: usize,
     mask: &[u8],
     lent: bool,
-) -> BodyFound
+) -> Result<BodyFound, Refusal>
     requires { Ready s.now h (mask_by s.now h lent mask.now) }
-    ensures { Checked (block_body s.now h maxima.now (mask_by s.now h lent mask.now) at) s.now h (mask_by s.now h lent mask.now) maxima.now result }
+    ensures { Checked (block_body s.now h maxima.now (mask_by s.now h lent mask.now) at) s.now h (mask_by s.now h lent mask.now) (with_words maxima.now result) }
 {
-    let walked = judge_blocks(s, h, maxima, at, mask, lent);
-    let WalkAnswer::Walked { blocks, end } = walked else {
-        return BodyFound::Refused(walked.refusal());
-    };
-    BodyFound::Blocks {
+    let walked = judge_blocks(s, h, maxima, at, mask, lent)?;
+    Ok(BodyFound::Blocks {
         at,
-        count: blocks,
-        end,
-    }
+        count: walked.blocks,
+        end: walked.end,
+    })
 }
 
 // a Huffman image, all of whose symbols must be right (1, 8); which pixels are valid does not matter, only how many
-fn check_huffman(s: &[u8], h: Header, delta: bool, mode: usize) -> BodyFound
+fn check_huffman(s: &[u8], h: Header, delta: bool, mode: usize) -> Result<BodyFound, Refusal>
     requires { (held h (length s.now) ≡ ok (extent_of h)) × (length s.now ≡ h.size) }
-    ensures { (m words : List ℕ) → Checked (huffman_body s.now h delta mode) s.now h m words result }
+    ensures { (m words : List ℕ) → Checked (huffman_body s.now h delta mode) s.now h m (with_words words result) }
 {
-    let found = lerc_byte_image::check(s, h, mode);
-    let EndAnswer::End(end) = found else {
-        return BodyFound::Refused(found.refusal());
-    };
-    BodyFound::Huffman { delta, mode, end }
+    let end = lerc_byte_image::check(s, h, mode)?;
+    Ok(BodyFound::Huffman { delta, mode, end })
 }
 
 // the body that sweep and mode byte announce
-fn check_swept(s: &[u8], h: Header, ranges: Ranges, mask: &[u8], lent: bool) -> BodyFound
+fn check_swept(
+    s: &[u8],
+    h: Header,
+    ranges: Ranges,
+    mask: &[u8],
+    lent: bool,
+) -> Result<BodyFound, Refusal>
     requires { Ready s.now h (mask_by s.now h lent mask.now) }
-    ensures { Checked (swept_body s.now h ranges (mask_by s.now h lent mask.now)) s.now h (mask_by s.now h lent mask.now) ranges.max result }
+    ensures { Checked (swept_body s.now h ranges (mask_by s.now h lent mask.now)) s.now h (mask_by s.now h lent mask.now) (with_words ranges.max result) }
 {
-    let way = lerc_sweep::read_sweep(s, ranges.at, h.kind, h.error);
+    let way = lerc_sweep::read_sweep(s, ranges.at, h.kind, h.error)?;
     match way {
-        WayAnswer::Raw(at) => check_raw(s, h, at),
-        WayAnswer::Blocks(at) => check_blocks(s, h, &ranges.max, at, mask, lent),
-        WayAnswer::Huffman { delta, mode } => check_huffman(s, h, delta, mode),
-        WayAnswer::Refused(why) => BodyFound::Refused(why),
+        Way::Raw(at) => check_raw(s, h, at),
+        Way::Blocks(at) => check_blocks(s, h, &ranges.max, at, mask, lent),
+        Way::Huffman { delta, mode } => check_huffman(s, h, delta, mode),
     }
 }
 
 // What the body is: empty, constant, raw, in blocks or a Huffman image. Nothing is written.
-pub(crate) fn check_body(s: &[u8], h: Header, mask: &[u8], lent: bool) -> BodyChecked
+pub(crate) fn check_body(
+    s: &[u8],
+    h: Header,
+    mask: &[u8],
+    lent: bool,
+) -> Result<BodyChecked, Refusal>
     requires { Ready s.now h (mask_by s.now h lent mask.now) }
-    ensures { Checked (body_says s.now h (mask_by s.now h lent mask.now)) s.now h (mask_by s.now h lent mask.now) result.words result.found }
+    ensures { Checked (body_says s.now h (mask_by s.now h lent mask.now)) s.now h (mask_by s.now h lent mask.now) result }
 {
     if h.valid == 0 {
-        return BodyChecked {
+        return Ok(BodyChecked {
             found: BodyFound::Empty,
             words: [0; DEPTHS],
-        };
+        });
     }
-    let got = lerc_ranges::ranges_in(s, h);
-    let answer = got.answer;
-    let RangesAnswer::Read = answer else {
-        let why = answer.refusal();
-        return BodyChecked {
-            found: BodyFound::Refused(why),
-            words: [0; DEPTHS],
-        };
-    };
-    let r = got.ranges;
+    let r = lerc_ranges::ranges_in(s, h)?;
     if r.constant {
         return check_constant(h, r);
     }
-    let found = check_swept(s, h, r, mask, lent);
+    let found = check_swept(s, h, r, mask, lent)?;
     let words = r.max;
-    BodyChecked { found, words }
+    Ok(BodyChecked { found, words })
 }
 
 // The list of a checked body in blocks; another has none.
@@ -266,7 +249,6 @@ pub(crate) fn list_body(s: &[u8], h: Header, mask: &[u8], body: BodyChecked, lis
             mode: _mode,
             end: _end,
         } => {}
-        BodyFound::Refused(_why) => {}
     }
 }
 
@@ -290,7 +272,6 @@ pub(crate) fn is_listed(s: &[u8], h: Header, mask: &[u8], body: BodyChecked, lis
             mode: _mode,
             end: _end,
         } => true,
-        BodyFound::Refused(_why) => false,
     }
 }
 
@@ -328,6 +309,5 @@ pub(crate) fn write_body(
             end: _end,
         } => lerc_byte_image::write(s, h, mode, delta, mask, &mut image[..]),
         BodyFound::Empty => {}
-        BodyFound::Refused(_why) => {}
     }
 }

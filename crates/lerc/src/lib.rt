@@ -11,18 +11,18 @@ ghost use Rattle.lerc_image.specs.Own.{own_mask};
 ghost use Rattle.lerc_validity.specs.Validity.{in_force};
 ghost use Rattle.lerc.specs.Meaning.{body_says};
 ghost use Rattle.lerc.specs.Parts.{Ready, MaskFits, Behind, StagedBehind, given_body, PublishedBehind, not_held, has_room};
-ghost use Rattle.lerc.specs.Read.{room, refusal_of_read, WholeRead};
-ghost use Rattle.lerc.specs.Stage.{refusal_of_stage, refusal_of_publish, same_header, kind_number, same_mask, same_staged, is_answer, publish_said, StageRead, Publishing};
+ghost use Rattle.lerc.specs.Read.{room, WholeRead};
+ghost use Rattle.lerc.specs.Stage.{same_mask, same_staged, is_answer, StageRead, Publishing};
 
-use lerc_header::{Extent, Header, OpenAnswer};
-use lerc_validity::MaskAnswer;
+use lerc_header::{Extent, Header};
+use lerc_validity::Mask;
 use lerc_words::Refusal;
 
 mod body;
 mod linear;
 
 // Which kind of body a blob has.
-#[derive(Clone, Copy)]
+#[derive(Clone, Copy, Debug, PartialEq, Eq)]
 pub enum BodyKind {
     Empty,
     Constant,
@@ -31,154 +31,73 @@ pub enum BodyKind {
     Huffman,
 }
 
-// What staging found: the header, the kind of body, how many blocks it has and where it ends, and the mask in force.
-#[derive(Clone, Copy)]
+// What staging found: the header, the kind of body, how many blocks it has and where it ends, and the mask in force. A caller of
+// `publish` may hand in a mask that is refused, which staging never gives.
+#[derive(Clone, Copy, Debug, PartialEq, Eq)]
 pub struct Staged {
     pub header: Header,
     pub body: BodyKind,
     pub blocks: usize,
     pub end: usize,
-    pub mask: MaskAnswer,
-}
-
-#[derive(Clone, Copy)]
-pub enum StageAnswer {
-    Staged(Staged),
-    Refused(Refusal),
+    pub mask: Result<Mask, Refusal>,
 }
 
 // Where the body ends, and how many words were written.
-#[derive(Clone, Copy)]
-pub enum PublishAnswer {
-    Published { end: usize, words: usize },
-    Refused(Refusal),
+#[derive(Clone, Copy, Debug, PartialEq, Eq)]
+pub struct Published {
+    pub end: usize,
+    pub words: usize,
 }
 
 // The header that was read, how many blocks the body has, and where it ends.
-#[derive(Clone, Copy)]
-pub enum ReadAnswer {
-    Whole {
-        header: Header,
-        blocks: usize,
-        end: usize,
-    },
-    Refused(Refusal),
-}
-
-impl StageAnswer {
-    // why it was refused; number 0 where it was not
-    pub fn refusal(self) -> Refusal
-        ensures { result ≡ refusal_of_stage self }
-    {
-        match self {
-            StageAnswer::Staged(_found) => Refusal { number: 0, at: 0 },
-            StageAnswer::Refused(why) => why,
-        }
-    }
-}
-
-impl PublishAnswer {
-    // why it was refused; number 0 where it was not
-    pub fn refusal(self) -> Refusal
-        ensures { result ≡ refusal_of_publish self }
-    {
-        match self {
-            PublishAnswer::Published {
-                end: _end,
-                words: _words,
-            } => Refusal { number: 0, at: 0 },
-            PublishAnswer::Refused(why) => why,
-        }
-    }
-}
-
-impl ReadAnswer {
-    // why it was refused; number 0 where it was not
-    pub fn refusal(self) -> Refusal
-        ensures { result ≡ refusal_of_read self }
-    {
-        match self {
-            ReadAnswer::Whole {
-                header: _h,
-                blocks: _n,
-                end: _end,
-            } => Refusal { number: 0, at: 0 },
-            ReadAnswer::Refused(why) => why,
-        }
-    }
+#[derive(Clone, Copy, Debug, PartialEq, Eq)]
+pub struct Whole {
+    pub header: Header,
+    pub blocks: usize,
+    pub end: usize,
 }
 
 // ---- the answer given, and the one that staging gives
 
-fn same_header(a: Header, b: Header) -> bool
-    ensures { result ≡ same_header a b }
-{
-    (a.rows == b.rows)
-        & (a.columns == b.columns)
-        & (a.depth == b.depth)
-        & (a.valid == b.valid)
-        & (a.side == b.side)
-        & (a.size == b.size)
-        & (a.kind == b.kind)
-        & (a.error == b.error)
-        & (a.min == b.min)
-        & (a.max == b.max)
-        & (a.mask == b.mask)
-}
-
-fn number_of(kind: BodyKind) -> u32
-    ensures { result ≡ kind_number kind }
-{
-    match kind {
-        BodyKind::Empty => 0,
-        BodyKind::Constant => 1,
-        BodyKind::Raw => 2,
-        BodyKind::Blocks => 3,
-        BodyKind::Huffman => 4,
-    }
-}
-
-fn same_mask(a: MaskAnswer, b: MaskAnswer) -> bool
+// a refused mask is that of no answer
+fn same_mask(a: Result<Mask, Refusal>, b: Result<Mask, Refusal>) -> bool
     ensures { result ≡ same_mask a b }
 {
+    let Ok(a) = a else {
+        return false;
+    };
+    let Ok(b) = b else {
+        return false;
+    };
     match a {
-        MaskAnswer::Kept(n) => match b {
-            MaskAnswer::Kept(k) => n == k,
-            MaskAnswer::Spare(_k) => false,
-            MaskAnswer::Refused(_why) => false,
+        Mask::Kept(n) => match b {
+            Mask::Kept(k) => n == k,
+            Mask::Spare(_k) => false,
         },
-        MaskAnswer::Spare(n) => match b {
-            MaskAnswer::Kept(_k) => false,
-            MaskAnswer::Spare(k) => n == k,
-            MaskAnswer::Refused(_why) => false,
+        Mask::Spare(n) => match b {
+            Mask::Kept(_k) => false,
+            Mask::Spare(k) => n == k,
         },
-        MaskAnswer::Refused(_why) => false,
     }
 }
 
 fn same_staged(a: Staged, b: Staged) -> bool
     ensures { result ≡ same_staged a b }
 {
-    let header = a.header;
-    let body = a.body;
-    let mask = a.mask;
-    let other_header = b.header;
-    let other_body = b.body;
-    let other_mask = b.mask;
-    same_header(header, other_header)
-        & (number_of(body) == number_of(other_body))
+    (a.header == b.header)
+        & (a.body == b.body)
         & (a.blocks == b.blocks)
         & (a.end == b.end)
-        & same_mask(mask, other_mask)
+        & same_mask(a.mask, b.mask)
 }
 
 // the answer given is the one that staging gives
-fn is_answer(given: StageAnswer, found: Staged) -> bool
+fn is_answer(given: Result<Staged, Refusal>, found: Staged) -> bool
     ensures { result ≡ is_answer given found }
 {
     match given {
-        StageAnswer::Staged(a) => same_staged(a, found),
-        StageAnswer::Refused(_why) => false,
+        Ok(a) => same_staged(a, found),
+        Err(_why) => false,
     }
 }
 
@@ -195,22 +114,18 @@ fn has_room(e: Extent, kept: usize, spare: usize, list: usize, image: usize) -> 
 fn stage_behind<'a>(
     s: &[u8],
     h: Header,
-    said: MaskAnswer,
+    said: Mask,
     kept: &'a [u8],
     spare: &'a [u8],
     list: &mut [usize],
-) -> StageAnswer
-    requires { (Ready s.now h (in_force said kept.now spare.now)) × (block_count (shape_of h) ≤ length list.old) }
-    ensures { StagedBehind (body_says s.now h (in_force said kept.now spare.now)) h said result list.old list.new }
+) -> Result<Staged, Refusal>
+    requires { (Ready s.now h (in_force (ok said) kept.now spare.now)) × (block_count (shape_of h) ≤ length list.old) }
+    ensures { StagedBehind (body_says s.now h (in_force (ok said) kept.now spare.now)) h (ok said) result list.old list.new }
 {
-    let mask = lerc_validity::mask_in_force(kept, spare, said);
-    let body = body::check_body(s, h, mask, true);
-    let answer = body.answer(h, said);
-    let StageAnswer::Staged(_found) = answer else {
-        return answer;
-    };
+    let mask = lerc_validity::mask_in_force(kept, spare, Ok(said));
+    let body = body::check_body(s, h, mask, true)?;
     body::list_body(s, h, mask, body, &mut list[..]);
-    answer
+    Ok(body.answer(h, said))
 }
 
 // the mask section (6), then what stands behind it
@@ -222,18 +137,14 @@ fn stage_masked(
     spare: &mut [u8],
     list: &mut [usize],
     image: &[u64],
-) -> StageAnswer
+) -> Result<Staged, Refusal>
     requires { (header_says blob.now ≡ ok h) × (room h (record { kept = kept.now; spare = spare.old; list = list.old; image = image.now }) ≡ true) }
     ensures { StageRead blob.now reuse result (record { kept = kept.now; spare = spare.old; list = list.old; image = image.now }) spare.new list.new }
 {
     let size = h.size as usize;
     let s = &blob[..size];
-    let said = lerc_validity::find_mask(s, h, reuse, kept, &mut spare[..]);
-    match said {
-        MaskAnswer::Refused(why) => StageAnswer::Refused(why),
-        MaskAnswer::Kept(_n) => stage_behind(s, h, said, kept, &spare[..], &mut list[..]),
-        MaskAnswer::Spare(_n) => stage_behind(s, h, said, kept, &spare[..], &mut list[..]),
-    }
+    let said = lerc_validity::find_mask(s, h, reuse, kept, &mut spare[..])?;
+    stage_behind(s, h, said, kept, &spare[..], &mut list[..])
 }
 
 // All checking of one blob: header (1 to 4, 13), room of every lent slice, the image's too (5), mask (6), body (1, 7 to 10).
@@ -246,89 +157,78 @@ pub fn stage(
     spare: &mut [u8],
     list: &mut [usize],
     image: &[u64],
-) -> StageAnswer
+) -> Result<Staged, Refusal>
     ensures { StageRead blob.now reuse result (record { kept = kept.now; spare = spare.old; list = list.old; image = image.now }) spare.new list.new }
 {
-    let opened = lerc_header::open_blob(blob);
-    let OpenAnswer::Open {
-        header: h,
-        extent: e,
-    } = opened
-    else {
-        return StageAnswer::Refused(opened.refusal());
-    };
+    let opened = lerc_header::open_blob(blob)?;
+    let h = opened.header;
+    let e = opened.extent;
     if !has_room(e, kept.len(), spare.len(), list.len(), image.len()) {
-        return StageAnswer::Refused(Refusal { number: 5, at: 0 });
+        return Err(Refusal { number: 5, at: 0 });
     }
     stage_masked(blob, h, reuse, kept, &mut spare[..], &mut list[..], image)
 }
 
 // ---- publish
 
-fn not_given() -> PublishAnswer
-    ensures { publish_said result ≡ fail (refuse 3) }
+fn not_given() -> Refusal
+    ensures { result ≡ refuse 3 }
 {
-    PublishAnswer::Refused(Refusal { number: 3, at: 0 })
+    Refusal { number: 3, at: 0 }
 }
 
 // a new mask is kept; a reused one already is
-fn keep(said: MaskAnswer, kept: &mut [u8], spare: &[u8])
-    requires { MaskFits said kept.old spare.now }
-    ensures { kept.new ≡ over (in_force said kept.old spare.now) kept.old }
+fn keep(said: Mask, kept: &mut [u8], spare: &[u8])
+    requires { MaskFits (ok said) kept.old spare.now }
+    ensures { kept.new ≡ over (in_force (ok said) kept.old spare.now) kept.old }
 {
     match said {
-        MaskAnswer::Spare(n) => lerc_slices::copy_bytes(&spare[..n], &mut kept[..]),
-        MaskAnswer::Kept(_n) => {}
-        MaskAnswer::Refused(_why) => {}
+        Mask::Spare(n) => lerc_slices::copy(&spare[..n], &mut kept[..]),
+        Mask::Kept(_n) => {}
     }
 }
 
 // Where the spare does not hold the blob's mask this ends in a refusal: the body's own, judged by that mask, else 3.
-fn refuse_changed(s: &[u8], h: Header, said: MaskAnswer) -> PublishAnswer
+fn refuse_changed(s: &[u8], h: Header) -> Refusal
     requires { (h.valid ≡ 0 → ⊥) → Ready s.now h (own_mask s.now h) }
-    ensures { publish_said result ≡ not_held (body_says s.now h (own_mask s.now h)) }
+    ensures { fail result ≡ not_held (body_says s.now h (own_mask s.now h)) }
 {
     if h.valid == 0 {
         return not_given();
     }
-    let body = body::check_body(s, h, &s[..0], false);
-    let answer = body.answer(h, said);
-    let StageAnswer::Refused(why) = answer else {
-        return not_given();
-    };
-    PublishAnswer::Refused(why)
+    match body::check_body(s, h, &s[..0], false) {
+        Ok(_body) => not_given(),
+        Err(why) => why,
+    }
 }
 
 // behind a mask that both hold: staging's answer is found again and compared, the list too, and then all is written
 fn publish_behind(
     s: &[u8],
     h: Header,
-    said: MaskAnswer,
-    given: StageAnswer,
+    said: Mask,
+    given: Result<Staged, Refusal>,
     kept: &mut [u8],
     spare: &[u8],
     list: &[usize],
     image: &mut [u64],
-) -> PublishAnswer
-    requires { Behind s.now h said kept.old spare.now list.now image.old }
-    ensures { PublishedBehind (given_body (body_says s.now h (in_force said kept.old spare.now)) h said given list.now) h (in_force said kept.old spare.now) result kept.old kept.new image.old image.new }
+) -> Result<Published, Refusal>
+    requires { Behind s.now h (ok said) kept.old spare.now list.now image.old }
+    ensures { PublishedBehind (given_body (body_says s.now h (in_force (ok said) kept.old spare.now)) h (ok said) given list.now) h (in_force (ok said) kept.old spare.now) result kept.old kept.new image.old image.new }
 {
-    let mask = lerc_validity::mask_in_force(&kept[..], spare, said);
-    let body = body::check_body(s, h, mask, true);
-    let answer = body.answer(h, said);
-    let StageAnswer::Staged(found) = answer else {
-        return PublishAnswer::Refused(answer.refusal());
-    };
+    let mask = lerc_validity::mask_in_force(&kept[..], spare, Ok(said));
+    let body = body::check_body(s, h, mask, true)?;
+    let found = body.answer(h, said);
     let is_given = is_answer(given, found) & body::is_listed(s, h, mask, body, list);
     if !is_given {
-        return not_given();
+        return Err(not_given());
     }
     body::write_body(s, h, mask, body, list, &mut image[..]);
     keep(said, &mut kept[..], spare);
-    PublishAnswer::Published {
+    Ok(Published {
         end: found.end,
         words: h.valid as usize * h.depth as usize,
-    }
+    })
 }
 
 // the mask section (6), compared with the spare, then what stands behind it
@@ -336,35 +236,31 @@ fn publish_masked(
     blob: &[u8],
     h: Header,
     reuse: bool,
-    given: StageAnswer,
+    given: Result<Staged, Refusal>,
     kept: &mut [u8],
     spare: &[u8],
     list: &[usize],
     image: &mut [u64],
-) -> PublishAnswer
+) -> Result<Published, Refusal>
     requires { (header_says blob.now ≡ ok h) × (room h (record { kept = kept.old; spare = spare.now; list = list.now; image = image.old }) ≡ true) }
     ensures { Publishing blob.now reuse given result (record { kept = kept.old; spare = spare.now; list = list.now; image = image.old }) kept.new image.new }
 {
     let size = h.size as usize;
     let s = &blob[..size];
-    let found = lerc_validity::compare_mask(s, h, reuse, &kept[..], spare);
-    let said = found.answer;
+    let found = lerc_validity::compare_mask(s, h, reuse, &kept[..], spare)?;
     if found.same {
-        return publish_behind(
+        publish_behind(
             s,
             h,
-            said,
+            found.mask,
             given,
             &mut kept[..],
             spare,
             list,
             &mut image[..],
-        );
-    }
-    match said {
-        MaskAnswer::Refused(why) => PublishAnswer::Refused(why),
-        MaskAnswer::Kept(_n) => refuse_changed(s, h, said),
-        MaskAnswer::Spare(_n) => refuse_changed(s, h, said),
+        )
+    } else {
+        Err(refuse_changed(s, h))
     }
 }
 
@@ -374,35 +270,30 @@ fn publish_masked(
 pub fn publish(
     blob: &[u8],
     reuse: bool,
-    given: StageAnswer,
+    given: Result<Staged, Refusal>,
     kept: &mut [u8],
     spare: &[u8],
     list: &[usize],
     image: &mut [u64],
-) -> PublishAnswer
+) -> Result<Published, Refusal>
     ensures { Publishing blob.now reuse given result (record { kept = kept.old; spare = spare.now; list = list.now; image = image.old }) kept.new image.new }
 {
-    let opened = lerc_header::open_blob(blob);
-    let OpenAnswer::Open {
-        header: h,
-        extent: e,
-    } = opened
-    else {
-        return PublishAnswer::Refused(opened.refusal());
-    };
-    if !has_room(e, kept.len(), spare.len(), list.len(), image.len()) {
-        return PublishAnswer::Refused(Refusal { number: 5, at: 0 });
+    let again = lerc_header::open_blob(blob)?;
+    let e = again.extent;
+    if has_room(e, kept.len(), spare.len(), list.len(), image.len()) {
+        publish_masked(
+            blob,
+            again.header,
+            reuse,
+            given,
+            &mut kept[..],
+            spare,
+            list,
+            &mut image[..],
+        )
+    } else {
+        Err(Refusal { number: 5, at: 0 })
     }
-    publish_masked(
-        blob,
-        h,
-        reuse,
-        given,
-        &mut kept[..],
-        spare,
-        list,
-        &mut image[..],
-    )
 }
 
 // ---- both
@@ -415,36 +306,29 @@ pub fn read(
     spare: &mut [u8],
     list: &mut [usize],
     image: &mut [u64],
-) -> ReadAnswer
+) -> Result<Whole, Refusal>
     ensures { WholeRead blob.now reuse result (record { kept = kept.old; spare = spare.old; list = list.old; image = image.old }) (record { kept = kept.new; spare = spare.new; list = list.new; image = image.new }) }
 {
-    let given = stage(
+    let found = stage(
         blob,
         reuse,
         &kept[..],
         &mut spare[..],
         &mut list[..],
         &image[..],
-    );
-    let StageAnswer::Staged(found) = given else {
-        return ReadAnswer::Refused(given.refusal());
-    };
+    )?;
     let done = publish(
         blob,
         reuse,
-        given,
+        Ok(found),
         &mut kept[..],
         &spare[..],
         &list[..],
         &mut image[..],
-    );
-    let PublishAnswer::Published { end, words: _words } = done else {
-        return ReadAnswer::Refused(done.refusal());
-    };
-    let header = found.header;
-    ReadAnswer::Whole {
-        header,
+    )?;
+    Ok(Whole {
+        header: found.header,
         blocks: found.blocks,
-        end,
-    }
+        end: done.end,
+    })
 }

@@ -20,7 +20,7 @@ fn put_constant(words: &[u64], depth: usize, base: usize, image: &mut [u64])
         image[base] = words[0];
     } else {
         let end = base + depth;
-        lerc_slices::copy_words(&words[..depth], &mut image[base..end]);
+        lerc_slices::copy(&words[..depth], &mut image[base..end]);
     }
 }
 
@@ -31,14 +31,12 @@ pub(crate) fn write_constant(h: Shape, words: &[u64], mask: &[u8], image: &mut [
 {
     let pixels = h.rows * h.columns;
     let full = lerc_mask::count(mask, pixels) == pixels;
-    let mut p = 0;
     let mut base = 0;
-    while p < pixels {
+    for p in 0..pixels {
         if full || lerc_mask::is_valid(mask, p) {
             put_constant(words, h.depth, base, &mut image[..]);
         }
         base += h.depth;
-        p += 1;
     }
 }
 
@@ -47,12 +45,10 @@ fn put_raw(s: &[u8], at: usize, size: usize, depth: usize, base: usize, image: &
     requires { (size ≤ 8) × (at + depth * size ≤ length s.now) × (base + depth ≤ length image.old) }
     ensures { image.new ≡ painted image.old (within base depth) (λ c. little size s.now (at + (c - base) * size)) }
 {
-    let mut d = 0;
     let mut from = at;
-    while d < depth {
+    for d in 0..depth {
         image[base + d] = lerc_words::bytes(s, from, size);
         from += size;
-        d += 1;
     }
 }
 
@@ -62,16 +58,14 @@ fn write_raw_masked(h: Shape, s: &[u8], at: usize, size: usize, mask: &[u8], ima
     ensures { image.new ≡ painted image.old (is_valid_cell h mask.now) (raw_word s.now at size h mask.now) }
 {
     let pixels = h.rows * h.columns;
-    let mut p = 0;
     let mut base = 0;
     let mut from = at;
-    while p < pixels {
+    for p in 0..pixels {
         if lerc_mask::is_valid(mask, p) {
             put_raw(s, from, size, h.depth, base, &mut image[..]);
             from += h.depth * size;
         }
         base += h.depth;
-        p += 1;
     }
 }
 

@@ -5,7 +5,8 @@ use lib.Seq.{take_all}
 use Rattle.lerc_words.specs.Lists.{over}
 use Rattle.lerc_program.specs.Program.{bytes_most, program_text, Answered}
 use Rattle.lerc_program.proofs.Program.{front-text, answered-within, answered-count, answered-text}
-use Rattle.lerc2.specs.Input.{FrontOf, OfEachInput}
+use Rattle.lerc_input.specs.Input.{FrontOf}
+use Rattle.lerc2.specs.Input.{OfEachInput}
 
 module _ (buffer : List ℕ) (n : ℕ) where
   -- what was read is one of the inputs of which it was read

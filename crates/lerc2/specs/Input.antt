@@ -1,10 +1,7 @@
 -- What the program reads of its input.
 -- Assumes nothing.
-use Rattle.std.specs.Prelude.{ℕ, ◌≡◌, List, length, take}
-
--- the buffer's first n bytes are the input, or as much of its front as the buffer has room for
-abbrev pub FrontOf : List ℕ → List ℕ → ℕ → Type 0
-FrontOf input buffer n = take n buffer ≡ take (length buffer) input
+use Rattle.std.specs.Prelude.{ℕ, List}
+use Rattle.lerc_input.specs.Input.{FrontOf}
 
 -- something holds of every input of which this was read
 abbrev pub OfEachInput : List ℕ → ℕ → (List ℕ → Type 0) → Type 0

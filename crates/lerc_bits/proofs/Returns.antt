@@ -10,15 +10,16 @@ use lib.ListN.{length, get_or, drop}
 use Rattle.lerc_words.specs.declared.Refusal.{Refusal}
 use Rattle.lerc_words.specs.Lists.{over}
 use lib.Dec.{leb, ltb, eqb}
-use Rattle.lerc_words.specs.Res.{Res, ok, fail, refuse, placed, marked, word_at}
-use Rattle.lerc_words.proofs.Little.{word_at-bare}
-use Rattle.lerc_words.proofs.Marking.{Bare, marked-is, marked-no, marked-fails, marked-tells, marked-after, bare-bind, bare-then, bare-cond, bare-no}
+use Rattle.lerc_words.specs.Res.{Res, ok, fail, refuse, placed, marked, word_at, word_says}
+use Rattle.lerc_words.proofs.Little.{word-at, word_at-bare}
+use Rattle.lerc_words.proofs.Marking.{Bare, unmarked, marked-is, marked-no, marked-fails, marked-tells, marked-after, bare-bind, bare-then, bare-cond, bare-no}
 use Rattle.lerc_bits.specs.declared.Plan.{Plan}
-use Rattle.lerc_bits.specs.declared.PlanAnswer.{PlanAnswer}
-use Rattle.lerc_bits.specs.declared.PlanAnswer.TheVariants as found
-use Rattle.lerc_bits.specs.declared.CountsAnswer.{CountsAnswer}
-use Rattle.lerc_bits.specs.declared.CountsAnswer.TheVariants as answer
-use Rattle.lerc_bits.specs.Bits.{count_bytes, plain_plan, table_plan, fits, tabled, plan, plan_said, refusal_of_plan, run, chosen, all_below, looked_up, values_of, unpacked, Counts, counts, Span, spanned, counts_said, refusal_of_counts, CountsDecoded}
+use Rattle.lerc_bits.specs.Bits.{count_bytes, plain_plan, table_plan, fits, tabled, plan, run, chosen, all_below, looked_up, values_of, unpacked, Counts, counts, Span, spanned, CountsDecoded}
+
+-- ---- a word whose place was taken off
+
+pub read-bare : (s : List ℕ) (at size : ℕ) {r : Res ℕ} → size ≤ 8 → r ≡ marked at (word_says s at size) → marked 0 r ≡ word_at size s at
+read-bare s at size h e = ap (marked 0) e ∙ unmarked at (word_says s at size) ∙ ap (marked 0) (word-at s at size h) ∙ word_at-bare size s at
 
 -- ---- plans
 
@@ -150,18 +151,18 @@ module _ (s : List ℕ) (p : Plan) where
 
 -- ---- the promise of decode
 
-pub refused : {m : Res Counts} {r : Refusal} {old : List ℕ} → m ≡ fail r → CountsDecoded m (answer.Refused r) old old
+pub refused : {m : Res Counts} {r : Refusal} {old : List ℕ} → m ≡ fail r → CountsDecoded m (fail r) old old
 refused e = rw e (record { says = refl; left = refl })
 
 pub given : {m : Res Counts} (values : List ℕ) (n : ℕ) {next : ℕ} {old new : List ℕ} → m ≡ ok (record { values = values; next = next }) → length values ≡ n
-    → new ≡ values ++ drop n old → CountsDecoded m (answer.Counts n next) old new
+    → new ≡ values ++ drop n old → CountsDecoded m (ok (record { n = n; next = next })) old new
 given values n e l d = rw (e, d) (record { says = rw (l); left = rw (l) })
 
 -- with a place on the answer
-pub spanned-at : (m : Res Counts) (r q : CountsAnswer) (p : ℕ) → counts_said r ≡ spanned m → counts_said q ≡ marked p (counts_said r) → counts_said q ≡ spanned (marked p m)
+pub spanned-at : (m : Res Counts) (r q : Res Span) (p : ℕ) → r ≡ spanned m → q ≡ marked p r → q ≡ spanned (marked p m)
 spanned-at m r q p d e = e ∙ ap (marked p) d ∙ marked-tells p m (λ c. record { n = length c.values; next = c.next })
 
-pub decoded-at : {m : Res Counts} {r q : CountsAnswer} (p : ℕ) {old new : List ℕ} → CountsDecoded m r old new → counts_said q ≡ marked p (counts_said r) → CountsDecoded (marked p m) q old new
+pub decoded-at : {m : Res Counts} {r q : Res Span} (p : ℕ) {old new : List ℕ} → CountsDecoded m r old new → q ≡ marked p r → CountsDecoded (marked p m) q old new
 decoded-at {m} {r} {q} p {old} d e = record {
   says = spanned-at m r q p d.says e;
   left = d.left ∙ sym (marked-after p m old (λ c. over c.values old));
@@ -172,25 +173,28 @@ ok-inj e = cc
 
 -- ---- the promise of check
 
-pub uncounted : {m : Res Counts} {r : Refusal} → m ≡ fail r → counts_said (answer.Refused r) ≡ spanned m
+pub uncounted : {m : Res Counts} {r : Refusal} → m ≡ fail r → fail r ≡ spanned m
 uncounted e = rw e
 
 pub counted : {m : Res Counts} (values : List ℕ) (n : ℕ) {next : ℕ} → m ≡ ok (record { values = values; next = next }) → length values ≡ n
-    → counts_said (answer.Counts n next) ≡ spanned m
+    → ok (record { n = n; next = next }) ≡ spanned m
 counted values n e l = rw (e, l)
 
 -- ---- what an answer that was taken apart says
 
-module _ (s : List ℕ) (at : ℕ) {r : PlanAnswer} (e : plan_said r ≡ marked at (plan s at)) where
-  pub inspect-ok : {p : Plan} → r ≡ found.Plan p → plan s at ≡ ok p
-  inspect-ok d = marked-is at _ (sym e ∙ ap plan_said d)
+module _ (s : List ℕ) (at : ℕ) {r : Res Plan} (e : r ≡ marked at (plan s at)) where
+  pub inspect-ok : {p : Plan} → r ≡ ok p → plan s at ≡ ok p
+  inspect-ok d = marked-is at _ (sym e ∙ d)
 
-  pub inspect-at : {q why : Refusal} → r ≡ found.Refused q → why ≡ refusal_of_plan r → marked at (plan s at) ≡ fail why
-  inspect-at d f = sym e ∙ ap plan_said d ∙ ap fail (sym (f ∙ ap refusal_of_plan d))
+  pub inspect-at : {why : Refusal} → r ≡ fail why → marked at (plan s at) ≡ fail why
+  inspect-at d = sym e ∙ d
 
   -- the place taken off
-  pub inspect-no : {q why : Refusal} → r ≡ found.Refused q → why ≡ placed 0 (refusal_of_plan r) → plan s at ≡ fail why
-  inspect-no d f = bare-no at _ (plan-bare s at) (sym e ∙ ap plan_said d) (f ∙ ap (λ x. placed 0 (refusal_of_plan x)) d)
+  pub inspect-no : {q : Refusal} → r ≡ fail q → plan s at ≡ fail (placed 0 q)
+  inspect-no d = bare-no at _ (plan-bare s at) (sym e ∙ d) refl
+
+  pub inspect-bare : marked 0 r ≡ plan s at
+  inspect-bare = ap (marked 0) e ∙ unmarked at (plan s at) ∙ plan-bare s at
 
 -- n values, which stand in front of what the array held, and their end
 pub record CountsGiven (m : Res Counts) (n next : ℕ) (old new : List ℕ) : Type 0 where
@@ -199,48 +203,31 @@ pub record CountsGiven (m : Res Counts) (n next : ℕ) (old new : List ℕ) : Ty
   pub many : length values ≡ n
   pub left : new ≡ over values old
 
-pub check-ok : (m : Res Counts) {r : CountsAnswer} {n next : ℕ} → counts_said r ≡ spanned m → r ≡ answer.Counts n next
-    → (c : Counts) × (m ≡ ok c) × (length c.values ≡ n) × (c.next ≡ next)
+pub check-ok : (m : Res Counts) {r : Res Span} {t : Span} → r ≡ spanned m → r ≡ ok t
+    → (c : Counts) × (m ≡ ok c) × (length c.values ≡ t.n) × (c.next ≡ t.next)
 check-ok (ok c) e d =
-    let p = ok-inj (sym (ap counts_said d) ∙ e) in
+    let p = ok-inj (sym d ∙ e) in
     (c, refl, sym (ap (λ (z : Span). z.n) p), sym (ap (λ (z : Span). z.next) p))
-check-ok (fail q) e d = absurd (let f = ap counts_said d in let z : ◌≡◌ {A = ℕ} 0 1 = cc in omega arith)
+check-ok (fail q) e d = absurd (let z : ◌≡◌ {A = ℕ} 0 1 = cc in omega arith)
 
-pub check-no : (m : Res Counts) {r : CountsAnswer} {q why : Refusal} → counts_said r ≡ spanned m → r ≡ answer.Refused q → why ≡ refusal_of_counts r → m ≡ fail why
-check-no (ok c) e d f = absurd (let g = ap counts_said d in let z : ◌≡◌ {A = ℕ} 0 1 = cc in omega arith)
-check-no (fail w) {r} {q} {why} e d f =
-    let a : q ≡ w = cc (e, ap counts_said d) in
-    let b : why ≡ q = f ∙ ap refusal_of_counts d in
-    ap fail (sym (b ∙ a))
+pub check-no : (m : Res Counts) {r : Res Span} {why : Refusal} → r ≡ spanned m → r ≡ fail why → m ≡ fail why
+check-no (ok c) e d = absurd (let z : ◌≡◌ {A = ℕ} 0 1 = cc in omega arith)
+check-no (fail w) {r} {why} e d =
+    let a : why ≡ w = cc in
+    ap fail (sym a)
 
-pub decode-ok : (m : Res Counts) {r : CountsAnswer} {n next : ℕ} {old new : List ℕ} → CountsDecoded m r old new → r ≡ answer.Counts n next → CountsGiven m n next old new
+pub decode-ok : (m : Res Counts) {r : Res Span} {t : Span} {old new : List ℕ} → CountsDecoded m r old new → r ≡ ok t → CountsGiven m t.n t.next old new
 decode-ok m g d =
     let (c, e, l, x) = check-ok m g.says d in
     record { values = c.values; reads = e ∙ ap (λ (z : ℕ). ok (record { values = c.values; next = z })) x; many = l; left = rw (e) at g.left }
 
-pub decode_no : (m : Res Counts) {r : CountsAnswer} {q why : Refusal} {old new : List ℕ} → CountsDecoded m r old new → r ≡ answer.Refused q → why ≡ refusal_of_counts r
+pub decode_no : (m : Res Counts) {r : Res Span} {why : Refusal} {old new : List ℕ} → CountsDecoded m r old new → r ≡ fail why
     → (m ≡ fail why) × (new ≡ old)
-decode_no m g d f =
-    let e = check-no m g.says d f in
+decode_no m g d =
+    let e = check-no m g.says d in
     (e, rw (e) at g.left)
 
 -- ---- two outcomes that a promise allows coincide
 
-said_same : (a b : CountsAnswer) → counts_said a ≡ counts_said b → a ≡ b
-said_same (answer.Counts n next) (answer.Counts m to) e =
-    let p = ok-inj e in
-    let x : n ≡ m = ap (λ (z : Span). z.n) p in
-    let y : next ≡ to = ap (λ (z : Span). z.next) p in
-    rw (x, y)
-said_same (answer.Counts n next) (answer.Refused r) e = absurd (let z : ◌≡◌ {A = ℕ} 0 1 = cc in omega arith)
-said_same (answer.Refused r) (answer.Counts m to) e = absurd (let z : ◌≡◌ {A = ℕ} 0 1 = cc in omega arith)
-said_same (answer.Refused r) (answer.Refused q) e = let z : r ≡ q = cc in rw (z)
-
-pub decoded-same : {m : Res Counts} {a b : CountsAnswer} {old x y : List ℕ} → CountsDecoded m a old x → CountsDecoded m b old y → (a ≡ b) × (x ≡ y)
-decoded-same {m} {a} {b} p q = (said_same a b (p.says ∙ sym q.says), p.left ∙ sym q.left)
-
-pub plan-same : (a b : PlanAnswer) → plan_said a ≡ plan_said b → a ≡ b
-plan-same (found.Plan p) (found.Plan q) e = let z : p ≡ q = cc in rw (z)
-plan-same (found.Plan p) (found.Refused r) e = absurd (let z : ◌≡◌ {A = ℕ} 0 1 = cc in omega arith)
-plan-same (found.Refused r) (found.Plan q) e = absurd (let z : ◌≡◌ {A = ℕ} 0 1 = cc in omega arith)
-plan-same (found.Refused r) (found.Refused q) e = let z : r ≡ q = cc in rw (z)
+pub decoded-same : {m : Res Counts} {a b : Res Span} {old x y : List ℕ} → CountsDecoded m a old x → CountsDecoded m b old y → (a ≡ b) × (x ≡ y)
+decoded-same p q = (p.says ∙ sym q.says, p.left ∙ sym q.left)

@@ -3,14 +3,10 @@
 -- Assumes nothing.
 use Rattle.std.specs.Prelude.{ℕ, ◌+◌, ◌*◌, ◌-◌, ◌/◌, ◌%◌, ◌^◌, ◌≤◌, ◌≡◌, Bool, cond, ◌&&◌, List, [], ◌∷◌, length, get_or, leb, ltb, eqb}
 use Rattle.std.specs.Float.Ieee.{size}
-use Rattle.lerc_words.specs.declared.Refusal.{Refusal}
-use Rattle.lerc_words.specs.Res.{Res, ok, fail, ◌>>=◌, refuse, require, word_at, little, after}
+use Rattle.lerc_words.specs.Res.{Res, ok, ◌>>=◌, require, word_at, little, after}
 use Rattle.lerc_words.specs.Lists.{tabulate, over, all_to}
 use Rattle.lerc_bits.specs.declared.Plan.{Plan}
-use Rattle.lerc_bits.specs.declared.PlanAnswer.{PlanAnswer}
-use Rattle.lerc_bits.specs.declared.PlanAnswer.TheVariants as found
-use Rattle.lerc_bits.specs.declared.CountsAnswer.{CountsAnswer}
-use Rattle.lerc_bits.specs.declared.CountsAnswer.TheVariants as answer
+use Rattle.lerc_bits.specs.declared.Counts.{Counts as Told}
 
 -- ---- where the runs stand
 
@@ -120,19 +116,9 @@ counts s at = do
 
 -- ---- the answers: "A refusal carries its number"
 
-abbrev pub plan_said : PlanAnswer → Res Plan
-plan_said (found.Plan p) = ok p
-plan_said (found.Refused r) = fail r
-
--- why; 0 where it was not refused
-abbrev pub refusal_of_plan : PlanAnswer → Refusal
-refusal_of_plan (found.Plan p) = refuse 0
-refusal_of_plan (found.Refused r) = r
-
 -- how many, and where they end
-pub record Span : Type 0 where
-  pub n : ℕ
-  pub next : ℕ
+abbrev pub Span : Type 0
+Span = Told
 
 abbrev pub span : Counts → Res Span
 span c = ok (record { n = length c.values; next = c.next })
@@ -140,19 +126,10 @@ span c = ok (record { n = length c.values; next = c.next })
 abbrev pub spanned : Res Counts → Res Span
 spanned m = m >>= span
 
-abbrev pub counts_said : CountsAnswer → Res Span
-counts_said (answer.Counts n next) = ok (record { n = n; next = next })
-counts_said (answer.Refused r) = fail r
-
--- why; 0 where they were not refused
-abbrev pub refusal_of_counts : CountsAnswer → Refusal
-refusal_of_counts (answer.Counts n next) = refuse 0
-refusal_of_counts (answer.Refused r) = r
-
 -- the values stand in front, and the entries behind them keep what they held;
 -- a refusal "leaves every lent slice unchanged"
-pub record CountsDecoded (m : Res Counts) (r : CountsAnswer) (old new : List ℕ) : Type 0 where
-  pub says : counts_said r ≡ spanned m
+pub record CountsDecoded (m : Res Counts) (r : Res Span) (old new : List ℕ) : Type 0 where
+  pub says : r ≡ spanned m
   pub left : new ≡ after m old (λ c. over c.values old)
 
 -- what every plan keeps to, in a slice of `len` bytes

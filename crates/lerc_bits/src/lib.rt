@@ -3,11 +3,11 @@
 
 ghost use Rattle.std.specs.Prelude.{◌≡◌, ◌++◌, true, ◌+◌, ◌-◌, ◌%◌, ◌^◌, ◌≤◌, length, drop};
 ghost use Rattle.std.proofs.lemmas.List.Edits.{sets};
-ghost use Rattle.lerc_words.specs.Res.{placed, marked};
-ghost use Rattle.lerc_bits.specs.Bits.{run_bytes, index_width, plain_plan, table_plan, fits, tabled, plan, plan_said, refusal_of_plan, digits, run, chosen, all_below, unpacked, keeps, counts_by, counts, counts_said, refusal_of_counts, CountsDecoded, PlanKept};
+ghost use Rattle.lerc_words.specs.Res.{marked};
+ghost use Rattle.lerc_bits.specs.Bits.{run_bytes, index_width, plain_plan, table_plan, fits, tabled, plan, digits, run, chosen, all_below, unpacked, keeps, counts_by, counts, CountsDecoded, PlanKept};
 ghost use Rattle.lerc_bits.specs.Unpacking.{begun};
 
-use lerc_words::{Refusal, WordAnswer};
+use lerc_words::Refusal;
 
 mod checks;
 
@@ -30,60 +30,11 @@ pub struct Plan {
     pub next: usize,
 }
 
-#[derive(Clone, Copy)]
-pub enum PlanAnswer {
-    Plan(Plan),
-    Refused(Refusal),
-}
-
-impl PlanAnswer {
-    // why it was refused; number 0 where it was not
-    pub fn refusal(self) -> Refusal
-        ensures { result ≡ refusal_of_plan self }
-    {
-        match self {
-            PlanAnswer::Plan(_p) => Refusal { number: 0, at: 0 },
-            PlanAnswer::Refused(why) => why,
-        }
-    }
-
-    // the same answer, refused at a place
-    fn at(self, place: usize) -> PlanAnswer
-        ensures { plan_said result ≡ marked place (plan_said self) }
-    {
-        match self {
-            PlanAnswer::Plan(p) => PlanAnswer::Plan(p),
-            PlanAnswer::Refused(why) => PlanAnswer::Refused(why.at(place)),
-        }
-    }
-}
-
-#[derive(Clone, Copy)]
-pub enum CountsAnswer {
-    Counts { n: usize, next: usize },
-    Refused(Refusal),
-}
-
-impl CountsAnswer {
-    // why they were refused; number 0 where they were not
-    pub fn refusal(self) -> Refusal
-        ensures { result ≡ refusal_of_counts self }
-    {
-        match self {
-            CountsAnswer::Counts { n: _n, next: _next } => Refusal { number: 0, at: 0 },
-            CountsAnswer::Refused(why) => why,
-        }
-    }
-
-    // the same answer, refused at a place
-    fn at(self, place: usize) -> CountsAnswer
-        ensures { counts_said result ≡ marked place (counts_said self) }
-    {
-        match self {
-            CountsAnswer::Counts { n, next } => CountsAnswer::Counts { n, next },
-            CountsAnswer::Refused(why) => CountsAnswer::Refused(why.at(place)),
-        }
-    }
+// how many counts, and where they end
+#[derive(Clone, Copy, Debug, PartialEq, Eq)]
+pub struct Counts {
+    pub n: usize,
+    pub next: usize,
 }
 
 fn run_bytes(n: usize, bits: usize) -> usize
@@ -101,15 +52,15 @@ fn index_width(entries: usize) -> usize
     (64 - u64::leading_zeros(entries as u64 - 1)) as usize
 }
 
-fn plan_plain(len: usize, n: usize, bits: usize, at: usize) -> PlanAnswer
+fn plan_plain(len: usize, n: usize, bits: usize, at: usize) -> Result<Plan, Refusal>
     requires { (n ≤ 256) × (bits ≤ 31) × (at ≤ len) }
-    ensures { plan_said result ≡ fits len (plain_plan n bits at) }
+    ensures { result ≡ fits len (plain_plan n bits at) }
 {
     let size = run_bytes(n, bits);
     if len - at < size {
-        return PlanAnswer::Refused(Refusal { number: 1, at: 0 });
+        return Err(Refusal { number: 1, at: 0 });
     }
-    PlanAnswer::Plan(Plan {
+    Ok(Plan {
         n,
         bits,
         entries: 0,
@@ -120,18 +71,24 @@ fn plan_plain(len: usize, n: usize, bits: usize, at: usize) -> PlanAnswer
     })
 }
 
-fn plan_table(len: usize, n: usize, bits: usize, entries: usize, table: usize) -> PlanAnswer
+fn plan_table(
+    len: usize,
+    n: usize,
+    bits: usize,
+    entries: usize,
+    table: usize,
+) -> Result<Plan, Refusal>
     requires { (n ≤ 256) × (bits ≤ 31) × (1 ≤ entries) × (entries ≤ 255) × (table ≤ len) }
-    ensures { plan_said result ≡ fits len (table_plan n bits entries table) }
+    ensures { result ≡ fits len (table_plan n bits entries table) }
 {
     let width = index_width(entries);
     let first = run_bytes(entries - 1, bits);
     let size = first + run_bytes(n, width);
     if len - table < size {
-        return PlanAnswer::Refused(Refusal { number: 1, at: 0 });
+        return Err(Refusal { number: 1, at: 0 });
     }
     let at = table + first;
-    PlanAnswer::Plan(Plan {
+    Ok(Plan {
         n,
         bits,
         entries,
@@ -143,44 +100,32 @@ fn plan_table(len: usize, n: usize, bits: usize, entries: usize, table: usize) -
 }
 
 // bit 5 is set: a table comes first
-fn inspect_table(s: &[u8], at: usize, n: usize, bits: usize) -> PlanAnswer
+fn inspect_table(s: &[u8], at: usize, n: usize, bits: usize) -> Result<Plan, Refusal>
     requires { (n ≤ 256) × (bits ≤ 31) }
-    ensures { plan_said result ≡ tabled s.now at n bits }
+    ensures { result ≡ tabled s.now at n bits }
 {
     if bits == 0 {
-        return PlanAnswer::Refused(Refusal { number: 8, at: 0 });
+        return Err(Refusal { number: 8, at: 0 });
     }
-    let a = lerc_words::word(s, at, 1);
-    let WordAnswer::Word(entries) = a else {
-        let why = a.refusal();
-        return PlanAnswer::Refused(why.at(0));
-    };
+    let entries = lerc_words::marked(lerc_words::word(s, at, 1), 0)?;
     if entries < 2 {
-        return PlanAnswer::Refused(Refusal { number: 8, at: 0 });
+        return Err(Refusal { number: 8, at: 0 });
     }
     plan_table(s.len(), n, bits, entries as usize, at + 1)
 }
 
 // where the packed counts at `start` stand; a refusal tells no place
-fn find(s: &[u8], start: usize) -> PlanAnswer
-    ensures { plan_said result ≡ plan s.now start }
+fn find(s: &[u8], start: usize) -> Result<Plan, Refusal>
+    ensures { result ≡ plan s.now start }
 {
-    let a = lerc_words::word(s, start, 1);
-    let WordAnswer::Word(h) = a else {
-        let why = a.refusal();
-        return PlanAnswer::Refused(why.at(0));
-    };
+    let h = lerc_words::marked(lerc_words::word(s, start, 1), 0)?;
     if 3 <= h / 64 {
-        return PlanAnswer::Refused(Refusal { number: 8, at: 0 });
+        return Err(Refusal { number: 8, at: 0 });
     }
     let size: usize = 4 >> (h / 64);
-    let b = lerc_words::word(s, start + 1, size);
-    let WordAnswer::Word(n) = b else {
-        let why = b.refusal();
-        return PlanAnswer::Refused(why.at(0));
-    };
+    let n = lerc_words::marked(lerc_words::word(s, start + 1, size), 0)?;
     if 256 < n {
-        return PlanAnswer::Refused(Refusal { number: 8, at: 0 });
+        return Err(Refusal { number: 8, at: 0 });
     }
     let at = start + 1 + size;
     let bits = (h % 32) as usize;
@@ -191,11 +136,11 @@ fn find(s: &[u8], start: usize) -> PlanAnswer
 }
 
 // where the packed counts at `start` stand; their values are not looked at. A refusal is at their first byte
-pub fn inspect(s: &[u8], start: usize) -> PlanAnswer
-    ensures { plan_said result ≡ marked start (plan s.now start) }
+pub fn inspect(s: &[u8], start: usize) -> Result<Plan, Refusal>
+    ensures { result ≡ marked start (plan s.now start) }
 {
     let found = find(s, start);
-    found.at(start)
+    lerc_words::marked(found, start)
 }
 
 // the lowest value in a word
@@ -221,7 +166,7 @@ fn put_four(v: u64, bits: usize, k: usize, out: &mut [u32])
     out[k + 3] = lowest(d, bits);
 }
 
-// values of at most eight bits, eight from each word: a group starts on a byte
+// values of at most eight bits, eight from each word: a group starts on a byte; `step_by` takes 3 instructions more a call
 fn unpack_eights(s: &[u8], at: usize, n: usize, bits: usize, out: &mut [u32])
     requires { (n ≤ 256) × (bits ≤ 8) × (at ≤ length s.now) × (n ≤ length out.old) }
     ensures { out.new ≡ begun s.now at n bits (n - n % 8) out.old }
@@ -237,7 +182,8 @@ fn unpack_eights(s: &[u8], at: usize, n: usize, bits: usize, out: &mut [u32])
     }
 }
 
-// values of at most sixteen bits, four from each word: a group starts on a byte or in its middle
+// values of at most sixteen bits, four from each word: a group starts on a byte or in its middle;
+// `step_by` takes 27 instructions more for 64 values
 fn unpack_fours(s: &[u8], at: usize, n: usize, bits: usize, out: &mut [u32])
     requires { (n ≤ 256) × (bits ≤ 16) × (at ≤ length s.now) × (n ≤ length out.old) }
     ensures { out.new ≡ begun s.now at n bits (n - n % 4) out.old }
@@ -260,13 +206,11 @@ fn unpack_from(s: &[u8], at: usize, first: usize, n: usize, bits: usize, out: &m
     ensures { out.new ≡ begun s.now at n bits n out.old }
 {
     let mut bit = first * bits;
-    let mut k = first;
-    while k < n {
+    for k in first..n {
         let v = lerc_words::peek(s, at + bit / 8);
         let r = bit % 8;
         out[k] = lowest(v >> r, bits);
         bit += bits;
-        k += 1;
     }
 }
 
@@ -292,14 +236,7 @@ fn all_below(index: &[u32], n: usize, entries: usize) -> bool
     requires { n ≤ length index.now }
     ensures { result ≡ all_below n entries index.now }
 {
-    let mut k = 0;
-    while k < n {
-        if entries <= index[k] as usize {
-            return false;
-        }
-        k += 1;
-    }
-    true
+    index[..n].iter().all(|i| (*i as usize) < entries)
 }
 
 fn look_up(table: &[u32], index: &[u32], n: usize, entries: usize, out: &mut [u32])
@@ -307,16 +244,14 @@ fn look_up(table: &[u32], index: &[u32], n: usize, entries: usize, out: &mut [u3
     requires index_value { all_below n entries index.now ≡ true }
     ensures { out.new ≡ chosen n table.now index.now ++ drop n out.old }
 {
-    let mut k = 0;
-    while k < n {
+    for k in 0..n {
         let i = index[k] as usize;
         out[k] = table[i];
-        k += 1;
     }
 }
 
 // what the indices name, unless one of them is too large
-fn decode_table(s: &[u8], p: Plan, out: &mut [u32; 256]) -> CountsAnswer
+fn decode_table(s: &[u8], p: Plan, out: &mut [u32; 256]) -> Result<Counts, Refusal>
     requires { PlanKept (length s.now) p × (1 ≤ p.entries) }
     ensures { CountsDecoded (unpacked s.now p) result out.old out.new }
 {
@@ -326,12 +261,12 @@ fn decode_table(s: &[u8], p: Plan, out: &mut [u32; 256]) -> CountsAnswer
     unpack(s, p.at, p.n, p.width, &mut index);
     if all_below(&index, p.n, p.entries) {
         look_up(&table, &index, p.n, p.entries, out);
-        return CountsAnswer::Counts {
+        return Ok(Counts {
             n: p.n,
             next: p.next,
-        };
+        });
     }
-    CountsAnswer::Refused(Refusal { number: 8, at: 0 })
+    Err(Refusal { number: 8, at: 0 })
 }
 
 // whether a plan keeps to its bounds in a slice of `len` bytes, as each that `inspect` gives does
@@ -344,31 +279,31 @@ fn keeps_bounds(len: usize, p: Plan) -> bool
 }
 
 // the counts of a plan: their values to the front of `out`, or a refusal, which leaves `out` and is at 0: a plan by value has no place
-pub fn decode_plan(s: &[u8], p: Plan, out: &mut [u32; 256]) -> CountsAnswer
+pub fn decode_plan(s: &[u8], p: Plan, out: &mut [u32; 256]) -> Result<Counts, Refusal>
     ensures { CountsDecoded (counts_by s.now p) result out.old out.new }
 {
     if !keeps_bounds(s.len(), p) {
-        return CountsAnswer::Refused(Refusal { number: 8, at: 0 });
+        return Err(Refusal { number: 8, at: 0 });
     }
     if p.entries == 0 {
         unpack(s, p.at, p.n, p.width, out);
-        return CountsAnswer::Counts {
+        return Ok(Counts {
             n: p.n,
             next: p.next,
-        };
+        });
     }
     decode_table(s, p, out)
 }
 
 // packed counts at `start`: their values to the front of `out`, or a refusal at `start`, which leaves `out`
-pub fn decode(s: &[u8], start: usize, out: &mut [u32; 256]) -> CountsAnswer
+pub fn decode(s: &[u8], start: usize, out: &mut [u32; 256]) -> Result<Counts, Refusal>
     ensures { CountsDecoded (marked start (counts s.now start)) result out.old out.new }
 {
-    let a = inspect(s, start);
-    let PlanAnswer::Plan(p) = a else {
-        let why = a.refusal();
-        return CountsAnswer::Refused(why);
+    // no `?`: twenty instructions more for each table, since it takes the plan's first word apart
+    let p = match inspect(s, start) {
+        Ok(p) => p,
+        Err(why) => return Err(why),
     };
     let got = decode_plan(s, p, out);
-    got.at(start)
+    lerc_words::marked(got, start)
 }

@@ -23,13 +23,11 @@ use Rattle.lerc_bits.proofs.Values.{unpacked-is, unpacked-eight}
 use Rattle.lerc_block.specs.declared.plan.StoredOffset.{StoredOffset}
 use Rattle.lerc_block.specs.declared.plan.Form.TheVariants as coded
 use Rattle.lerc_block.specs.declared.plan.BlockPlan.{BlockPlan}
-use Rattle.lerc_block.specs.declared.plan.BlockPlanAnswer.{BlockPlanAnswer}
-use Rattle.lerc_block.specs.declared.plan.BlockPlanAnswer.TheVariants as answer
 use Rattle.lerc_block.specs.Block.{Block, raw_words, level_block, stepped_block, offset_at, finite_offset, offset_block, formed, flag_at, block_says, tile_limit, read_block_says}
-use Rattle.lerc_block.specs.Plan.{raw_plan, finite_word, stepped_plan, offset_plan, form_plan, plan_at, plan_says, plan_said, refusal_of_plan, offset_value, stepped_words, form_words, ended, planned_block, plan_end}
+use Rattle.lerc_block.specs.Plan.{raw_plan, finite_word, stepped_plan, offset_plan, form_plan, plan_at, plan_says, offset_value, stepped_words, form_words, ended, planned_block, plan_end}
 use Rattle.lerc_block.specs.Steps.{step_word}
 use Rattle.lerc_block.specs.Check.{read_flag, OffsetHeld, Sound}
-use Rattle.lerc_block.proofs.Returns.{said_ok, said-no, read-flag-is, flag_is}
+use Rattle.lerc_block.proofs.Returns.{read-flag-is, flag_is}
 use Rattle.lerc_block.proofs.Planning.{plan-flagged}
 
 -- ---- raw words
@@ -221,13 +219,13 @@ module _ (s : List ℕ) (y : Bytes s) (kind n : ℕ) {p : BlockPlan} where
 
 -- ---- what an answer of `inspect_block` says of the block
 
-module _ (s : List ℕ) (at kind x n : ℕ) {r : BlockPlanAnswer} (e : plan_said r ≡ plan_says s at kind x n) where
-  module _ {p : BlockPlan} (d : r ≡ answer.Plan p) where
+module _ (s : List ℕ) (at kind x n : ℕ) {r : Res BlockPlan} (e : r ≡ plan_says s at kind x n) where
+  module _ {p : BlockPlan} (d : r ≡ ok p) where
     pub answered-words : (error top : ℕ) → read_block_says s at kind error top x n ≡ planned_block s kind error top n p
-    answered-words error top = read-planned s at kind error top x n ∙ bind_ok _ (said_ok plan_said e d refl)
+    answered-words error top = read-planned s at kind error top x n ∙ bind_ok _ (sym e ∙ d)
 
     pub answered-sound : Bytes s → (n ≤ 256) × Sound s kind n p.form
-    answered-sound y = plan-sound s y kind n at x (said_ok plan_said e d refl)
+    answered-sound y = plan-sound s y kind n at x (sym e ∙ d)
 
-  pub answered-no : (error top : ℕ) {given why : Refusal} → r ≡ answer.Refused given → why ≡ refusal_of_plan r → read_block_says s at kind error top x n ≡ fail why
-  answered-no error top d f = read-planned s at kind error top x n ∙ bind-no _ (said-no plan_said e d refusal_of_plan f refl)
+  pub answered-no : (error top : ℕ) {why : Refusal} → r ≡ fail why → read_block_says s at kind error top x n ≡ fail why
+  answered-no error top d = read-planned s at kind error top x n ∙ bind-no _ (sym e ∙ d)

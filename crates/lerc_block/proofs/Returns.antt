@@ -4,7 +4,6 @@ use mathlib.Core.Path.{◌≡◌, refl, sym, ap, ◌∙◌}
 use mathlib.Core.Bool.{true}
 use mathlib.Core.List.{List, [], ◌++◌}
 use Prim.Native.Nat.{ℕ, zero, suc, ◌+◌, ◌/◌, ◌%◌, ◌≤◌, ◌<◌}
-use native.Mathlib.Omega.{arith}
 use native.Mathlib.Nat.{not-suc-le-zero}
 use borrow.Author.Tests.{le-leb, lt-leb, leb-true, eq-eqb, ne_eqb}
 use lib.Dec.{leb, eqb}
@@ -19,41 +18,30 @@ use Rattle.lerc_words.proofs.Little.{Bytes, word_at-is, byte-lt}
 use Rattle.lerc_numeric.specs.Numeric.{finite}
 use Rattle.lerc_numeric.specs.Kinds.{type_size}
 use Rattle.lerc_samples.specs.Samples.{sample_at, stored, offset_kind}
-use Rattle.lerc_block.specs.declared.BlockAnswer.{BlockAnswer}
-use Rattle.lerc_block.specs.declared.BlockAnswer.TheVariants as answer
-use Rattle.lerc_block.specs.Block.{Block, Offset, level_block, offset_at, finite_offset, flag_at, tile_limit, block_said, next_block, BlockRead}
+use Rattle.lerc_block.specs.Block.{Block, Offset, level_block, offset_at, finite_offset, flag_at, tile_limit, next_block, BlockRead}
 use Rattle.lerc_block.specs.Check.{read_flag}
-
--- ---- an answer that was taken apart, and what it says
-
-module _ {R A : Type 0} (said : R → Res A) {m : Res A} {r t : R} (e : said r ≡ m) (d : r ≡ t) where
-  pub said_ok : {v : A} → said t ≡ ok v → m ≡ ok v
-  said_ok f = sym e ∙ ap said d ∙ f
-
-  pub said-no : (refused : R → Refusal) {why : Refusal} → why ≡ refused r → said t ≡ fail (refused t) → m ≡ fail why
-  said-no refused f g = sym e ∙ ap said d ∙ g ∙ ap fail (sym (f ∙ ap refused d))
 
 -- ---- the promise
 
-pub refused : {m : Res Block} {r : Refusal} {old : List ℕ} → m ≡ fail r → BlockRead m (answer.Refused r) old old
-refused e = rw e (record { says = refl; words = refl })
+pub refused : {m : Res Block} {r : Res ℕ} {why : Refusal} {old : List ℕ} → r ≡ fail why → m ≡ fail why → BlockRead m r old old
+refused d e = rw (d, e) (record { says = refl; words = refl })
 
 pub given : {m : Res Block} (words : List ℕ) (n : ℕ) {next : ℕ} {old new : List ℕ} → m ≡ ok (record { words = words; next = next }) → length words ≡ n
-    → new ≡ words ++ drop n old → BlockRead m (answer.Block next) old new
+    → new ≡ words ++ drop n old → BlockRead m (ok next) old new
 given words n e l d = rw (e, d) (record { says = refl; words = rw (l) })
 
 -- another way of saying the same
 -- with a place on the answer
-pub next-at : (m : Res Block) (r q : BlockAnswer) (p : ℕ) → block_said r ≡ next_block m → block_said q ≡ marked p (block_said r) → block_said q ≡ next_block (marked p m)
+pub next-at : (m : Res Block) (r q : Res ℕ) (p : ℕ) → r ≡ next_block m → q ≡ marked p r → q ≡ next_block (marked p m)
 next-at m r q p d e = e ∙ ap (marked p) d ∙ marked-tells p m (λ b. b.next)
 
-pub read_at : {m : Res Block} {r q : BlockAnswer} (p : ℕ) {old new : List ℕ} → BlockRead m r old new → block_said q ≡ marked p (block_said r) → BlockRead (marked p m) q old new
+pub read_at : {m : Res Block} {r q : Res ℕ} (p : ℕ) {old new : List ℕ} → BlockRead m r old new → q ≡ marked p r → BlockRead (marked p m) q old new
 read_at {m} {r} {q} p {old} d e = record {
   says = next-at m r q p d.says e;
   words = d.words ∙ sym (marked-after p m old (λ b. over b.words old));
 }
 
-pub likewise : {m k : Res Block} {r : BlockAnswer} {old new : List ℕ} → m ≡ k → BlockRead k r old new → BlockRead m r old new
+pub likewise : {m k : Res Block} {r : Res ℕ} {old new : List ℕ} → m ≡ k → BlockRead k r old new → BlockRead m r old new
 likewise e b = rw e b
 
 -- ---- low bits 3
@@ -151,12 +139,6 @@ read-flag-is s at x n {flag} e =
 
 -- ---- the promise leaves no room
 
-pub said_same : (a b : BlockAnswer) → block_said a ≡ block_said b → a ≡ b
-said_same (answer.Block p) (answer.Block q) e = ap answer.Block (ok-is e)
-said_same (answer.Block p) (answer.Refused r) e = absurd (let z : ◌≡◌ {A = ℕ} 0 1 = cc in omega arith)
-said_same (answer.Refused r) (answer.Block p) e = absurd (let z : ◌≡◌ {A = ℕ} 0 1 = cc in omega arith)
-said_same (answer.Refused r) (answer.Refused q) e = let z : r ≡ q = cc in ap answer.Refused z
-
 -- two outcomes that it allows coincide
-pub read_same : {m : Res Block} {a b : BlockAnswer} {old x y : List ℕ} → BlockRead m a old x → BlockRead m b old y → (a ≡ b) × (x ≡ y)
-read_same {m} {a} {b} p q = (said_same a b (p.says ∙ sym q.says), p.words ∙ sym q.words)
+pub read_same : {m : Res Block} {a b : Res ℕ} {old x y : List ℕ} → BlockRead m a old x → BlockRead m b old y → (a ≡ b) × (x ≡ y)
+read_same p q = (p.says ∙ sym q.says, p.words ∙ sym q.words)

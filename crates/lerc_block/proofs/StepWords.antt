@@ -18,31 +18,28 @@ use Rattle.lerc_bits.specs.Bits.{Counts, unpacked, PlanKept}
 use Rattle.lerc_bits.specs.Unpacking.{value_bits}
 use Rattle.lerc_bits.proofs.Returns.{CountsGiven}
 use Rattle.lerc_bits.proofs.Values.{unpacked-is, unpacked-bits}
-use Rattle.lerc_block.specs.declared.BlockAnswer.{BlockAnswer}
-use Rattle.lerc_block.specs.declared.BlockAnswer.TheVariants as answer
 use Rattle.lerc_block.specs.declared.plan.Steps.{Steps}
-use Rattle.lerc_block.specs.Block.{block_said}
 use Rattle.lerc_block.specs.Plan.{offset_value, stepped_words}
 use Rattle.lerc_block.specs.Steps.{step_word, BlockConverted, StepsPut, StepsTried, CountsOf}
 
 -- ---- words that were converted
 
-pub converted-all : {m : Res (List ℕ)} (front : List ℕ) {next : ℕ} {old new : List ℕ} → m ≡ ok front → new ≡ over front old → BlockConverted m next (answer.Block next) old new
+pub converted-all : {m : Res (List ℕ)} (front : List ℕ) {next : ℕ} {old new : List ℕ} → m ≡ ok front → new ≡ over front old → BlockConverted m next (ok next) old new
 converted-all front e d = record { says = rw e; words = λ ws f. let z : front ≡ ws = ok-is (sym e ∙ f) in rw (← z) d }
 
-pub converted-no : {m : Res (List ℕ)} {r : Refusal} {next : ℕ} {old new : List ℕ} → m ≡ fail r → BlockConverted m next (answer.Refused r) old new
-converted-no e = record { says = rw e; words = λ ws f. absurd (let z : ◌≡◌ {A = ℕ} 0 1 = cc in omega arith) }
+pub converted-no : {m : Res (List ℕ)} {r : Res ℕ} {why : Refusal} {next : ℕ} {old new : List ℕ} → r ≡ fail why → m ≡ fail why → BlockConverted m next r old new
+converted-no d e = record { says = rw (d, e); words = λ ws f. absurd (let z : ◌≡◌ {A = ℕ} 0 1 = cc in omega arith) }
 
-pub converted-fails : {m : Res (List ℕ)} {next : ℕ} {r : BlockAnswer} {q : Refusal} {old new : List ℕ} → BlockConverted m next r old new → r ≡ answer.Refused q → m ≡ fail q
-converted-fails {m} {next} {r} {q} c e = go m (sym c.says ∙ ap block_said e)
+pub converted-fails : {m : Res (List ℕ)} {next : ℕ} {r : Res ℕ} {q : Refusal} {old new : List ℕ} → BlockConverted m next r old new → r ≡ fail q → m ≡ fail q
+converted-fails {m} {next} {r} {q} c e = go m (sym c.says ∙ e)
   where
     go : (m : Res (List ℕ)) → (m >>= λ words. ok next) ≡ fail q → m ≡ fail q
     go (ok ws) g = absurd (let z : ◌≡◌ {A = ℕ} 0 1 = cc in omega arith)
     go (fail p) g = let z : p ≡ q = cc in ap fail z
 
 -- all words in front of an array
-pub converted-is : {m : Res (List ℕ)} {next end : ℕ} {r : BlockAnswer} {old new : List ℕ} → BlockConverted m next r old new → r ≡ answer.Block end → StepsPut m old new
-converted-is {m} {next} {end} {r} {old} {new} c e = go m (sym c.says ∙ ap block_said e) c.words
+pub converted-is : {m : Res (List ℕ)} {next end : ℕ} {r : Res ℕ} {old new : List ℕ} → BlockConverted m next r old new → r ≡ ok end → StepsPut m old new
+converted-is {m} {next} {end} {r} {old} {new} c e = go m (sym c.says ∙ e) c.words
   where
     go : (m : Res (List ℕ)) → (m >>= λ words. ok next) ≡ ok end → ((front : List ℕ) → m ≡ ok front → new ≡ over front old) → StepsPut m old new
     go (ok ws) g f = record { words = ws; is = refl; front = f ws refl }

@@ -1,15 +1,14 @@
 -- A usual head, read at once, tells the plan that the rules give.
 -- Assumes nothing.
 use mathlib.Core.Path.{◌≡◌, ◌∙◌, sym, ap, refl}
-use mathlib.Core.Bool.{true, ◌&&◌, and-eq-true_iff}
+use mathlib.Core.Bool.{true}
 use mathlib.Core.List.{List}
 use Prim.Native.Nat.{ℕ, ◌+◌, ◌-◌, ◌*◌, ◌/◌, ◌%◌, ◌^◌, ◌≤◌, ◌<◌}
 use native.Mathlib.Nat.{mul-le-mul}
 use native.Mathlib.Numerals.{add-one, add-two, add-three, add-four}
 use native.Mathlib.Omega.{arith}
-use borrow.Author.Tests.{ltb-true, eqb-true}
-use lib.Dec.{ltb, eqb}
 use lib.ListN.{length, get_or}
+use Rattle.std.proofs.Common.{Some}
 use Rattle.lerc_words.specs.Res.{ok, little, word_at}
 use Rattle.lerc_words.proofs.Little.{Bytes, little-low, byte_pow, unit, word_at-ok, word_at-is}
 use Rattle.lerc_words.proofs.Binding.{bind_ok}
@@ -28,9 +27,9 @@ use Rattle.lerc_block.proofs.Planning.{word_ok, steps-ok, offset-steps, plan-off
 use Rattle.lerc_block.proofs.Leads.{read-planned, plan-few, plan-any, plan-sound}
 use Rattle.lerc_block.proofs.Fitting.{steps_next}
 
--- another head tells nothing
-pub other : {A : Type 0} {end : ℕ} → end ≡ 0 → 0 < end → A
-other e l = absurd (omega (arith, e, l))
+-- what an answer holds
+pub some-is : {A : Type 0} {a b : A} → Some a ≡ Some b → b ≡ a
+some-is e = cc
 
 -- the bits of the counts are few
 pub bits-few : (n h : ℕ) → n < 256 → n * (h % 32) ≤ 7905
@@ -85,16 +84,9 @@ module _ (s : List ℕ) (at kind x : ℕ) (flag : ℕ) (first : word_at 1 s at �
 
 -- ---- what callers need of a head that was found
 
--- the test of `end` and of the number of counts
-pub both : (end m n : ℕ) → (ltb 0 end && eqb m n) ≡ true → (0 < end) × (m ≡ n)
-both end m n e = let t = (and-eq-true_iff _ _).0 e in (ltb-true 0 end t.0, eqb-true m n t.1)
-
-abbrev pub Found : List ℕ → ℕ → ℕ → ℕ → Head → Type 0
-Found s at kind x r = (n : ℕ) → 0 < r.end → plan_at s at kind x n ≡ ok (head_plan r)
-
-module _ (s : List ℕ) (at kind x : ℕ) {r : Head} (found : Found s at kind x r) (l : 0 < r.end) where
+module _ (s : List ℕ) (at kind x : ℕ) {r : Head} (found : (n : ℕ) → plan_at s at kind x n ≡ ok (head_plan r)) where
   pub found-plan : (n : ℕ) → n ≤ 256 → plan_says s at kind x n ≡ ok (head_plan r)
-  found-plan n h = plan-few s at kind x n h ∙ found n l
+  found-plan n h = plan-few s at kind x n h ∙ found n
 
   module _ (bytes : Bytes s) where
     pub found-sound : OffsetHeld kind r.offset × PlanKept (length s) (head_steps r).counts

@@ -3,7 +3,7 @@
 use mathlib.Core.Path.{◌≡◌, ◌∙◌, sym, ap}
 use mathlib.Core.Bool.{Bool, true, false, cond}
 use mathlib.Core.List.{List}
-use Prim.Native.Nat.{ℕ, ◌+◌, ◌-◌, ◌*◌, ◌%◌, ◌^◌, ◌≤◌, ◌<◌, min, max}
+use Prim.Native.Nat.{ℕ, ◌+◌, ◌-◌, ◌*◌, ◌%◌, ◌^◌, ◌≤◌, ◌<◌, min}
 use native.Mathlib.Nat.{mul-le-mul, lt_of_lt_of_le, add-mod-mod}
 use native.Mathlib.Decide.{dec_lt}
 use native.Mathlib.Omega.{arith}
@@ -64,28 +64,13 @@ lowest-sum size base y h =
 
 -- ---- the largest count
 
--- no count before place k is above `most`
-pub record LargestYet (counts : List ℕ) (k most : ℕ) : Type 0 where
-  pub few : k ≤ length counts
-  pub above : (i : ℕ) → i < k → get_or counts i 0 ≤ most
-
-pub largest-none : (counts : List ℕ) → LargestYet counts 0 0
-largest-none counts = record { few = omega arith; above = λ i l. absurd (omega arith) }
-
-module _ {counts : List ℕ} {k most : ℕ} (y : LargestYet counts k most) where
-  pub largest-more : (next : ℕ) → k < length counts → next ≡ max most (get_or counts k 0) → LargestYet counts (k + 1) next
-  largest-more next l e = record { few = omega arith; above = λ i m. go i m (dec_lt i k) }
-    where
-      go : (i : ℕ) → i < k + 1 → Dec (i < k) → get_or counts i 0 ≤ next
-      go i m (yes p) = omega (arith, y.above i p)
-      go i m (no p) = let z : i ≡ k = omega arith in rw (z) (omega (arith, e))
-
-  pub largest-all : length counts ≤ k → (i : ℕ) → get_or counts i 0 ≤ most
-  largest-all l i = go (dec_lt i k)
-    where
-      go : Dec (i < k) → get_or counts i 0 ≤ most
-      go (yes p) = y.above i p
-      go (no p) = let h : length counts ≤ i = omega arith in rw (get_or-eq_default counts 0 h) (omega arith)
+-- no entry within is above `most`, and past the end each is 0
+pub largest-all : (counts : List ℕ) (most : ℕ) → ((i : ℕ) → i < length counts → get_or counts i 0 ≤ most) → (i : ℕ) → get_or counts i 0 ≤ most
+largest-all counts most below i = go (dec_lt i (length counts))
+  where
+    go : Dec (i < length counts) → get_or counts i 0 ≤ most
+    go (yes l) = below i l
+    go (no n) = let l : length counts ≤ i = omega arith in rw (get_or-eq_default counts 0 l) (omega arith)
 
 -- where the largest does not pass the maximum, no count does
 pub below_last : (base step last most : ℕ) (counts : List ℕ) → ((i : ℕ) → get_or counts i 0 ≤ most) → base + step * most ≤ last → (i : ℕ) → base + step * get_or counts i 0 ≤ last

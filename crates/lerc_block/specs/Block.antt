@@ -1,16 +1,13 @@
 -- One block.
 -- Assumes nothing.
 use Rattle.std.specs.Prelude.{ℕ, ◌+◌, ◌*◌, ◌/◌, ◌%◌, ◌≡◌, cond, List, length, replicate, leb, eqb}
-use Rattle.lerc_words.specs.declared.Refusal.{Refusal}
-use Rattle.lerc_words.specs.Res.{Res, ok, fail, ◌>>=◌, refuse, require, word_at, little, each, after}
+use Rattle.lerc_words.specs.Res.{Res, ok, ◌>>=◌, require, word_at, little, each, after}
 use Rattle.lerc_words.specs.Lists.{tabulate, over}
 use Rattle.lerc_numeric.specs.Numeric.{finite}
 use Rattle.lerc_numeric.specs.Kinds.{type_size}
 use Rattle.lerc_numeric.specs.Steps.{step_of}
 use Rattle.lerc_samples.specs.Samples.{sample_at, stored, offset_kind}
 use Rattle.lerc_bits.specs.Bits.{counts}
-use Rattle.lerc_block.specs.declared.BlockAnswer.{BlockAnswer}
-use Rattle.lerc_block.specs.declared.BlockAnswer.TheVariants as answer
 
 -- the word of each valid pixel of the tile, in order, and where the next block begins
 pub record Block : Type 0 where
@@ -92,19 +89,11 @@ read_block_says s at kind error top x n = do
   _ ← require (leb n tile_limit) 8
   block_says s at kind error top x n
 
-abbrev pub block_said : BlockAnswer → Res ℕ
-block_said (answer.Block next) = ok next
-block_said (answer.Refused r) = fail r
-
 -- where the next block begins
 abbrev pub next_block : Res Block → Res ℕ
 next_block m = m >>= λ b. ok b.next
 
-abbrev pub refusal_of_block : BlockAnswer → Refusal
-refusal_of_block (answer.Block next) = refuse 0
-refusal_of_block (answer.Refused r) = r
-
 -- the words stand in front; a refusal leaves the array
-pub record BlockRead (m : Res Block) (r : BlockAnswer) (old new : List ℕ) : Type 0 where
-  pub says : block_said r ≡ next_block m
+pub record BlockRead (m : Res Block) (r : Res ℕ) (old new : List ℕ) : Type 0 where
+  pub says : r ≡ next_block m
   pub words : new ≡ after m old (λ b. over b.words old)

@@ -2,8 +2,7 @@
 -- read and judged here, front to back; the words are then what the plan leads to (block-planned).
 -- Assumes nothing.
 use Rattle.std.specs.Prelude.{ℕ, ◌+◌, ◌*◌, ◌/◌, ◌%◌, cond, List, length, replicate, leb, eqb}
-use Rattle.lerc_words.specs.declared.Refusal.{Refusal}
-use Rattle.lerc_words.specs.Res.{Res, ok, fail, ◌>>=◌, refuse, require, word_at, little, each}
+use Rattle.lerc_words.specs.Res.{Res, ok, ◌>>=◌, require, word_at, little, each}
 use Rattle.lerc_words.specs.Lists.{tabulate}
 use Rattle.lerc_numeric.specs.Numeric.{finite}
 use Rattle.lerc_numeric.specs.Kinds.{type_size, value_of}
@@ -15,8 +14,6 @@ use Rattle.lerc_block.specs.declared.plan.Steps.{Steps}
 use Rattle.lerc_block.specs.declared.plan.Form.{Form}
 use Rattle.lerc_block.specs.declared.plan.Form.TheVariants as coded
 use Rattle.lerc_block.specs.declared.plan.BlockPlan.{BlockPlan}
-use Rattle.lerc_block.specs.declared.plan.BlockPlanAnswer.{BlockPlanAnswer}
-use Rattle.lerc_block.specs.declared.plan.BlockPlanAnswer.TheVariants as answer
 use Rattle.lerc_block.specs.Block.{Block, flag_at, tile_limit}
 
 -- ---- what stands in front
@@ -95,17 +92,6 @@ ended next m = m >>= λ words. ok (record { words = words; next = next })
 -- the block of a plan
 unfoldable pub planned_block : List ℕ → ℕ → ℕ → ℕ → ℕ → BlockPlan → Res Block
 planned_block s kind error top n p = ended p.next (form_words s kind error top n p.form)
-
--- ---- the answers
-
-abbrev pub plan_said : BlockPlanAnswer → Res BlockPlan
-plan_said (answer.Plan p) = ok p
-plan_said (answer.Refused r) = fail r
-
--- why; 0 where it was not refused
-abbrev pub refusal_of_plan : BlockPlanAnswer → Refusal
-refusal_of_plan (answer.Plan p) = refuse 0
-refusal_of_plan (answer.Refused r) = r
 
 -- where the next block begins
 abbrev pub plan_end : Res BlockPlan → Res ℕ

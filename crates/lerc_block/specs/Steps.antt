@@ -5,16 +5,14 @@ use Rattle.lerc_words.specs.Res.{Res, ok, ◌>>=◌}
 use Rattle.lerc_words.specs.Lists.{over}
 use Rattle.lerc_numeric.specs.Steps.{step_of}
 use Rattle.lerc_samples.specs.Samples.{stored}
-use Rattle.lerc_block.specs.Block.{block_said}
-use Rattle.lerc_block.specs.declared.BlockAnswer.{BlockAnswer}
 
 -- the word of count q
 abbrev pub step_word : ℕ → ℕ → ℕ → ℕ → ℕ → Res ℕ
 step_word kind error top offset q = stored kind (step_of offset error top q)
 
 -- all words stand in front and `next` is answered, or the first refusal is; nothing is said of a refusal's array
-pub record BlockConverted (m : Res (List ℕ)) (next : ℕ) (r : BlockAnswer) (old new : List ℕ) : Type 0 where
-  pub says : block_said r ≡ (m >>= λ words. ok next)
+pub record BlockConverted (m : Res (List ℕ)) (next : ℕ) (r : Res ℕ) (old new : List ℕ) : Type 0 where
+  pub says : r ≡ (m >>= λ words. ok next)
   pub words : (front : List ℕ) → m ≡ ok front → new ≡ over front old
 
 -- all words stand in front

@@ -2,15 +2,13 @@
 ghost use Rattle.std.specs.Prelude.{◌≡◌, ℕ, ◌≤◌};
 ghost use Rattle.lerc_words.specs.Res.{marked};
 ghost use Rattle.lerc_block.specs.declared.plan.Form.TheVariants as Form;
-ghost use Rattle.lerc_block.specs.Block.{block_said, next_block, read_block_says};
+ghost use Rattle.lerc_block.specs.Block.{next_block, read_block_says};
 ghost use Rattle.lerc_block.specs.Plan.{stepped_words, ended, planned_block};
 ghost use Rattle.lerc_block.specs.Check.{steps_fit, Sound};
 
 use super::heads::usual_head;
-use super::plan::{BlockPlan, BlockPlanAnswer, Form, Steps, plan_block};
-use super::{BlockAnswer, read_steps};
-use lerc_bits::CountsAnswer;
-use lerc_samples::StoredAnswer;
+use super::plan::{BlockPlan, Form, Steps, plan_block};
+use super::read_steps;
 use lerc_words::Refusal;
 
 // whether no step can fail to be stored; a step of integers cannot where their maximum can be stored
@@ -23,11 +21,7 @@ fn steps_fit(kind: u32, error: u64, top: u64) -> bool
     if 0x8000_0000_0000_0000 <= error {
         return false;
     }
-    let a = lerc_samples::stored(top, kind);
-    let StoredAnswer::Word(_v) = a else {
-        return false;
-    };
-    true
+    lerc_samples::stored(top, kind).is_ok()
 }
 
 // low bits 1, whose values are not computed where they cannot fail
@@ -39,9 +33,9 @@ fn check_steps(
     error: u64,
     top: u64,
     n: usize,
-) -> BlockAnswer
+) -> Result<usize, Refusal>
     requires { (n ≤ 256) × Sound s.now kind n (Form.Stepped steps) }
-    ensures { block_said result ≡ next_block (ended next (stepped_words s.now kind error top n steps)) }
+    ensures { result ≡ next_block (ended next (stepped_words s.now kind error top n steps)) }
 {
     if !steps_fit(kind, error, top) {
         let mut words = [0u64; 256];
@@ -49,26 +43,29 @@ fn check_steps(
     }
     let counts = steps.counts;
     if counts.n != n {
-        return BlockAnswer::Refused(Refusal { number: 8, at: 0 });
+        return Err(Refusal { number: 8, at: 0 });
     }
-    let a = lerc_bits::check_plan(s, counts);
-    let CountsAnswer::Counts { n: _n, next: _next } = a else {
-        let why = a.refusal();
-        return BlockAnswer::Refused(why);
-    };
-    BlockAnswer::Block(next)
+    lerc_bits::check_plan(s, counts)?;
+    Ok(next)
 }
 
 // what `read_planned` answers, without the words; an offset can always be stored
-fn check_planned(s: &[u8], p: BlockPlan, kind: u32, error: u64, top: u64, n: usize) -> BlockAnswer
+fn check_planned(
+    s: &[u8],
+    p: BlockPlan,
+    kind: u32,
+    error: u64,
+    top: u64,
+    n: usize,
+) -> Result<usize, Refusal>
     requires { (n ≤ 256) × Sound s.now kind n p.form }
-    ensures { block_said result ≡ next_block (planned_block s.now kind error top n p) }
+    ensures { result ≡ next_block (planned_block s.now kind error top n p) }
 {
     let form = p.form;
     match form {
-        Form::Raw(_at) => BlockAnswer::Block(p.next),
-        Form::Zero => BlockAnswer::Block(p.next),
-        Form::Level(_offset) => BlockAnswer::Block(p.next),
+        Form::Raw(_at) => Ok(p.next),
+        Form::Zero => Ok(p.next),
+        Form::Level(_offset) => Ok(p.next),
         Form::Stepped(steps) => check_steps(s, steps, p.next, kind, error, top, n),
     }
 }
@@ -82,14 +79,10 @@ fn check_any(
     maximum: u64,
     x: usize,
     n: usize,
-) -> BlockAnswer
-    ensures { block_said result ≡ next_block (read_block_says s.now at kind error maximum x n) }
+) -> Result<usize, Refusal>
+    ensures { result ≡ next_block (read_block_says s.now at kind error maximum x n) }
 {
-    let a = plan_block(s, at, kind, x, n);
-    let BlockPlanAnswer::Plan(p) = a else {
-        let why = a.refusal();
-        return BlockAnswer::Refused(why);
-    };
+    let p = plan_block(s, at, kind, x, n)?;
     check_planned(s, p, kind, error, maximum, n)
 }
 
@@ -102,13 +95,14 @@ fn check_words(
     maximum: u64,
     x: usize,
     n: usize,
-) -> BlockAnswer
-    ensures { block_said result ≡ next_block (read_block_says s.now at kind error maximum x n) }
+) -> Result<usize, Refusal>
+    ensures { result ≡ next_block (read_block_says s.now at kind error maximum x n) }
 {
     if steps_fit(kind, error, maximum) {
-        let usual = usual_head(s, at, kind, x);
-        if (0 < usual.end) & (usual.n == n) {
-            return BlockAnswer::Block(usual.end);
+        if let Some(usual) = usual_head(s, at, kind, x) {
+            if usual.n == n {
+                return Ok(usual.end);
+            }
         }
     }
     check_any(s, at, kind, error, maximum, x, n)
@@ -123,9 +117,9 @@ pub fn check_block(
     maximum: u64,
     x: usize,
     n: usize,
-) -> BlockAnswer
-    ensures { block_said result ≡ next_block (marked at (read_block_says s.now at kind error maximum x n)) }
+) -> Result<usize, Refusal>
+    ensures { result ≡ next_block (marked at (read_block_says s.now at kind error maximum x n)) }
 {
     let got = check_words(s, at, kind, error, maximum, x, n);
-    got.at(at)
+    lerc_words::marked(got, at)
 }

@@ -1,18 +1,18 @@
 // The usual head of a block, read at once: an offset, and packed counts without a table, whose number is one byte.
 // Any other head is left to the functions that know each refusal.
-ghost use Rattle.std.specs.Prelude.{◌≡◌, ℕ, ◌+◌, ◌*◌, ◌≤◌, ◌<◌, length};
+ghost use Rattle.std.specs.Prelude.{◌≡◌, ℕ, ◌+◌, ◌*◌, ◌≤◌, length, Some};
 ghost use Rattle.lerc_words.specs.Res.{ok};
 ghost use Rattle.lerc_block.specs.Plan.{plan_at, stepped_plan};
+ghost use Rattle.lerc_block.specs.declared.heads.Head.{Head};
 ghost use Rattle.lerc_block.specs.Check.{head_steps, head_plan};
 
 use super::plan::{Steps, StoredOffset, finite_word};
 use lerc_bits::Plan;
-use lerc_samples::OffsetAnswer;
 
 // flag, offset, and two bytes in front of the counts
 const ROOM: usize = 11;
 
-// What such a head says. `end` is where the block ends, and 0 where the head is another one.
+// What such a head says.
 #[derive(Clone, Copy)]
 pub(crate) struct Head {
     pub offset: StoredOffset,
@@ -20,22 +20,11 @@ pub(crate) struct Head {
     pub bits: usize,
     // where the counts start
     pub at: usize,
+    // where the block ends
     pub end: usize,
 }
 
 impl Head {
-    fn other() -> Head
-        ensures { result.end ≡ 0 }
-    {
-        Head {
-            offset: StoredOffset { word: 0, kind: 0 },
-            n: 0,
-            bits: 0,
-            at: 0,
-            end: 0,
-        }
-    }
-
     pub(crate) fn steps(self) -> Steps
         ensures { result ≡ head_steps self }
     {
@@ -63,51 +52,52 @@ fn quad(a: u8, b: u8, c: u8, d: u8) -> u64
 }
 
 // behind the offset
-fn usual_counts(s: &[u8], at: usize, offset: StoredOffset) -> Head
+fn usual_counts(s: &[u8], at: usize, offset: StoredOffset) -> Option<Head>
     requires { at + 2 ≤ length s.now }
-    ensures { 0 < result.end → stepped_plan s.now at offset ≡ ok (head_plan result) }
+    ensures { (h : Head) → result ≡ Some h → stepped_plan s.now at offset ≡ ok (head_plan h) }
 {
     let h = s[at] as usize;
     if h / 32 != 4 {
-        return Head::other();
+        return None;
     }
     let bits = h % 32;
     let n = s[at + 1] as usize;
     let first = at + 2;
     let end = first + (n * bits + 7) / 8;
     if s.len() < end {
-        return Head::other();
+        return None;
     }
-    Head {
+    Some(Head {
         offset,
         n,
         bits,
         at: first,
         end,
-    }
+    })
 }
 
-// the head at `at`, of a tile that begins in column x, however many of its pixels are valid
-pub(crate) fn usual_head(s: &[u8], at: usize, kind: u32, x: usize) -> Head
-    ensures { (n : ℕ) → 0 < result.end → plan_at s.now at kind x n ≡ ok (head_plan result) }
+// the head at `at`, of a tile that begins in column x, however many of its pixels are valid; in line, or each call would hand its
+// seven words over in memory
+#[inline(always)]
+pub(crate) fn usual_head(s: &[u8], at: usize, kind: u32, x: usize) -> Option<Head>
+    ensures { (h : Head) → result ≡ Some h → (n : ℕ) → plan_at s.now at kind x n ≡ ok (head_plan h) }
 {
     let len = s.len();
     if len < ROOM {
-        return Head::other();
+        return None;
     }
     if len - ROOM < at {
-        return Head::other();
+        return None;
     }
     let flag = s[at] as u64;
     if flag % 4 != 1 {
-        return Head::other();
+        return None;
     }
     if flag / 4 % 16 != x as u64 / 8 % 16 {
-        return Head::other();
+        return None;
     }
-    let a = lerc_samples::offset_kind(kind, (flag / 64) as u32);
-    let OffsetAnswer::Kind(k) = a else {
-        return Head::other();
+    let Ok(k) = lerc_samples::offset_kind(kind, (flag / 64) as u32) else {
+        return None;
     };
     let size = lerc_numeric::size(k);
     // most offsets have at most four bytes
@@ -118,7 +108,7 @@ pub(crate) fn usual_head(s: &[u8], at: usize, kind: u32, x: usize) -> Head
         quad(s[at + 1], s[at + 2], s[at + 3], s[at + 4]) % base
     };
     if !finite_word(word, k) {
-        return Head::other();
+        return None;
     }
     usual_counts(s, at + 1 + size, StoredOffset { word, kind: k })
 }

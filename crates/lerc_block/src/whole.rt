@@ -1,6 +1,6 @@
 // Steps of kinds of integers by whole numbers, a block at once: where an error is half a whole number, no float is needed.
 // A number is counted from -2^32 on, so that none is negative.
-ghost use Rattle.std.specs.Prelude.{◌≡◌, false, ℕ, ◌+◌, ◌*◌, ◌%◌, ◌^◌, ◌≤◌, ◌<◌, min, max, length, get_or};
+ghost use Rattle.std.specs.Prelude.{◌≡◌, false, ℕ, ◌+◌, ◌*◌, ◌%◌, ◌^◌, ◌≤◌, ◌<◌, min, length, get_or};
 ghost use Rattle.lerc_words.specs.Lists.{over, tabulate};
 ghost use Rattle.lerc_words.specs.Res.{each};
 ghost use Rattle.lerc_block.specs.Plan.{offset_value};
@@ -8,28 +8,14 @@ ghost use Rattle.lerc_block.specs.Check.{OffsetHeld};
 ghost use Rattle.lerc_block.specs.Steps.{step_word, StepsTried, CountsOf};
 
 use super::plan::StoredOffset;
-use lerc_samples::StoredAnswer;
-
-fn lesser(a: u64, b: u64) -> u64
-    ensures { result ≡ min a b }
-{
-    if a < b { a } else { b }
-}
-
-fn greater(a: u32, b: u32) -> u32
-    ensures { result ≡ max a b }
-{
-    if a < b { b } else { a }
-}
 
 fn largest(counts: &[u32]) -> u32
     ensures { (i : ℕ) → get_or counts.now i 0 ≤ result }
 {
-    let mut most: u32 = 0;
-    let mut k = 0;
-    while k < counts.len() {
-        most = greater(most, counts[k]);
-        k += 1;
+    // in this order, and no `Iterator::max`, which takes more instructions on 64 counts
+    let mut most = 0;
+    for count in counts {
+        most = (*count).max(most);
     }
     most
 }
@@ -53,12 +39,10 @@ fn whole_free(counts: &[u32], base: u64, step: u64, size: usize, out: &mut [u64]
     ensures { out.new ≡ over (tabulate (length counts.now) (λ k. (base + step * get_or counts.now k 0) % 2 ^ (8 * size))) out.old }
 {
     let low: u64 = (1 << (8 * size)) - 1;
-    let mut k = 0;
-    while k < counts.len() {
-        let q = counts[k] as u64;
+    for (k, count) in counts.iter().enumerate() {
+        let q = *count as u64;
         // a word has at most 32 bits: of the product the lower 32 are enough, and these a wide loop has at a third of the cost
         out[k] = (base + (step * q & 0xffff_ffff)) & low;
-        k += 1;
     }
 }
 
@@ -67,11 +51,9 @@ fn whole_clamped(counts: &[u32], base: u64, step: u64, last: u64, size: usize, o
     ensures { out.new ≡ over (tabulate (length counts.now) (λ k. min (base + step * get_or counts.now k 0) last % 2 ^ (8 * size))) out.old }
 {
     let low: u64 = (1 << (8 * size)) - 1;
-    let mut k = 0;
-    while k < counts.len() {
-        let q = counts[k] as u64;
-        out[k] = lesser(base + step * q, last) & low;
-        k += 1;
+    for (k, count) in counts.iter().enumerate() {
+        let q = *count as u64;
+        out[k] = last.min(base + step * q) & low;
     }
 }
 
@@ -95,8 +77,7 @@ pub(crate) fn whole_steps(
     if 6 <= offset.kind {
         return false;
     }
-    let a = lerc_samples::stored(top, kind);
-    let StoredAnswer::Word(t) = a else {
+    let Ok(t) = lerc_samples::stored(top, kind) else {
         return false;
     };
     let base = lerc_numeric::raised(offset.word, offset.kind);

@@ -1,19 +1,15 @@
 -- How the lengths of a table are read and judged.
 -- Assumes nothing.
-use Rattle.std.proofs.Common.{◌≡◌, ℕ, ◌<◌, ◌≤◌, true, false, eqb, leb, List, ◌++◌, length, get_or, take, sym, refl, ap, ◌∙◌, arith, length-take, lt-ltb, eq-eqb, ne_eqb}
+use Rattle.std.proofs.Common.{◌≡◌, ℕ, ◌<◌, ◌≤◌, true, false, eqb, leb, List, ◌++◌, length, get_or, take, drop, sym, refl, ◌∙◌, arith, length-take, lt-ltb, eq-eqb, ne_eqb}
 use lib.Seq.{take-append_seam}
 use Rattle.lerc_words.specs.declared.Refusal.{Refusal}
-use Rattle.lerc_words.specs.Res.{Res, ok, fail, refuse, placed, marked}
-use Rattle.lerc_words.specs.Lists.{all_to}
-use Rattle.lerc_words.proofs.Binding.{ok-is}
-use Rattle.lerc_words.proofs.Marking.{Bare, bare-bind, bare-then, bare-cond, bare-no}
+use Rattle.lerc_words.specs.Res.{Res, ok, fail, refuse, marked}
+use Rattle.lerc_words.specs.Lists.{all_to, over}
+use Rattle.lerc_words.proofs.Marking.{Bare, unmarked, bare-bind, bare-then, bare-cond}
 use Rattle.lerc_bits.specs.declared.Plan.{Plan}
-use Rattle.lerc_bits.specs.declared.CountsAnswer.{CountsAnswer}
-use Rattle.lerc_bits.specs.declared.CountsAnswer.TheVariants as answer
-use Rattle.lerc_bits.specs.Bits.{run, all_below, values_of, looked_up, unpacked, plan, Counts, counts, Span, counts_said, refusal_of_counts, CountsDecoded}
-use Rattle.lerc_bits.proofs.Returns.{plan-bare}
+use Rattle.lerc_bits.specs.Bits.{run, all_below, values_of, looked_up, unpacked, plan, Counts, counts, Span, CountsDecoded}
+use Rattle.lerc_bits.proofs.Returns.{plan-bare, decoded-at, check-ok, check-no}
 use Rattle.lerc_bits.proofs.Values.{counts-few}
-use Rattle.lerc_byte_image.specs.declared.table.LengthsAnswer.TheVariants as lengths
 use Rattle.lerc_byte_image.specs.Table.{lengths_at}
 use Rattle.lerc_byte_image.specs.TableParts.{bits_of, all_short, LengthsRead}
 
@@ -36,28 +32,21 @@ pub record Found (s : List ℕ) (at n next : ℕ) (new : List ℕ) : Type 0 wher
   pub ends : c.next ≡ next
   pub front : take n new ≡ c.values
 
-module _ (s : List ℕ) (at : ℕ) {r : CountsAnswer} {old new : List ℕ} (d : CountsDecoded (marked at (counts s at)) r old new) where
-  pub decoded : {n next : ℕ} → r ≡ answer.Counts n next → Found s at n next new
-  decoded {n} {next} e = go (counts s at) d refl
-    where
-      go : (m : Res Counts) → CountsDecoded (marked at m) r old new → counts s at ≡ m → Found s at n next new
-      go (ok c) d f =
-          let z : ◌≡◌ {A = Res Span} (ok (record { n = n; next = next })) (ok (record { n = length c.values; next = c.next })) = ap counts_said (sym e) ∙ d.says in
-          let many : length c.values ≡ n = sym (ap (λ (x : Span). x.n) (ok-is z)) in
-          let ends : c.next ≡ next = sym (ap (λ (x : Span). x.next) (ok-is z)) in
-          record { c = c; read = f; many = many; ends = ends; front = rw (d.left, ← many) (take-append_seam c.values _) }
-      go (fail q) d f = absurd (let z : ◌≡◌ {A = ℕ} 0 1 = cc in omega arith)
+front-of : (vs old : List ℕ) {n : ℕ} {new : List ℕ} → new ≡ over vs old → length vs ≡ n → take n new ≡ vs
+front-of vs old e l = rw (e, ← l) (take-append_seam vs (drop (length vs) old))
 
-  -- refused, and the place taken off
-  pub undecoded : {q why : Refusal} → r ≡ answer.Refused q → why ≡ placed 0 (refusal_of_counts r) → counts s at ≡ fail why
-  undecoded {q} {why} e f = go (counts s at) d (counts-bare s at)
-    where
-      go : (m : Res Counts) → CountsDecoded (marked at m) r old new → Bare m → m ≡ fail why
-      go (ok c) d b = absurd (let z = d.says in let y : ◌≡◌ {A = ℕ} 0 1 = cc in omega arith)
-      go (fail p) d b =
-          let y : ◌≡◌ {A = Res Span} (fail q) (fail (placed at p)) = ap counts_said (sym e) ∙ d.says in
-          let z : placed at p ≡ q = cc in
-          bare-no at (fail p) b (ap fail z) (f ∙ ap (λ x. placed 0 (refusal_of_counts x)) e)
+module _ (s : List ℕ) (at : ℕ) {r q : Res Span} {old new : List ℕ} (d : CountsDecoded (marked at (counts s at)) r old new) (e : q ≡ marked 0 r) where
+  -- with the place taken off
+  bare : CountsDecoded (counts s at) q old new
+  bare = rw (unmarked at (counts s at), counts-bare s at) at (decoded-at 0 d e)
+
+  pub decoded : {t : Span} → q ≡ ok t → Found s at t.n t.next new
+  decoded f =
+      let (c, read, many, ends) = check-ok (counts s at) bare.says f in
+      record { c = c; read = read; many = many; ends = ends; front = front-of c.values old (rw (read) at bare.left) many }
+
+  pub undecoded : {why : Refusal} → q ≡ fail why → counts s at ≡ fail why
+  undecoded f = check-no (counts s at) bare.says f
 
 -- there are at most 256, and there is room for them
 module _ {s : List ℕ} {at n next : ℕ} {new : List ℕ} (f : Found s at n next new) where
@@ -103,7 +92,7 @@ module _ (s : List ℕ) (at n : ℕ) {c : Counts} (e : counts s at ≡ ok c) (d 
 
 -- and copied to the front
 pub lengths_read : {s : List ℕ} {at n next : ℕ} {new front : List ℕ} (rest : List ℕ) {bits : ℕ} (f : Found s at n next new)
-    → all_short f.c.values ≡ true → bits ≡ bits_of n f.c.values → 0 < bits → front ≡ take n new → LengthsRead s at n (lengths.Lengths next bits) (front ++ rest)
+    → all_short f.c.values ≡ true → bits ≡ bits_of n f.c.values → 0 < bits → front ≡ take n new → LengthsRead s at n (ok (record { next = next; bits = bits })) (front ++ rest)
 lengths_read {s} {at} {n} {next} {new} rest f h e k d =
     let z : take n (take n new ++ rest) ≡ f.c.values = rw (found-length f) at (take-append_seam (take n new) rest) ∙ f.front in
     rw (d, e) (record { says = rw (z, ← f.ends) (sym (lengths_some s at n f.read f.many h (rw (← e) k))); sum = rw (z) })

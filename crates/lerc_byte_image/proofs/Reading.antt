@@ -4,14 +4,13 @@ use Rattle.std.proofs.Common.{◌≡◌, ℕ, ◌+◌, ◌*◌, ◌<◌, ◌≤�
 use borrow.Author.Tests.{lt-leb}
 use lib.Seq.{take-append_seam}
 use Rattle.lerc_words.specs.declared.Refusal.{Refusal}
-use Rattle.lerc_words.specs.Res.{ok, fail, refuse, require}
+use Rattle.lerc_words.specs.Res.{Res, ok, fail, refuse, require}
 use Rattle.lerc_words.specs.Lists.{all_to, tabulate}
 use Rattle.lerc_words.proofs.Tables.{length-tabulate}
 use Rattle.lerc_words.proofs.Binding.{bind_is, require-is, ok-is}
 use Rattle.lerc_bits.specs.Bits.{Counts, counts}
 use Rattle.lerc_byte_image.specs.declared.table.Range.{Range}
-use Rattle.lerc_byte_image.specs.declared.table.TableAnswer.{TableAnswer}
-use Rattle.lerc_byte_image.specs.declared.table.TableAnswer.TheVariants as table-answer
+use Rattle.lerc_byte_image.specs.declared.table.TableHead.{TableHead}
 use Rattle.lerc_byte_image.specs.Table.{range_at, lengths_at, run_words, codes_at, Table, prefix_free, table_at}
 use Rattle.lerc_byte_image.specs.TableParts.{bits_of, all_short, rest_at}
 use Rattle.lerc_byte_image.specs.Parts.{table_said}
@@ -82,10 +81,10 @@ module _ (s : List ℕ) (r : Range) (next : ℕ) (lengths : List ℕ) where
       rw (← z) (refl, leb-true _ _ (require-is _ 1 h), require-is _ 8 f)
 
 -- the lengths may stand in front of others
-pub rest-front : (s : List ℕ) (r : Range) (next : ℕ) (lengths codes : List ℕ) (a : TableAnswer)
+pub rest-front : (s : List ℕ) (r : Range) (next : ℕ) (lengths codes : List ℕ) (a : Res TableHead)
     → table_said a (take r.count lengths) codes ≡ rest_at s r next (take r.count lengths) → table_said a lengths codes ≡ rest_at s r next (take r.count lengths)
-rest-front s r next lengths codes (table-answer.Refused why) e = e
-rest-front s r next lengths codes (table-answer.Table q start) e =
-    let z : q ≡ r = ap (λ (t : Table). t.range) (rest-is s r next (take r.count lengths) (sym e)).0 in
-    let d : take q.count (take r.count lengths) ≡ take q.count lengths = rw (z) (take-take r.count r.count lengths (omega arith)) in
+rest-front s r next lengths codes (fail why) e = e
+rest-front s r next lengths codes (ok h) e =
+    let z : h.range ≡ r = ap (λ (t : Table). t.range) (rest-is s r next (take r.count lengths) (sym e)).0 in
+    let d : take h.range.count (take r.count lengths) ≡ take h.range.count lengths = rw (z) (take-take r.count r.count lengths (omega arith)) in
     rw (d) at e

@@ -1,6 +1,6 @@
 -- The table that an image is written by, and where none is.
 -- Assumes nothing.
-use Rattle.std.proofs.Common.{◌≡◌, ℕ, ◌+◌, ◌≤◌, Bool, true, false, ◌&&◌, leb, List, length, take, sym, ap, ◌∙◌, arith, length-take, leb-true}
+use Rattle.std.proofs.Common.{◌≡◌, ℕ, ◌+◌, ◌≤◌, Bool, true, false, ◌&&◌, leb, List, length, take, sym, ap, arith, length-take, leb-true}
 use Rattle.lerc_words.specs.declared.Refusal.{Refusal}
 use Rattle.lerc_words.specs.Res.{ok, fail, after}
 use Rattle.lerc_words.proofs.Binding.{and_is}
@@ -9,9 +9,7 @@ use Rattle.lerc_header.specs.declared.Extent.{Extent}
 use Rattle.lerc_header.specs.Shape.{cells}
 use Rattle.lerc_header.specs.Header.{shape_of, held}
 use Rattle.lerc_header.proofs.Kept.{held-is}
-use Rattle.lerc_byte_image.specs.declared.table.Range.{Range}
-use Rattle.lerc_byte_image.specs.declared.table.TableAnswer.{TableAnswer}
-use Rattle.lerc_byte_image.specs.declared.table.TableAnswer.TheVariants as table-answer
+use Rattle.lerc_byte_image.specs.declared.table.TableHead.{TableHead}
 use Rattle.lerc_byte_image.specs.Table.{table_at}
 use Rattle.lerc_byte_image.specs.Image.{by_table, write_table, written_image}
 use Rattle.lerc_byte_image.specs.Parts.{table_by, table_said, Kept, Behind}
@@ -23,27 +21,26 @@ take_in : (n : ℕ) (xs : List ℕ) → length (take n xs) ≡ n → n ≤ lengt
 take_in n xs e = omega (arith, rw (length-take) at e)
 
 -- a table that was read
-module _ (s : List ℕ) (at : ℕ) (r : Range) (start : ℕ) (lengths codes : List ℕ) {answer : TableAnswer}
-    (says : table_said answer lengths codes ≡ table_at s at) (is : answer ≡ table-answer.Table r start) where
-  pub read_is : table_at s at ≡ ok (table_by r start (take r.count lengths) (take r.count codes))
-  read_is = sym says ∙ ap (λ (x : TableAnswer). table_said x lengths codes) is
+module _ (s : List ℕ) (at : ℕ) (t : TableHead) (lengths codes : List ℕ) (says : table_said (ok t) lengths codes ≡ table_at s at) where
+  pub read_is : table_at s at ≡ ok (table_by t.range t.start (take t.range.count lengths) (take t.range.count codes))
+  read_is = sym says
 
-  kept : Kept (table_by r start (take r.count lengths) (take r.count codes))
+  kept : Kept (table_by t.range t.start (take t.range.count lengths) (take t.range.count codes))
   kept = (table_kept s at _ read_is).0
 
-  pub lengths-in : r.count ≤ length lengths
-  lengths-in = take_in r.count lengths kept.lengths
+  pub lengths-in : t.range.count ≤ length lengths
+  lengths-in = take_in t.range.count lengths kept.lengths
 
-  pub codes-in : r.count ≤ length codes
-  codes-in = take_in r.count codes kept.codes
+  pub codes-in : t.range.count ≤ length codes
+  codes-in = take_in t.range.count codes kept.codes
 
-  pub lengths-cut : r.count ≡ length (take r.count lengths)
+  pub lengths-cut : t.range.count ≡ length (take t.range.count lengths)
   lengths-cut = sym kept.lengths
 
-  pub codes-cut : r.count ≡ length (take r.count codes)
+  pub codes-cut : t.range.count ≡ length (take t.range.count codes)
   codes-cut = sym kept.codes
 
-  pub read_behind : length s ≤ 16777216 → Behind s (table_by r start (take r.count lengths) (take r.count codes)) 0
+  pub read_behind : length s ≤ 16777216 → Behind s (table_by t.range t.start (take t.range.count lengths) (take t.range.count codes)) 0
   read_behind l = record { kept = kept; short = l; inside = (table_kept s at _ read_is).1; at = omega arith }
 
 -- ---- the tests before it

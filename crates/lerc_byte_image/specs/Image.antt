@@ -1,8 +1,7 @@
 -- What the public functions promise.
 -- Assumes nothing.
 use Rattle.std.specs.Prelude.{ℕ, zero, suc, ◌+◌, ◌*◌, Bool, ◌&&◌, List, length, take, nat_le}
-use Rattle.lerc_words.specs.declared.Refusal.{Refusal}
-use Rattle.lerc_words.specs.Res.{Res, ok, fail, ◌>>=◌, refuse, marked, require, after}
+use Rattle.lerc_words.specs.Res.{Res, ok, fail, ◌>>=◌, marked, require, after}
 use Rattle.lerc_header.specs.declared.Header.{Header}
 use Rattle.lerc_header.specs.Header.{shape_of, held}
 use Rattle.lerc_image.specs.Geometry.{is_valid_cell}
@@ -10,8 +9,6 @@ use Rattle.lerc_image.specs.Paint.{painted}
 use Rattle.lerc_byte_image.specs.Table.{Table, table_at}
 use Rattle.lerc_byte_image.specs.Symbols.{Symbol, symbol_at, Coded, coded_at}
 use Rattle.lerc_byte_image.specs.Prediction.{byte_word}
-use Rattle.lerc_byte_image.specs.declared.EndAnswer.{EndAnswer}
-use Rattle.lerc_byte_image.specs.declared.EndAnswer.TheVariants as answer
 
 -- ---- check: nothing is written
 
@@ -28,14 +25,6 @@ checked_image b h mode = do
 -- where it ends
 abbrev pub ended : Res Coded → Res ℕ
 ended c = c >>= λ x. ok x.end
-
-abbrev pub end_said : EndAnswer → Res ℕ
-end_said (answer.End end) = ok end
-end_said (answer.Refused r) = fail r
-
-abbrev pub refusal_of_end : EndAnswer → Refusal
-refusal_of_end (answer.End end) = refuse 0
-refusal_of_end (answer.Refused r) = r
 
 -- ---- write: nothing is refused
 

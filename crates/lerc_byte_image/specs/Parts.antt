@@ -3,8 +3,7 @@
 use Rattle.std.specs.Prelude.{◌≡◌, ℕ, ◌+◌, ◌-◌, ◌*◌, ◌/◌, ◌^◌, ◌<◌, ◌≤◌, true, ◌⊎◌, List, length, take, slice_index}
 use Rattle.lerc_words.specs.Res.{Res, ok, fail}
 use Rattle.lerc_byte_image.specs.declared.table.Range.{Range}
-use Rattle.lerc_byte_image.specs.declared.table.TableAnswer.{TableAnswer}
-use Rattle.lerc_byte_image.specs.declared.table.TableAnswer.TheVariants as table-answer
+use Rattle.lerc_byte_image.specs.declared.table.TableHead.{TableHead}
 use Rattle.lerc_byte_image.specs.Table.{Table, length_of, code_of, symbol_of, prefix_free}
 use Rattle.lerc_byte_image.specs.Symbols.{Symbol, symbol_at, bits_there}
 
@@ -14,9 +13,9 @@ abbrev pub table_by : Range → ℕ → List ℕ → List ℕ → Table
 table_by r start lengths codes = record { range = r; lengths = lengths; codes = codes; start = start }
 
 -- lengths and codes stand in front
-abbrev pub table_said : TableAnswer → List ℕ → List ℕ → Res Table
-table_said (table-answer.Table r start) lengths codes = ok (table_by r start (take r.count lengths) (take r.count codes))
-table_said (table-answer.Refused why) lengths codes = fail why
+abbrev pub table_said : Res TableHead → List ℕ → List ℕ → Res Table
+table_said (ok t) lengths codes = ok (table_by t.range t.start (take t.range.count lengths) (take t.range.count codes))
+table_said (fail why) lengths codes = fail why
 
 -- what every accepted table keeps to
 pub record Kept (t : Table) : Type 0 where

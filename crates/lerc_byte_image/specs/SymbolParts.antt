@@ -1,9 +1,7 @@
 -- What the private functions of the symbols promise; not part of the rules.
 -- Assumes nothing.
 use Rattle.std.specs.Prelude.{◌≡◌, ℕ, ◌-◌, ◌/◌, ◌^◌, ◌<◌, ◌≤◌, min, Bool, true, false, cond, ◌&&◌, List, length, ◌==◌, nat_le, nat_lt, slice_index}
-use Rattle.lerc_words.specs.Res.{Res, ok, fail, ◌>>=◌, require}
-use Rattle.lerc_byte_image.specs.declared.symbols.BitsAnswer.{BitsAnswer}
-use Rattle.lerc_byte_image.specs.declared.symbols.BitsAnswer.TheVariants as bits-answer
+use Rattle.lerc_words.specs.Res.{Res, ok, ◌>>=◌, require}
 use Rattle.lerc_byte_image.specs.Table.{Table, bits_at}
 use Rattle.lerc_byte_image.specs.Symbols.{first_of, bits_there, agrees, Run, symbols_from, end_of}
 
@@ -33,10 +31,6 @@ pub record Put (len code entry : ℕ) (before behind : List ℕ) : Type 0 where
   pub each : (v : ℕ) → v < 4096 → Entry len code entry (slice_index before v) (slice_index behind v) v
 
 -- ---- all symbols
-
-abbrev pub bits_said : BitsAnswer → Res ℕ
-bits_said (bits-answer.Bits p) = ok p
-bits_said (bits-answer.Refused r) = fail r
 
 abbrev pub bits_in : Res Run → Res ℕ
 bits_in r = r >>= λ x. ok x.bits

@@ -1,27 +1,14 @@
 -- What the functions of the table promise one another; not part of the rules.
 -- Assumes nothing.
 use Rattle.std.specs.Prelude.{◌≡◌, ℕ, ◌+◌, ◌-◌, ◌*◌, ◌/◌, ◌^◌, ◌≤◌, Bool, true, not, ◌&&◌, leb, List, length, take, ◌==◌, nat_le, nat_lt, slice_index}
-use Rattle.lerc_words.specs.declared.Refusal.{Refusal}
-use Rattle.lerc_words.specs.Res.{Res, ok, ◌>>=◌, fail, refuse, require, word_at}
+use Rattle.lerc_words.specs.Res.{Res, ok, ◌>>=◌, fail, require, word_at}
 use Rattle.lerc_words.specs.Lists.{total, all_to}
 use Rattle.lerc_bits.specs.Bits.{Counts}
 use Rattle.lerc_byte_image.specs.declared.table.Range.{Range}
-use Rattle.lerc_byte_image.specs.declared.table.RangeAnswer.{RangeAnswer}
-use Rattle.lerc_byte_image.specs.declared.table.RangeAnswer.TheVariants as range
-use Rattle.lerc_byte_image.specs.declared.table.LengthsAnswer.{LengthsAnswer}
-use Rattle.lerc_byte_image.specs.declared.table.LengthsAnswer.TheVariants as lengths
+use Rattle.lerc_byte_image.specs.declared.table.CodesPlace.{CodesPlace}
 use Rattle.lerc_byte_image.specs.Table.{lengths_at, run_words, codes_at, Table, prefix_free}
 
 -- ---- the four integers
-
-abbrev pub range_said : RangeAnswer → Res Range
-range_said (range.Range r) = ok r
-range_said (range.Refused why) = fail why
-
--- why; 0 where it was not refused
-abbrev pub refusal_of_range : RangeAnswer → Refusal
-refusal_of_range (range.Range r) = refuse 0
-refusal_of_range (range.Refused why) = why
 
 -- the three behind the version
 unfoldable pub sizes_at : List ℕ → ℕ → Res Range
@@ -44,16 +31,16 @@ abbrev pub all_short : List ℕ → Bool
 all_short vs = all_to (length vs) (λ k. leb (slice_index vs k) 32)
 
 -- the lengths stand in front
-abbrev pub lengths_said : LengthsAnswer → List ℕ → Res Counts
-lengths_said (lengths.Lengths next bits) front = ok (record { values = front; next = next })
-lengths_said (lengths.Refused why) front = fail why
+abbrev pub lengths_said : Res CodesPlace → List ℕ → Res Counts
+lengths_said (ok t) front = ok (record { values = front; next = t.next })
+lengths_said (fail why) front = fail why
 
 -- the bits that were told, where any were
-abbrev pub bits_told : LengthsAnswer → ℕ → ℕ
-bits_told (lengths.Lengths next bits) other = bits
-bits_told (lengths.Refused why) other = other
+abbrev pub bits_told : Res CodesPlace → ℕ → ℕ
+bits_told (ok t) other = t.bits
+bits_told (fail why) other = other
 
-pub record LengthsRead (s : List ℕ) (at n : ℕ) (r : LengthsAnswer) (new : List ℕ) : Type 0 where
+pub record LengthsRead (s : List ℕ) (at n : ℕ) (r : Res CodesPlace) (new : List ℕ) : Type 0 where
   pub says : lengths_said r (take n new) ≡ lengths_at s at n
   pub sum : bits_told r (bits_of n (take n new)) ≡ bits_of n (take n new)
 

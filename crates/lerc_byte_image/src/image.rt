@@ -14,7 +14,7 @@ ghost use Rattle.lerc_byte_image.specs.Image.{spot, symbol_no, by_table};
 ghost use Rattle.lerc_byte_image.specs.Parts.{table_by, Behind, Ready};
 ghost use Rattle.lerc_byte_image.specs.ImageParts.{Asked, plain_run, guess, strip, chained, plane_upto, plane_word};
 
-use super::table::{Range, TableAnswer};
+use super::table::Range;
 use super::{symbols, table};
 use lerc_header::{Header, Shape};
 
@@ -63,12 +63,10 @@ fn put_plain(
     let stop = symbols::stop_of(s.len(), by.start);
     let less = less_of(by.kind);
     let mut q = p;
-    let mut k = 0;
-    while k < n {
+    for k in 0..n {
         let e = symbols::entry(s, by.range, by.start, lengths, codes, quick, stop, q);
         image[base + k] = byte_of(e, 0, less) as u64;
         q += e / 256;
-        k += 1;
     }
     q
 }
@@ -88,10 +86,9 @@ fn write_plain_masked(
     ensures { image.new ≡ painted image.old (is_valid_cell h mask.now) (byte_word h by.kind false mask.now (symbol_no s.now (table_by by.range by.start lengths.now codes.now) 0)) }
 {
     let pixels = h.rows * h.columns;
-    let mut q = 0;
     let mut base = 0;
     let mut p = 0;
-    while q < pixels {
+    for q in 0..pixels {
         if lerc_mask::is_valid(mask, q) {
             p = put_plain(
                 s,
@@ -106,7 +103,6 @@ fn write_plain_masked(
             );
         }
         base += h.depth;
-        q += 1;
     }
 }
 
@@ -186,14 +182,12 @@ fn put_row(
     let mut last = first;
     let mut q = p;
     let mut cell = i * depth + d;
-    let mut x = 0;
-    while x < n {
+    for _ in 0..n {
         let e = symbols::entry(s, by.range, by.start, lengths, codes, quick, stop, q);
         last = byte_of(e, last, less);
         image[cell] = last as u64;
         q += e / 256;
         cell += depth;
-        x += 1;
     }
     q
 }
@@ -216,9 +210,8 @@ fn write_full_plane(
 {
     let mut first = 0;
     let mut q = p;
-    let mut y = 0;
     let mut i = 0;
-    while y < h.rows {
+    for _ in 0..h.rows {
         q = put_row(
             s,
             by,
@@ -235,7 +228,6 @@ fn write_full_plane(
         );
         first = (image[i * h.depth + d] % 256) as u8;
         i += h.columns;
-        y += 1;
     }
     q
 }
@@ -262,10 +254,9 @@ fn write_masked_plane(
     let less = less_of(by.kind);
     let mut last = 0;
     let mut q = p;
-    let mut i = 0;
     let mut x = 0;
     let mut cell = d;
-    while i < pixels {
+    for i in 0..pixels {
         if lerc_mask::is_valid(mask, i) {
             let e = symbols::entry(s, by.range, by.start, lengths, codes, quick, stop, q);
             let predicted = predict(h.columns, h.depth, mask, i, x, cell, last, &image[..]);
@@ -275,7 +266,6 @@ fn write_masked_plane(
         }
         x = next_column(h.columns, x);
         cell += h.depth;
-        i += 1;
     }
     q
 }
@@ -305,14 +295,12 @@ fn write_delta(
     let pixels = h.rows * h.columns;
     let full = lerc_mask::count(mask, pixels) == pixels;
     let mut p = 0;
-    let mut d = 0;
-    while d < h.depth {
+    for d in 0..h.depth {
         if full {
             p = write_full_plane(h, s, by, lengths, codes, quick, p, d, &mut image[..]);
         } else {
             p = write_masked_plane(h, s, by, lengths, codes, quick, mask, p, d, &mut image[..]);
         }
-        d += 1;
     }
 }
 
@@ -356,26 +344,23 @@ pub(crate) fn write_image(
 {
     let mut lengths = [0u32; 256];
     let mut codes = [0u32; 256];
-    let found = table::read_table(s, at, &mut lengths, &mut codes);
-    match found {
-        TableAnswer::Refused(_why) => {}
-        TableAnswer::Table { range, start } => {
-            let few = range.count;
-            let by = Coding {
-                range,
-                start,
-                kind: h.kind,
-            };
-            write_cells(
-                form,
-                s,
-                by,
-                &lengths[..few],
-                &codes[..few],
-                delta,
-                mask,
-                &mut image[..],
-            );
-        }
+    if let Ok(found) = table::read_table(s, at, &mut lengths, &mut codes) {
+        let range = found.range;
+        let few = range.count;
+        let by = Coding {
+            range,
+            start: found.start,
+            kind: h.kind,
+        };
+        write_cells(
+            form,
+            s,
+            by,
+            &lengths[..few],
+            &codes[..few],
+            delta,
+            mask,
+            &mut image[..],
+        );
     }
 }

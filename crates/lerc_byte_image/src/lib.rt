@@ -2,9 +2,9 @@
 #![tactic(auto)]
 
 ghost use Rattle.std.specs.Prelude.{◌≡◌};
-ghost use Rattle.lerc_byte_image.specs.Image.{checked_image, ended, end_said, refusal_of_end, written_image};
+ghost use Rattle.lerc_byte_image.specs.Image.{checked_image, ended, written_image};
 
-use lerc_header::{Header, HeldAnswer};
+use lerc_header::Header;
 use lerc_words::Refusal;
 
 mod bits;
@@ -12,35 +12,13 @@ mod image;
 mod symbols;
 mod table;
 
-// Where the image ends.
-#[derive(Clone, Copy)]
-pub enum EndAnswer {
-    End(usize),
-    Refused(Refusal),
-}
-
-impl EndAnswer {
-    // why it was refused; number 0 where it was not
-    pub fn refusal(self) -> Refusal
-        ensures { result ≡ refusal_of_end self }
-    {
-        match self {
-            EndAnswer::End(_end) => Refusal { number: 0, at: 0 },
-            EndAnswer::Refused(why) => why,
-        }
-    }
-}
-
-// The image whose mode byte stands at `mode`: 3, 4, 1, then table and symbols (1, 8), at the mode byte. Nothing is written.
-pub fn check(blob: &[u8], h: Header, mode: usize) -> EndAnswer
-    ensures { end_said result ≡ ended (checked_image blob.now h mode) }
+// Where the image ends whose mode byte stands at `mode`: 3, 4, 1, then table and symbols (1, 8), at the mode byte. Nothing is written.
+pub fn check(blob: &[u8], h: Header, mode: usize) -> Result<usize, Refusal>
+    ensures { result ≡ ended (checked_image blob.now h mode) }
 {
-    let held = h.held(blob.len());
-    let HeldAnswer::Held(e) = held else {
-        return EndAnswer::Refused(held.refusal());
-    };
+    let e = h.held(blob.len())?;
     if e.size <= mode {
-        return EndAnswer::Refused(Refusal {
+        return Err(Refusal {
             number: 1,
             at: mode,
         });
@@ -48,10 +26,7 @@ pub fn check(blob: &[u8], h: Header, mode: usize) -> EndAnswer
     let size = e.size;
     let n = h.valid as usize * h.depth as usize;
     let found = symbols::check_symbols(&blob[..size], mode + 1, n);
-    match found {
-        EndAnswer::End(end) => EndAnswer::End(end),
-        EndAnswer::Refused(why) => EndAnswer::Refused(why.at(mode)),
-    }
+    lerc_words::marked(found, mode)
 }
 
 // Every valid cell of the image whose mode byte stands at `mode`. Nothing is refused: without room, or behind a table that is
@@ -59,8 +34,7 @@ pub fn check(blob: &[u8], h: Header, mode: usize) -> EndAnswer
 pub fn write(blob: &[u8], h: Header, mode: usize, delta: bool, mask: &[u8], image: &mut [u64])
     ensures { image.new ≡ written_image blob.now h mode delta mask.now image.old }
 {
-    let held = h.held(blob.len());
-    let HeldAnswer::Held(e) = held else {
+    let Ok(e) = h.held(blob.len()) else {
         return;
     };
     let room = (e.mask <= mask.len()) & (e.cells <= image.len());

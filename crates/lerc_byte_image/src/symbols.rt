@@ -3,12 +3,12 @@ ghost use Rattle.std.specs.Prelude.{◌≡◌, ℕ, ◌+◌, ◌-◌, ◌*◌, �
 ghost use Rattle.lerc_words.specs.Res.{Res, ok, fail};
 ghost use Rattle.lerc_byte_image.specs.Table.{bits_at, length_of, code_of};
 ghost use Rattle.lerc_byte_image.specs.Symbols.{first_of, bits_there, agrees, symbol_at, symbols_from, coded_at};
-ghost use Rattle.lerc_byte_image.specs.Image.{ended, end_said};
+ghost use Rattle.lerc_byte_image.specs.Image.{ended};
 ghost use Rattle.lerc_byte_image.specs.Parts.{table_by, Kept, Behind, entry_of, Quick, Ready};
-ghost use Rattle.lerc_byte_image.specs.SymbolParts.{glanced, begun, Found, Put, bits_said, bits_in, end_within, end_from};
+ghost use Rattle.lerc_byte_image.specs.SymbolParts.{glanced, begun, Found, Put, bits_in, end_within, end_from};
 
-use super::table::{Range, TableAnswer};
-use super::{EndAnswer, bits, table};
+use super::table::Range;
+use super::{bits, table};
 use lerc_words::Refusal;
 
 // ---- by going through the codes
@@ -34,12 +34,10 @@ fn seek(s: &[u8], range: Range, start: usize, lengths: &[u32], codes: &[u32], p:
     let w = bits::take_bits(s, start, p, 32);
     let there = (s.len() - start) / 4 * 32 - p;
     let n = range.count;
-    let mut k = 0;
-    while k < n {
+    for k in 0..n {
         if is_begun(w, there, lengths[k], codes[k]) {
             return k;
         }
-        k += 1;
     }
     n
 }
@@ -59,9 +57,8 @@ fn seek_near(
 {
     let w = bits::take_bits(s, start, p, 32);
     let there = (s.len() - start) / 4 * 32 - p;
-    let mut k = if hint < range.count { hint + 1 } else { 0 };
-    while 0 < k {
-        k -= 1;
+    let near = if hint < range.count { hint + 1 } else { 0 };
+    for k in (0..near).rev() {
         if is_begun(w, there, lengths[k], codes[k]) {
             return k;
         }
@@ -116,15 +113,12 @@ fn missing(
 
 // ---- by the first bits
 
-// every entry of a part
+// every entry of a part; std's `fill` puts the last one by itself, and is slower
 fn put_entry(entry: u16, part: &mut [u16])
     ensures { part.new ≡ replicate (length part.old) entry }
 {
-    let n = part.len();
-    let mut k = 0;
-    while k < n {
-        part[k] = entry;
-        k += 1;
+    for place in part.iter_mut() {
+        *place = entry;
     }
 }
 
@@ -156,9 +150,7 @@ pub(crate) fn make_quick(
     requires { Kept (table_by range start lengths.now codes.now) × Quick (table_by range start lengths.now codes.now) quick.old }
     ensures { Quick (table_by range start lengths.now codes.now) quick.new }
 {
-    let n = range.count;
-    let mut k = 0;
-    while k < n {
+    for k in 0..range.count {
         let symbol = (range.first + k) % range.size;
         put_code(
             lengths[k] as usize,
@@ -167,7 +159,6 @@ pub(crate) fn make_quick(
             k,
             &mut quick[..],
         );
-        k += 1;
     }
 }
 
@@ -217,14 +208,7 @@ pub(crate) fn entry(
 
 // ---- all symbols
 
-// The bit behind the last symbol.
-#[derive(Clone, Copy)]
-pub(crate) enum BitsAnswer {
-    Bits(usize),
-    Refused(Refusal),
-}
-
-// n symbols from the first bit on, of which only the ends are looked at
+// n symbols from the first bit on, of which only the ends are looked at: the bit behind the last
 fn count_bits(
     s: &[u8],
     range: Range,
@@ -233,39 +217,37 @@ fn count_bits(
     codes: &[u32],
     quick: &[u16],
     n: usize,
-) -> BitsAnswer
+) -> Result<usize, Refusal>
     requires { Ready s.now (table_by range start lengths.now codes.now) quick.now 0 }
-    ensures { bits_said result ≡ bits_in (symbols_from s.now (table_by range start lengths.now codes.now) n 0) }
+    ensures { result ≡ bits_in (symbols_from s.now (table_by range start lengths.now codes.now) n 0) }
 {
     let stop = stop_of(s.len(), start);
-    let mut left = n;
     let mut p = 0;
-    while 0 < left {
+    for _ in 0..n {
         let e = glance(s, start, quick, stop, p);
         if 256 <= e {
             p += e / 256;
         } else {
             let f = seek_entry(s, range, start, lengths, codes, p, e);
             if f == 0 {
-                return BitsAnswer::Refused(missing(s, range, start, lengths, codes, p));
+                return Err(missing(s, range, start, lengths, codes, p));
             }
             p += f / 256;
         }
-        left -= 1;
     }
-    BitsAnswer::Bits(p)
+    Ok(p)
 }
 
 // the word behind the last symbol's must fit (1)
-fn end_at(len: usize, start: usize, bits: usize) -> EndAnswer
+fn end_at(len: usize, start: usize, bits: usize) -> Result<usize, Refusal>
     requires { (start ≤ len) × (len ≤ 16777216) × (bits ≤ 2 ^ 32) }
-    ensures { end_said result ≡ end_within len start bits }
+    ensures { result ≡ end_within len start bits }
 {
     let size = ((bits + 31) / 32 + 1) * 4;
     if len - start < size {
-        return EndAnswer::Refused(Refusal { number: 1, at: 0 });
+        return Err(Refusal { number: 1, at: 0 });
     }
-    EndAnswer::End(start + size)
+    Ok(start + size)
 }
 
 // n symbols behind a table, and the word after
@@ -276,32 +258,25 @@ fn check_coded(
     lengths: &[u32],
     codes: &[u32],
     n: usize,
-) -> EndAnswer
+) -> Result<usize, Refusal>
     requires { Behind s.now (table_by range start lengths.now codes.now) 0 }
-    ensures { end_said result ≡ end_from s.now (table_by range start lengths.now codes.now) n }
+    ensures { result ≡ end_from s.now (table_by range start lengths.now codes.now) n }
 {
     let mut quick = [0u16; 4096];
     make_quick(range, start, lengths, codes, &mut quick);
-    let counted = count_bits(s, range, start, lengths, codes, &quick, n);
-    match counted {
-        BitsAnswer::Refused(why) => EndAnswer::Refused(why),
-        BitsAnswer::Bits(bits) => end_at(s.len(), start, bits),
-    }
+    let bits = count_bits(s, range, start, lengths, codes, &quick, n)?;
+    end_at(s.len(), start, bits)
 }
 
 // the table at `at` and n symbols behind it; a refusal tells no place
-pub(crate) fn check_symbols(s: &[u8], at: usize, n: usize) -> EndAnswer
+pub(crate) fn check_symbols(s: &[u8], at: usize, n: usize) -> Result<usize, Refusal>
     requires { (length s.now ≤ 16777216) × (at ≤ length s.now) }
-    ensures { end_said result ≡ ended (coded_at s.now at n) }
+    ensures { result ≡ ended (coded_at s.now at n) }
 {
     let mut lengths = [0u32; 256];
     let mut codes = [0u32; 256];
-    let found = table::read_table(s, at, &mut lengths, &mut codes);
-    match found {
-        TableAnswer::Refused(why) => EndAnswer::Refused(why),
-        TableAnswer::Table { range, start } => {
-            let few = range.count;
-            check_coded(s, range, start, &lengths[..few], &codes[..few], n)
-        }
-    }
+    let found = table::read_table(s, at, &mut lengths, &mut codes)?;
+    let range = found.range;
+    let few = range.count;
+    check_coded(s, range, found.start, &lengths[..few], &codes[..few], n)
 }

@@ -2,12 +2,11 @@
 ghost use Rattle.std.specs.Prelude.{◌≡◌, ◌<◌, ◌≤◌, true, ◌++◌, length, drop};
 ghost use Rattle.lerc_words.specs.Lists.{all_to};
 ghost use Rattle.lerc_byte_image.specs.Table.{range_at, codes_at, table_at};
-ghost use Rattle.lerc_byte_image.specs.TableParts.{range_said, refusal_of_range, sizes_at, bits_of, all_short, LengthsRead, CodesAsked, Few, apart, clear, RestAsked, rest_at};
+ghost use Rattle.lerc_byte_image.specs.TableParts.{sizes_at, bits_of, all_short, LengthsRead, CodesAsked, Few, apart, clear, RestAsked, rest_at};
 ghost use Rattle.lerc_byte_image.specs.Parts.{table_said};
 
 use super::bits;
-use lerc_bits::CountsAnswer;
-use lerc_words::{Refusal, WordAnswer};
+use lerc_words::Refusal;
 
 // How many symbols there are, the first that has a length, and how many have one.
 #[derive(Clone, Copy)]
@@ -17,68 +16,41 @@ pub(crate) struct Range {
     pub(crate) count: usize,
 }
 
-#[derive(Clone, Copy)]
-pub(crate) enum RangeAnswer {
-    Range(Range),
-    Refused(Refusal),
-}
-
-impl RangeAnswer {
-    // why it was refused; number 0 where it was not
-    fn refusal(self) -> Refusal
-        ensures { result ≡ refusal_of_range self }
-    {
-        match self {
-            RangeAnswer::Range(_range) => Refusal { number: 0, at: 0 },
-            RangeAnswer::Refused(why) => why,
-        }
-    }
-}
-
 // Where the codes stand, and how many bits they have.
 #[derive(Clone, Copy)]
-pub(crate) enum LengthsAnswer {
-    Lengths { next: usize, bits: usize },
-    Refused(Refusal),
+struct CodesPlace {
+    next: usize,
+    bits: usize,
 }
 
 // Lengths and codes stand in slices of their own; the symbols' bits begin at `start`.
 #[derive(Clone, Copy)]
-pub(crate) enum TableAnswer {
-    Table { range: Range, start: usize },
-    Refused(Refusal),
+pub(crate) struct TableHead {
+    pub(crate) range: Range,
+    pub(crate) start: usize,
 }
 
 // size, first and end, behind a version that was right
-fn read_sizes(s: &[u8], at: usize) -> RangeAnswer
+fn read_sizes(s: &[u8], at: usize) -> Result<Range, Refusal>
     requires { at ≤ 16777216 }
-    ensures { range_said result ≡ sizes_at s.now at }
+    ensures { result ≡ sizes_at s.now at }
 {
-    let a = lerc_words::word(s, at + 4, 4);
-    let WordAnswer::Word(size) = a else {
-        return RangeAnswer::Refused(Refusal { number: 1, at: 0 });
-    };
+    let size = lerc_words::marked(lerc_words::word(s, at + 4, 4), 0)?;
     if 256 < size {
-        return RangeAnswer::Refused(Refusal { number: 8, at: 0 });
+        return Err(Refusal { number: 8, at: 0 });
     }
-    let b = lerc_words::word(s, at + 8, 4);
-    let WordAnswer::Word(first) = b else {
-        return RangeAnswer::Refused(Refusal { number: 1, at: 0 });
-    };
+    let first = lerc_words::marked(lerc_words::word(s, at + 8, 4), 0)?;
     if size <= first {
-        return RangeAnswer::Refused(Refusal { number: 8, at: 0 });
+        return Err(Refusal { number: 8, at: 0 });
     }
-    let c = lerc_words::word(s, at + 12, 4);
-    let WordAnswer::Word(end) = c else {
-        return RangeAnswer::Refused(Refusal { number: 1, at: 0 });
-    };
+    let end = lerc_words::marked(lerc_words::word(s, at + 12, 4), 0)?;
     if end <= first {
-        return RangeAnswer::Refused(Refusal { number: 8, at: 0 });
+        return Err(Refusal { number: 8, at: 0 });
     }
     if size < end - first {
-        return RangeAnswer::Refused(Refusal { number: 8, at: 0 });
+        return Err(Refusal { number: 8, at: 0 });
     }
-    RangeAnswer::Range(Range {
+    Ok(Range {
         size: size as usize,
         first: first as usize,
         count: (end - first) as usize,
@@ -86,16 +58,13 @@ fn read_sizes(s: &[u8], at: usize) -> RangeAnswer
 }
 
 // the four integers, each judged as it is read
-fn read_range(s: &[u8], at: usize) -> RangeAnswer
+fn read_range(s: &[u8], at: usize) -> Result<Range, Refusal>
     requires { at ≤ 16777216 }
-    ensures { range_said result ≡ range_at s.now at }
+    ensures { result ≡ range_at s.now at }
 {
-    let a = lerc_words::word(s, at, 4);
-    let WordAnswer::Word(version) = a else {
-        return RangeAnswer::Refused(Refusal { number: 1, at: 0 });
-    };
+    let version = lerc_words::marked(lerc_words::word(s, at, 4), 0)?;
     if version < 2 {
-        return RangeAnswer::Refused(Refusal { number: 8, at: 0 });
+        return Err(Refusal { number: 8, at: 0 });
     }
     read_sizes(s, at)
 }
@@ -104,13 +73,10 @@ fn read_range(s: &[u8], at: usize) -> RangeAnswer
 fn all_short(lengths: &[u32]) -> bool
     ensures { result ≡ all_short lengths.now }
 {
-    let n = lengths.len();
-    let mut k = 0;
-    while k < n {
-        if 32 < lengths[k] {
+    for len in lengths {
+        if 32 < *len {
             return false;
         }
-        k += 1;
     }
     true
 }
@@ -120,53 +86,37 @@ fn sum(lengths: &[u32]) -> usize
     requires { (length lengths.now ≤ 256) × (all_short lengths.now ≡ true) }
     ensures { result ≡ bits_of (length lengths.now) lengths.now }
 {
-    let n = lengths.len();
-    let mut k = 0;
     let mut bits = 0;
-    while k < n {
-        bits += lengths[k] as usize;
-        k += 1;
+    for len in lengths {
+        bits += *len as usize;
     }
     bits
 }
 
-// each of them
-fn copy(from: &[u32], to: &mut [u32])
-    requires { length from.now ≡ length to.old }
-    ensures { to.new ≡ from.now }
-{
-    let n = to.len();
-    let mut k = 0;
-    while k < n {
-        to[k] = from[k];
-        k += 1;
-    }
-}
-
 // n lengths, packed counts that are read whole and then judged
-fn read_lengths(s: &[u8], at: usize, n: usize, lengths: &mut [u32]) -> LengthsAnswer
+fn read_lengths(s: &[u8], at: usize, n: usize, lengths: &mut [u32]) -> Result<CodesPlace, Refusal>
     requires { length lengths.old ≡ 256 }
     ensures { LengthsRead s.now at n result lengths.new }
 {
     let mut counts = [0u32; 256];
-    let found = lerc_bits::decode(s, at, &mut counts);
-    let CountsAnswer::Counts { n: few, next } = found else {
-        let why = found.refusal();
-        return LengthsAnswer::Refused(why.at(0));
-    };
+    let found = lerc_words::marked(lerc_bits::decode(s, at, &mut counts), 0)?;
+    let few = found.n;
     if few != n {
-        return LengthsAnswer::Refused(Refusal { number: 8, at: 0 });
+        return Err(Refusal { number: 8, at: 0 });
     }
     let part = &counts[..n];
     if !all_short(part) {
-        return LengthsAnswer::Refused(Refusal { number: 8, at: 0 });
+        return Err(Refusal { number: 8, at: 0 });
     }
     let bits = sum(part);
     if bits == 0 {
-        return LengthsAnswer::Refused(Refusal { number: 8, at: 0 });
+        return Err(Refusal { number: 8, at: 0 });
     }
-    copy(part, &mut lengths[..n]);
-    LengthsAnswer::Lengths { next, bits }
+    lengths[..n].copy_from_slice(part);
+    Ok(CodesPlace {
+        next: found.next,
+        bits,
+    })
 }
 
 // the code of each length, one behind the other from `at` on
@@ -174,14 +124,11 @@ fn read_codes(s: &[u8], at: usize, lengths: &[u32], codes: &mut [u32])
     requires { CodesAsked s.now at lengths.now codes.old }
     ensures { codes.new ≡ codes_at s.now at (length lengths.now) lengths.now ++ drop (length lengths.now) codes.old }
 {
-    let n = lengths.len();
-    let mut k = 0;
     let mut p = 0;
-    while k < n {
+    for k in 0..lengths.len() {
         let len = lengths[k] as usize;
         codes[k] = bits::take_bits(s, at, p, len) as u32;
         p += len;
-        k += 1;
     }
 }
 
@@ -209,12 +156,10 @@ fn is_clear(lengths: &[u32], codes: &[u32], k: usize) -> bool
 {
     let len = lengths[k];
     let code = codes[k];
-    let mut i = 0;
-    while i < k {
+    for i in 0..k {
         if !are_apart(lengths[i], codes[i], len, code) {
             return false;
         }
-        i += 1;
     }
     true
 }
@@ -224,13 +169,10 @@ fn is_prefix_free(lengths: &[u32], codes: &[u32]) -> bool
     requires { Few lengths.now codes.now }
     ensures { result ≡ all_to (length lengths.now) (clear lengths.now codes.now) }
 {
-    let n = lengths.len();
-    let mut k = 0;
-    while k < n {
+    for k in 0..lengths.len() {
         if !is_clear(lengths, codes, k) {
             return false;
         }
-        k += 1;
     }
     true
 }
@@ -243,39 +185,43 @@ fn read_rest(
     bits: usize,
     lengths: &[u32],
     codes: &mut [u32],
-) -> TableAnswer
+) -> Result<TableHead, Refusal>
     requires { RestAsked s.now range next bits lengths.now codes.old }
     ensures { table_said result lengths.now codes.new ≡ rest_at s.now range next lengths.now }
 {
     let size = (bits + 31) / 32 * 4;
     if s.len() - next < size {
-        return TableAnswer::Refused(Refusal { number: 1, at: 0 });
+        return Err(Refusal { number: 1, at: 0 });
     }
     read_codes(s, next, lengths, &mut codes[..]);
     if !is_prefix_free(lengths, &codes[..lengths.len()]) {
-        return TableAnswer::Refused(Refusal { number: 8, at: 0 });
+        return Err(Refusal { number: 8, at: 0 });
     }
-    TableAnswer::Table {
+    Ok(TableHead {
         range,
         start: next + size,
-    }
+    })
 }
 
 // the table at `at`: lengths and codes to the front of two arrays; a refusal tells no place
-pub(crate) fn read_table(s: &[u8], at: usize, lengths: &mut [u32], codes: &mut [u32]) -> TableAnswer
+pub(crate) fn read_table(
+    s: &[u8],
+    at: usize,
+    lengths: &mut [u32],
+    codes: &mut [u32],
+) -> Result<TableHead, Refusal>
     requires { (length s.now ≤ 16777216) × (at ≤ length s.now) × (length lengths.old ≡ 256) × (length codes.old ≡ 256) }
     ensures { table_said result lengths.new codes.new ≡ table_at s.now at }
 {
-    let head = read_range(s, at);
-    let RangeAnswer::Range(range) = head else {
-        return TableAnswer::Refused(head.refusal());
-    };
+    let range = read_range(s, at)?;
     let n = range.count;
-    let found = read_lengths(s, at + 16, n, &mut lengths[..]);
-    match found {
-        LengthsAnswer::Refused(why) => TableAnswer::Refused(why),
-        LengthsAnswer::Lengths { next, bits } => {
-            read_rest(s, range, next, bits, &lengths[..n], &mut codes[..])
-        }
-    }
+    let found = read_lengths(s, at + 16, n, &mut lengths[..])?;
+    read_rest(
+        s,
+        range,
+        found.next,
+        found.bits,
+        &lengths[..n],
+        &mut codes[..],
+    )
 }

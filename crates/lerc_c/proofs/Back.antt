@@ -8,7 +8,7 @@ use lib.ListN.{length, take, drop}
 use lib.Dec.{leb, ltb, eqb}
 use borrow.Author.Tests.{lt-ltb}
 use lib.Seq.{take_at, drop_at}
-use Rattle.lerc_words.specs.Res.{ok, require, little}
+use Rattle.lerc_words.specs.Res.{ok, require, little, Res}
 use Rattle.lerc_words.specs.Lists.{over}
 use Rattle.lerc_words.proofs.Binding.{bind_is, ok-is}
 use Rattle.lerc_words.proofs.Little.{Bytes, little-lt}
@@ -16,11 +16,9 @@ use Rattle.lerc_header.specs.Header.{header_bytes, key_right, held, header_of, c
 use Rattle.lerc_header.specs.declared.Header.{Header}
 use Rattle.lerc_header.specs.Limits.{depth_limit}
 use Rattle.lerc_ranges.specs.declared.Ranges.{Ranges}
-use Rattle.lerc_validity.specs.declared.MaskAnswer.{MaskAnswer}
-use Rattle.lerc_validity.specs.Validity.{MaskInForce, reused, new, mask_says}
+use Rattle.lerc_validity.specs.Validity.{MaskInForce, reused, new, mask_says, MaskTold}
 use Rattle.lerc.specs.declared.BodyKind.{BodyKind}
 use Rattle.lerc.specs.declared.BodyKind.TheVariants as kind
-use Rattle.lerc.specs.declared.StageAnswer.TheVariants as stage-answer
 use Rattle.lerc.specs.Meaning.{Meaning}
 use Rattle.lerc.specs.Read.{Lent, room, Masked, masked, read_says}
 use Rattle.lerc.specs.Stage.{kind_number, mask_named, staged_of}
@@ -84,10 +82,10 @@ kind-back kind.Blocks = refl
 kind-back kind.Huffman = refl
 
 -- it names the kept mask or the spare, and so does its record
-record Named (m : MaskAnswer) : Type 0 where
+record Named (m : Res MaskTold) : Type 0 where
   some : ltb 0 (mask_number m) ≡ true
   few : ltb (mask_number m) 3 ≡ true
-  back : mask_from (mask_number m) (mask_length m) ≡ m
+  back : ok (mask_from (mask_number m) (mask_length m)) ≡ m
 
 named : (f : MaskInForce) → Named (mask_named f)
 unfolding mask_from
@@ -95,7 +93,7 @@ named (reused m) = record { some = refl; few = refl; back = refl }
 named (new m) = record { some = refl; few = refl; back = refl }
 
 -- the record of what is staged of a meaning stands for just that
-pub staged-back : (m : Meaning) (l : List ℕ) → fields_fit (header_numbers m.header) ≡ true → staged_from (over (staged_numbers (staged_of m)) l) ≡ stage-answer.Staged (staged_of m)
+pub staged-back : (m : Meaning) (l : List ℕ) → fields_fit (header_numbers m.header) ≡ true → staged_from (over (staged_numbers (staged_of m)) l) ≡ ok (staged_of m)
 unfolding staged_in header_from fields_fit names_right
 staged-back m l e =
     let t : fields_fit (over (staged_numbers (staged_of m)) l) ≡ true = e in
@@ -114,5 +112,5 @@ masked-header b reuse l {k} e =
 
 -- so what staging a blob of bytes writes is its answer again
 pub staged-kept : (b : List ℕ) (reuse : Bool) (l : Lent) (rest : List ℕ) {m : Meaning} → Bytes b → read_says b reuse l ≡ ok m
-    → staged_from (over (staged_numbers (staged_of m)) rest) ≡ stage-answer.Staged (staged_of m)
+    → staged_from (over (staged_numbers (staged_of m)) rest) ≡ ok (staged_of m)
 staged-kept b reuse l rest {m} p e = staged-back m rest (header-fit b p (masked-header b reuse l (read-masked b reuse l e)))

@@ -15,20 +15,12 @@ use Rattle.lerc_words.specs.Lists.{over}
 use Rattle.lerc_words.proofs.Binding.{bind-fail, bind-counts}
 use Rattle.lerc_header.specs.declared.Header.{Header}
 use Rattle.lerc_header.specs.Header.{shape_of, header_says}
-use Rattle.lerc.specs.declared.ReadAnswer.{ReadAnswer}
-use Rattle.lerc.specs.declared.ReadAnswer.TheVariants as answer
 use Rattle.lerc.specs.declared.Staged.{Staged}
-use Rattle.lerc.specs.declared.StageAnswer.{StageAnswer}
-use Rattle.lerc.specs.declared.StageAnswer.TheVariants as stage-answer
-use Rattle.lerc.specs.declared.PublishAnswer.TheVariants as publish-answer
 use Rattle.lerc_header.specs.Shape.{block_count}
 use Rattle.lerc_samples.specs.Samples.{stored}
 use Rattle.lerc_ranges.specs.declared.Ranges.{Ranges}
-use Rattle.lerc_validity.specs.declared.MaskAnswer.TheVariants as mask
 use Rattle.lerc_validity.specs.Validity.{MaskInForce, reused, new, spare_with, prepare_says, which, Prepared}
 use Rattle.lerc_ranges.specs.Ranges.{read_ranges_says}
-use Rattle.lerc_image.specs.declared.WalkAnswer.TheVariants as walk
-use Rattle.lerc_image.specs.declared.FillAnswer.TheVariants as fill
 use Rattle.lerc_image.specs.Geometry.{tile_of, valid_in_tile}
 use Rattle.lerc_image.specs.Walk.{walk_says, Walk, walk_list, BlocksWalked}
 use Rattle.lerc_image.specs.Fill.{fill_says, fill_image, Filled}
@@ -38,6 +30,7 @@ use Rattle.lerc.specs.Stage.{StageRead, PublishTold, publish_says, Publishing}
 use Rattle.lerc_c.specs.Records.{header_room, header_numbers, header_from, ranges_room, ranges_numbers, ranges_from, staged_room, staged_numbers, staged_from}
 use Rattle.lerc_c.specs.Entries.{Returned, header_entry, HeaderDone, read_room, read_entry, masked_entry, read_numbers, ReadDone, stage_entry, staged_mask_entry, StageDone, publish_entry, told_numbers, PublishDone, prepare_entry, PrepareDone, ranges_entry, RangesDone, walk_entry, WalkDone, fill_entry, FillDone, stored_entry, StoredDone}
 use Rattle.lerc_c.proofs.RecordParts.{long, over-behind, first-put}
+use Rattle.lerc_validity.specs.declared.Mask.TheVariants as mask
 
 -- ---- read header
 
@@ -70,17 +63,17 @@ module _ (b : List ℕ) (reuse : Bool) (l : Lent) (said : List ℕ) where
   read_short h = record { why = rw (lt-leb read_room (length said) h); lent = rw (lt-leb read_room (length said) h); said = rw (lt-leb read_room (length said) h) }
 
   -- with room for what is said, the four slices are the reader's
-  read-lent : {r : ReadAnswer} {l' : Lent} → read_room ≤ length said → WholeRead b reuse r l l' → l' ≡ read_after (read_entry b reuse l said) (masked_entry b reuse l said) l
+  read-lent : {r : Res ReadTold} {l' : Lent} → read_room ≤ length said → WholeRead b reuse r l l' → l' ≡ read_after (read_entry b reuse l said) (masked_entry b reuse l said) l
   unfolding read_entry masked_entry
   read-lent h w = rw (le-leb read_room (length said) h) w.lent
 
-  pub read-refused : {why : Refusal} {n : Refusal} {l' : Lent} → read_room ≤ length said → WholeRead b reuse (answer.Refused why) l l' → n ≡ why → Read n l' said
+  pub read-refused : {why : Refusal} {n : Refusal} {l' : Lent} → read_room ≤ length said → WholeRead b reuse (fail why) l l' → n ≡ why → Read n l' said
   unfolding read_entry
   read-refused h w d =
       let e = bind-fail (read_says b reuse l) _ (sym w.says) in
       record { why = rw (le-leb read_room (length said) h, e) d; lent = read-lent h w; said = rw (le-leb read_room (length said) h, e) }
 
-  pub read_whole : {h : Header} {n end : ℕ} {l' : Lent} {front said' : List ℕ} → read_room ≤ length said → WholeRead b reuse (answer.Whole h n end) l l'
+  pub read_whole : {h : Header} {n end : ℕ} {l' : Lent} {front said' : List ℕ} → read_room ≤ length said → WholeRead b reuse (ok (record { header = h; blocks = n; end = end })) l l'
       → front ≡ over (header_numbers h) said → said' ≡ paste front header_room (n ∷ end ∷ []) 2 → Read (refuse 0) l' said'
   unfolding read_entry
   read_whole long w p q =
@@ -108,12 +101,12 @@ module _ (b : List ℕ) (reuse : Bool) (l : Lent) (staged : List ℕ) where
     unfolding staged_mask_entry
     staged-mask-is = rw (le-leb staged_room (length staged) long)
 
-    pub stage-refused : {why : Refusal} {n : Refusal} {spare' list' : List ℕ} → StageRead b reuse (stage-answer.Refused why) l spare' list' → n ≡ why → Stage n spare' list' staged
+    pub stage-refused : {why : Refusal} {n : Refusal} {spare' list' : List ℕ} → StageRead b reuse (fail why) l spare' list' → n ≡ why → Stage n spare' list' staged
     stage-refused w d =
         let e = bind-fail (read_says b reuse l) _ (sym w.says) in
         rw (stage_is, staged-mask-is) (record { why = rw (e) d; spare = w.spare; list = w.list; staged = rw (e) })
 
-    pub stage-done : {found : Staged} {spare' list' staged' : List ℕ} → StageRead b reuse (stage-answer.Staged found) l spare' list' → staged' ≡ over (staged_numbers found) staged
+    pub stage-done : {found : Staged} {spare' list' staged' : List ℕ} → StageRead b reuse (ok found) l spare' list' → staged' ≡ over (staged_numbers found) staged
         → Stage (refuse 0) spare' list' staged'
     stage-done w q =
         let (m, r, c) = bind-counts (read_says b reuse l) _ (sym w.says) in
@@ -133,18 +126,18 @@ module _ (b : List ℕ) (reuse : Bool) (staged : List ℕ) (l : Lent) (said : Li
   unfolding publish_entry
   publish-short t = rw (t) (record { why = refl; kept = refl; image = refl; said = refl })
 
-  module _ (t : publish_has_room ≡ true) {given : StageAnswer} (g : given ≡ staged_from staged) where
+  module _ (t : publish_has_room ≡ true) {given : Res Staged} (g : given ≡ staged_from staged) where
     -- with room for both records, the answer is the reader's
     publish-is : publish_entry b reuse staged l said ≡ publish_says b reuse given l
     unfolding publish_entry
     publish-is = rw (t, g)
 
-    pub publish-refused : {why : Refusal} {n : Refusal} {kept' image' : List ℕ} → Publishing b reuse given (publish-answer.Refused why) l kept' image' → n ≡ why → Publish n kept' image' said
+    pub publish-refused : {why : Refusal} {n : Refusal} {kept' image' : List ℕ} → Publishing b reuse given (fail why) l kept' image' → n ≡ why → Publish n kept' image' said
     publish-refused w d =
         let e = bind-fail (publish_says b reuse given l) _ (sym w.says) in
         rw (publish-is) (record { why = rw (e) d; kept = w.kept; image = w.image; said = rw (e) })
 
-    pub publish-done : {end words : ℕ} {n : Refusal} {kept' image' said' : List ℕ} → Publishing b reuse given (publish-answer.Published end words) l kept' image'
+    pub publish-done : {end words : ℕ} {n : Refusal} {kept' image' said' : List ℕ} → Publishing b reuse given (ok (record { end = end; words = words })) l kept' image'
         → (n ≡ refuse 0) × (said' ≡ over (end ∷ words ∷ []) said) → Publish n kept' image' said'
     publish-done w (z, q) =
         let (m, r, c) = bind-counts (publish_says b reuse given l) _ (sym w.says) in
@@ -173,7 +166,7 @@ module _ (b header : List ℕ) (reuse : Bool) (old spare said : List ℕ) where
 
 -- what the reader's answer tells
 module _ {spare spare' : List ℕ} (said : List ℕ) where
-  pub told-no : (m : Res MaskInForce) {why : Refusal} → Prepared m (mask.Refused why) spare spare' → PrepareDone m why spare spare' said said
+  pub told-no : (m : Res MaskInForce) {why : Refusal} → Prepared m (fail why) spare spare' → PrepareDone m why spare spare' said said
   told-no m {why} p = go m p.says p.spare
     where
       go : (x : Res MaskInForce) → fail why ≡ (x >>= which) → spare' ≡ after x spare (λ f. spare_with f spare) → PrepareDone x why spare spare' said said
@@ -181,7 +174,7 @@ module _ {spare spare' : List ℕ} (said : List ℕ) where
       go (ok (new l)) e d = absurd (let z : ◌≡◌ {A = ℕ} 0 1 = cc in omega arith)
       go (fail r) e d = record { why = cc; spare = d; said = refl }
 
-  pub told-kept : (m : Res MaskInForce) {k : ℕ} {n : Refusal} {said' : List ℕ} → Prepared m (mask.Kept k) spare spare' → (n ≡ refuse 0) × (said' ≡ over (1 ∷ k ∷ []) said) → PrepareDone m n spare spare' said said'
+  pub told-kept : (m : Res MaskInForce) {k : ℕ} {n : Refusal} {said' : List ℕ} → Prepared m (ok (mask.Kept k)) spare spare' → (n ≡ refuse 0) × (said' ≡ over (1 ∷ k ∷ []) said) → PrepareDone m n spare spare' said said'
   told-kept m {k} {n} {said'} p (z, q) = go m p.says p.spare
     where
       go : (x : Res MaskInForce) → ok (mask.Kept k) ≡ (x >>= which) → spare' ≡ after x spare (λ f. spare_with f spare) → PrepareDone x n spare spare' said said'
@@ -189,7 +182,7 @@ module _ {spare spare' : List ℕ} (said : List ℕ) where
       go (ok (new l)) e d = absurd (let z : ◌≡◌ {A = ℕ} 0 1 = cc in omega arith)
       go (fail r) e d = absurd (let z : ◌≡◌ {A = ℕ} 0 1 = cc in omega arith)
 
-  pub told-spare : (m : Res MaskInForce) {k : ℕ} {n : Refusal} {said' : List ℕ} → Prepared m (mask.Spare k) spare spare' → (n ≡ refuse 0) × (said' ≡ over (2 ∷ k ∷ []) said) → PrepareDone m n spare spare' said said'
+  pub told-spare : (m : Res MaskInForce) {k : ℕ} {n : Refusal} {said' : List ℕ} → Prepared m (ok (mask.Spare k)) spare spare' → (n ≡ refuse 0) × (said' ≡ over (2 ∷ k ∷ []) said) → PrepareDone m n spare spare' said said'
   told-spare m {k} {n} {said'} p (z, q) = go m p.says p.spare
     where
       go : (x : Res MaskInForce) → ok (mask.Spare k) ≡ (x >>= which) → spare' ≡ after x spare (λ f. spare_with f spare) → PrepareDone x n spare spare' said said'
@@ -240,7 +233,7 @@ module _ (b header ranges m list said : List ℕ) where
   unfolding walk_entry
   walk-mark t e f d = rw (t, e, f) (record { why = d; list = refl; said = refl })
 
-  pub walk_no : {h : Header} {r : Ranges} {why : Refusal} {list' : List ℕ} → walk_has_room ≡ true → header_from header ≡ ok h → ranges_from ranges ≡ ok r → BlocksWalked b h r m (walk.Refused why) list list'
+  pub walk_no : {h : Header} {r : Ranges} {why : Refusal} {list' : List ℕ} → walk_has_room ≡ true → header_from header ≡ ok h → ranges_from ranges ≡ ok r → BlocksWalked b h r m (fail why) list list'
       → WalkDone (walk_entry b header ranges m list said) why list list' said said
   unfolding walk_entry walk_list
   walk_no {h} {r} {why} {list'} t e f w =
@@ -248,7 +241,7 @@ module _ (b header ranges m list said : List ℕ) where
       rw (t, e, f, g) (record { why = refl; list = rw (g) at w.list; said = refl })
 
   pub walk-done : {h : Header} {r : Ranges} {blocks end : ℕ} {n : Refusal} {list' said' : List ℕ} → walk_has_room ≡ true → header_from header ≡ ok h → ranges_from ranges ≡ ok r
-      → BlocksWalked b h r m (walk.Walked blocks end) list list' → (n ≡ refuse 0) × (said' ≡ over (blocks ∷ end ∷ []) said) → WalkDone (walk_entry b header ranges m list said) n list list' said said'
+      → BlocksWalked b h r m (ok (record { blocks = blocks; end = end })) list list' → (n ≡ refuse 0) × (said' ≡ over (blocks ∷ end ∷ []) said) → WalkDone (walk_entry b header ranges m list said) n list list' said said'
   unfolding walk_entry walk_list
   walk-done {h} {r} {blocks} {end} {n} {list'} {said'} t e f w (z, q) =
       let (c, g, k) = bind-counts (walk_says b h r m (length list)) _ (sym w.says) in
@@ -278,14 +271,14 @@ module _ (b header ranges m list : List ℕ) (i : ℕ) (image said : List ℕ) w
   fill-mark t e f d = rw (t, e, f) (record { why = d; image = refl; said = refl })
 
   pub fill-no : {h : Header} {r : Ranges} {why : Refusal} {n : Refusal} {image' : List ℕ} → fill_has_room ≡ true → header_from header ≡ ok h → ranges_from ranges ≡ ok r
-      → Filled b h r m list i (fill.Refused why) image image' → n ≡ why → FillDone (fill_entry b header ranges m list i image said) m i n image image' said said
+      → Filled b h r m list i (fail why) image image' → n ≡ why → FillDone (fill_entry b header ranges m list i image said) m i n image image' said said
   unfolding fill_entry fill_image
   fill-no {h} {r} {why} {n} {image'} t e f w d =
       let g = bind-fail (fill_says b h r m list i (length image)) _ (sym w.says) in
       rw (t, e, f, g) (record { why = d; image = rw (g) at w.image; said = refl })
 
   pub fill_done : {h : Header} {r : Ranges} {words : ℕ} {image' said' : List ℕ} → fill_has_room ≡ true → header_from header ≡ ok h → ranges_from ranges ≡ ok r
-      → Filled b h r m list i (fill.Filled words) image image' → said' ≡ set said 0 words → FillDone (fill_entry b header ranges m list i image said) m i (refuse 0) image image' said said'
+      → Filled b h r m list i (ok words) image image' → said' ≡ set said 0 words → FillDone (fill_entry b header ranges m list i image said) m i (refuse 0) image image' said said'
   unfolding fill_entry fill_image
   fill_done {h} {r} {words} {image'} {said'} t e f w q =
       let (k, g, c) = bind-counts (fill_says b h r m list i (length image)) _ (sym w.says) in

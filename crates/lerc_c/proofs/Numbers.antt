@@ -37,7 +37,6 @@ use Rattle.lerc_byte_image.specs.Image.{image_at}
 use Rattle.lerc_byte_image.proofs.Refusals.{coded-no}
 use Rattle.lerc.specs.Meaning.{missing_word_at, raw_body, block_body, huffman_body, body_from, swept_body, constant_body, body_says, meaning_from}
 use Rattle.lerc.specs.Read.{Lent, room, masked, read_says}
-use Rattle.lerc.specs.declared.StageAnswer.{StageAnswer}
 use Rattle.lerc.specs.Stage.{was_staged, publish_says}
 use Rattle.lerc_words.specs.Lists.{all_to}
 use Rattle.lerc_pack.specs.Contents.{entry_place, body_end, body_place, tiles_right}
@@ -46,6 +45,7 @@ use Rattle.lerc_pack_writer.specs.Writing.{Given, given_right, adds_up, pack_len
 use Rattle.lerc_c.specs.Records.{number_of, header_room, fields_fit, header_from, ranges_room, ranges_from, staged_room, staged_from}
 use Rattle.lerc_c.specs.Entries.{header_entry, prepare_entry, ranges_entry, walk_entry, fill_entry, read_room, read_entry, stage_entry, publish_entry, stored_entry}
 use Rattle.lerc_c.specs.Packs.{pack_entry, entry_room, entry_entry, pack_write_entry}
+use Rattle.lerc.specs.declared.Staged.{Staged}
 
 -- ---- answers whose refusals are numbered, and how they are put together
 
@@ -316,7 +316,7 @@ read-n b reuse l =
     and_then (masked b reuse l) (masked-n b reuse l) (λ k.
     and_then (body_says (take k.header.size b) k.header (bytes_of k.mask)) (body-n (take k.header.size b) k.header (bytes_of k.mask)) (λ y. accepted _))
 
-publish-n : (b : List ℕ) (reuse : Bool) (a : StageAnswer) (l : Lent) → Numbered (publish_says b reuse a l)
+publish-n : (b : List ℕ) (reuse : Bool) (a : Res Staged) (l : Lent) → Numbered (publish_says b reuse a l)
 unfolding publish_says
 publish-n b reuse a l = and_then (read_says b reuse l) (read-n b reuse l) (λ m. check (was_staged m a l) 3 refl (λ _. accepted m))
 

@@ -10,7 +10,6 @@ use Rattle.lerc_words.specs.Res.{ok, fail, refuse}
 use Rattle.lerc_words.specs.Lists.{over}
 use Rattle.lerc_pack.specs.declared.Entry.{Entry}
 use Rattle.lerc_pack.specs.Pack.{pack_says, entry_says}
-use Rattle.lerc_pack_writer.specs.declared.WriteAnswer.TheVariants as answer
 use Rattle.lerc_pack_writer.specs.Writing.{Given, PackWritten}
 use Rattle.lerc_c.specs.Packs.{pack_entry, PackOpenDone, entry_room, entry_numbers, entry_entry, PackEntryDone, pack_write_entry, PackWriteDone}
 use Rattle.lerc_c.proofs.RecordParts.{first-put}
@@ -56,14 +55,14 @@ module _ (g : Given) (pack said : List ℕ) where
   unfolding pack_write_entry
   write-short h = rw (lt-leb 1 (length said) h) (record { why = refl; pack = refl; said = refl })
 
-  pub write-no : {why : Refusal} {n : Refusal} {pack' : List ℕ} → 1 ≤ length said → PackWritten g (answer.Refused why) pack pack' → n ≡ why → Write n pack' said
+  pub write-no : {why : Refusal} {n : Refusal} {pack' : List ℕ} → 1 ≤ length said → PackWritten g (fail why) pack pack' → n ≡ why → Write n pack' said
   unfolding pack_write_entry
   write-no {why} {n} {pack'} h w d =
       let e = sym w.says in
       let p : pack' ≡ pack = rw (e) at w.out in
       rw (le-leb 1 (length said) h, e) (record { why = d; pack = p; said = refl })
 
-  pub write_done : {long : ℕ} {pack' said' : List ℕ} → 1 ≤ length said → PackWritten g (answer.Written long) pack pack' → said' ≡ set said 0 long → Write (refuse 0) pack' said'
+  pub write_done : {long : ℕ} {pack' said' : List ℕ} → 1 ≤ length said → PackWritten g (ok long) pack pack' → said' ≡ set said 0 long → Write (refuse 0) pack' said'
   unfolding pack_write_entry
   write_done {long} h w q =
       let e = sym w.says in

@@ -16,15 +16,13 @@ use Rattle.lerc_words.specs.Res.{ok, fail, refuse}
 use Rattle.lerc_words.proofs.Binding.{and_is}
 use Rattle.lerc_header.specs.declared.Header.{Header}
 use Rattle.lerc_header.specs.Limits.{depth_limit}
-use Rattle.lerc_validity.specs.declared.MaskAnswer.{MaskAnswer}
 use Rattle.lerc_ranges.specs.declared.Ranges.{Ranges}
-use Rattle.lerc_ranges.specs.declared.RangesAnswer.TheVariants as ranges
-use Rattle.lerc_ranges.specs.Ranges.{ranges_said, no_ranges}
+use Rattle.lerc_ranges.specs.Ranges.{}
 use Rattle.lerc.specs.declared.BodyKind.{BodyKind}
 use Rattle.lerc.specs.declared.Staged.{Staged}
-use Rattle.lerc.specs.declared.StageAnswer.TheVariants as stage-answer
 use Rattle.lerc.specs.Stage.{kind_number}
 use Rattle.lerc_c.specs.Records.{header_room, header_numbers, fields_fit, header_at, header_from, maxima_place, ranges_room, ranges_numbers, ranges_from, mask_number, mask_length, staged_numbers, kind_from, mask_from, names_right, staged_in, staged_from}
+use Rattle.lerc_validity.specs.Validity.{MaskTold}
 
 -- ---- a header's record
 
@@ -106,11 +104,11 @@ whole-paste z x e = rw (zero-add, take-length x, e, drop-length z, append-nil)
 -- ---- the record of ranges
 
 pub mark-right : (l : List ℕ) → get_or l 1 0 ≤ 1 → {min max : List ℕ} → min ≡ take depth_limit (drop 2 l) → max ≡ take depth_limit (drop maxima_place l)
-    → record { answer = ranges.Read; ranges = record { at = get_or l 0 0; constant = eqb (get_or l 1 0) 1; min = min; max = max } } ≡ ranges_said (ranges_from l)
+    → ok (record { at = get_or l 0 0; constant = eqb (get_or l 1 0) 1; min = min; max = max }) ≡ ranges_from l
 unfolding ranges_from
 mark-right l h e d = let k : get_or l 1 0 < 2 = omega arith in rw (lt-ltb (get_or l 1 0) 2 k, e, d)
 
-pub mark-wrong : (l : List ℕ) → 1 < get_or l 1 0 → record { answer = ranges.Refused (refuse 3); ranges = no_ranges } ≡ ranges_said (ranges_from l)
+pub mark-wrong : (l : List ℕ) → 1 < get_or l 1 0 → fail (refuse 3) ≡ ranges_from l
 unfolding ranges_from
 mark-wrong l h = let k : 2 ≤ get_or l 1 0 = omega arith in rw (le-ltb (get_or l 1 0) 2 k)
 
@@ -139,15 +137,15 @@ staged-put a s k m n p q =
     rw (q, p, k, m, n) (over-behind (header_numbers a.header) (a.blocks ∷ a.end ∷ kind_number a.body ∷ mask_number a.mask ∷ mask_length a.mask ∷ []) s header_room refl)
 
 module _ (l : List ℕ) where
-  pub answer-wide : {why : Refusal} → header_from l ≡ fail why → stage-answer.Refused (refuse 0) ≡ staged_from l
+  pub answer-wide : {why : Refusal} → header_from l ≡ fail why → fail (refuse 0) ≡ staged_from l
   unfolding staged_in
   answer-wide e = rw (e)
 
-  pub answer-unnamed : {h : Header} → header_from l ≡ ok h → names_right l ≡ false → stage-answer.Refused (refuse 0) ≡ staged_from l
+  pub answer-unnamed : {h : Header} → header_from l ≡ ok h → names_right l ≡ false → fail (refuse 0) ≡ staged_from l
   unfolding staged_in
   answer-unnamed e t = rw (e, t)
 
-  pub answer-named : {h : Header} {body : BodyKind} {mask : MaskAnswer} → header_from l ≡ ok h → names_right l ≡ true → body ≡ kind_from (get_or l 13 0) → mask ≡ mask_from (get_or l 14 0) (get_or l 15 0)
-      → stage-answer.Staged (record { header = h; body = body; blocks = get_or l 11 0; end = get_or l 12 0; mask = mask }) ≡ staged_from l
+  pub answer-named : {h : Header} {body : BodyKind} {mask : MaskTold} → header_from l ≡ ok h → names_right l ≡ true → body ≡ kind_from (get_or l 13 0) → mask ≡ mask_from (get_or l 14 0) (get_or l 15 0)
+      → ok (record { header = h; body = body; blocks = get_or l 11 0; end = get_or l 12 0; mask = ok mask }) ≡ staged_from l
   unfolding staged_in
   answer-named e t k m = rw (e, t, k, m)

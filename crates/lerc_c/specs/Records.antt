@@ -6,14 +6,12 @@ use Rattle.lerc_words.specs.Res.{Res, ok, fail, ◌>>=◌, refuse, require}
 use Rattle.lerc_header.specs.declared.Header.{Header}
 use Rattle.lerc_header.specs.Limits.{depth_limit}
 use Rattle.lerc_ranges.specs.declared.Ranges.{Ranges}
-use Rattle.lerc_validity.specs.declared.MaskAnswer.{MaskAnswer}
-use Rattle.lerc_validity.specs.declared.MaskAnswer.TheVariants as mask
 use Rattle.lerc.specs.declared.BodyKind.{BodyKind}
 use Rattle.lerc.specs.declared.BodyKind.TheVariants as kind
 use Rattle.lerc.specs.declared.Staged.{Staged}
-use Rattle.lerc.specs.declared.StageAnswer.{StageAnswer}
-use Rattle.lerc.specs.declared.StageAnswer.TheVariants as stage-answer
 use Rattle.lerc.specs.Stage.{kind_number}
+use Rattle.lerc_validity.specs.declared.Mask.TheVariants as mask
+use Rattle.lerc_validity.specs.Validity.{MaskTold}
 
 -- why an entry refuses: number 0, at 0, where it accepts
 abbrev pub why_of : {A : Type 0} → Res A → Refusal
@@ -93,15 +91,15 @@ abbrev pub staged_room : ℕ
 staged_room = header_room + 5
 
 -- 1 for the kept mask, 2 for the spare; staging answers with no other
-abbrev pub mask_number : MaskAnswer → ℕ
-mask_number (mask.Kept n) = 1
-mask_number (mask.Spare n) = 2
-mask_number (mask.Refused r) = 0
+abbrev pub mask_number : Res MaskTold → ℕ
+mask_number (ok (mask.Kept n)) = 1
+mask_number (ok (mask.Spare n)) = 2
+mask_number (fail r) = 0
 
-abbrev pub mask_length : MaskAnswer → ℕ
-mask_length (mask.Kept n) = n
-mask_length (mask.Spare n) = n
-mask_length (mask.Refused r) = 0
+abbrev pub mask_length : Res MaskTold → ℕ
+mask_length (ok (mask.Kept n)) = n
+mask_length (ok (mask.Spare n)) = n
+mask_length (fail r) = 0
 
 abbrev pub staged_numbers : Staged → List ℕ
 staged_numbers s =
@@ -112,7 +110,7 @@ unfoldable pub kind_from : ℕ → BodyKind
 kind_from n = cond (eqb n 0) kind.Empty (cond (eqb n 1) kind.Constant (cond (eqb n 2) kind.Raw (cond (eqb n 3) kind.Blocks kind.Huffman)))
 
 -- the mask that 1 or 2 stands for
-unfoldable pub mask_from : ℕ → ℕ → MaskAnswer
+unfoldable pub mask_from : ℕ → ℕ → MaskTold
 mask_from which n = cond (eqb which 1) (mask.Kept n) (mask.Spare n)
 
 -- a kind of body above 4, or a mask that is neither 1 nor 2, is none
@@ -123,12 +121,12 @@ unfoldable pub staged_in : List ℕ → Res Staged
 staged_in l = do
   h ← header_from l
   _ ← require (names_right l) 3
-  ok (record { header = h; body = kind_from (get_or l 13 0); blocks = get_or l 11 0; end = get_or l 12 0; mask = mask_from (get_or l 14 0) (get_or l 15 0) })
+  ok (record { header = h; body = kind_from (get_or l 13 0); blocks = get_or l 11 0; end = get_or l 12 0; mask = ok (mask_from (get_or l 14 0) (get_or l 15 0)) })
 
 -- a record that is no answer stands for a refused one
-abbrev pub answer_in : Res Staged → StageAnswer
-answer_in (ok s) = stage-answer.Staged s
-answer_in (fail r) = stage-answer.Refused (refuse 0)
+abbrev pub answer_in : Res Staged → Res Staged
+answer_in (ok s) = ok s
+answer_in (fail r) = fail (refuse 0)
 
-abbrev pub staged_from : List ℕ → StageAnswer
+abbrev pub staged_from : List ℕ → Res Staged
 staged_from l = answer_in (staged_in l)

@@ -1,34 +1,28 @@
-// What each entry that can refuse does, but for the place: why it refused, number 0 where it did not.
+// What each entry that can refuse does, but for the place.
 // After a refusal the records are as they were.
 ghost use Rattle.std.specs.Prelude.{◌≡◌};
+ghost use Rattle.lerc_words.specs.Res.{refusal_of};
 ghost use Rattle.lerc_c.specs.Entries as Entry;
 
 use super::{ranges, records, staged};
-use lerc::{PublishAnswer, ReadAnswer, StageAnswer};
-use lerc_header::HeaderAnswer;
-use lerc_image::{FillAnswer, WalkAnswer};
-use lerc_ranges::RangesAnswer;
-use lerc_samples::StoredAnswer;
-use lerc_validity::MaskAnswer;
+use lerc::{Published, Whole};
+use lerc_image::Walked;
+use lerc_validity::Mask;
 use lerc_words::Refusal;
 
 // how many numbers a whole read says
 const READ: usize = records::HEADER + 2;
 
 // The header of a blob.
-pub(crate) fn read_header(blob: &[u8], header: &mut [u64]) -> Refusal
-    ensures { Entry.HeaderDone (Entry.header_entry blob.now header.old) result header.old header.new }
+pub(crate) fn read_header(blob: &[u8], header: &mut [u64]) -> Result<(), Refusal>
+    ensures { Entry.HeaderDone (Entry.header_entry blob.now header.old) (refusal_of result) header.old header.new }
 {
     if header.len() < records::HEADER {
-        return Refusal { number: 5, at: 0 };
+        return Err(Refusal { number: 5, at: 0 });
     }
-    let found = lerc_header::read_header(blob);
-    let HeaderAnswer::Read(h) = found else {
-        let why = found.refusal();
-        return why;
-    };
+    let h = lerc_header::read_header(blob)?;
     records::put_header(h, &mut header[..]);
-    Refusal { number: 0, at: 0 }
+    Ok(())
 }
 
 // A whole blob: `said` is the header, the count of blocks and the body's end.
@@ -40,33 +34,28 @@ pub(crate) fn read(
     list: &mut [usize],
     image: &mut [u64],
     said: &mut [u64],
-) -> Refusal
-    ensures { Entry.ReadDone (Entry.read_entry blob.now reuse (record { kept = kept.old; spare = spare.old; list = list.old; image = image.old }) said.old) (Entry.masked_entry blob.now reuse (record { kept = kept.old; spare = spare.old; list = list.old; image = image.old }) said.old) result (record { kept = kept.old; spare = spare.old; list = list.old; image = image.old }) (record { kept = kept.new; spare = spare.new; list = list.new; image = image.new }) said.old said.new }
+) -> Result<(), Refusal>
+    ensures { Entry.ReadDone (Entry.read_entry blob.now reuse (record { kept = kept.old; spare = spare.old; list = list.old; image = image.old }) said.old) (Entry.masked_entry blob.now reuse (record { kept = kept.old; spare = spare.old; list = list.old; image = image.old }) said.old) (refusal_of result) (record { kept = kept.old; spare = spare.old; list = list.old; image = image.old }) (record { kept = kept.new; spare = spare.new; list = list.new; image = image.new }) said.old said.new }
 {
     if said.len() < READ {
-        return Refusal { number: 5, at: 0 };
+        return Err(Refusal { number: 5, at: 0 });
     }
-    let answer = lerc::read(
+    let Whole {
+        header,
+        blocks,
+        end,
+    } = lerc::read(
         blob,
         reuse,
         &mut kept[..],
         &mut spare[..],
         &mut list[..],
         &mut image[..],
-    );
-    let ReadAnswer::Whole {
-        header,
-        blocks,
-        end,
-    } = answer
-    else {
-        let why = answer.refusal();
-        return why;
-    };
+    )?;
     records::put_header(header, &mut said[..]);
     let counts = [blocks as u64, end as u64];
     records::put(&counts, records::HEADER, &mut said[..]);
-    Refusal { number: 0, at: 0 }
+    Ok(())
 }
 
 // All checking of one blob: `staged` is the answer.
@@ -78,19 +67,15 @@ pub(crate) fn stage(
     list: &mut [usize],
     image: &[u64],
     staged: &mut [u64],
-) -> Refusal
-    ensures { Entry.StageDone (Entry.stage_entry blob.now reuse (record { kept = kept.now; spare = spare.old; list = list.old; image = image.now }) staged.old) (Entry.staged_mask_entry blob.now reuse (record { kept = kept.now; spare = spare.old; list = list.old; image = image.now }) staged.old) result (record { kept = kept.now; spare = spare.old; list = list.old; image = image.now }) spare.new list.new staged.old staged.new }
+) -> Result<(), Refusal>
+    ensures { Entry.StageDone (Entry.stage_entry blob.now reuse (record { kept = kept.now; spare = spare.old; list = list.old; image = image.now }) staged.old) (Entry.staged_mask_entry blob.now reuse (record { kept = kept.now; spare = spare.old; list = list.old; image = image.now }) staged.old) (refusal_of result) (record { kept = kept.now; spare = spare.old; list = list.old; image = image.now }) spare.new list.new staged.old staged.new }
 {
     if staged.len() < staged::STAGED {
-        return Refusal { number: 5, at: 0 };
+        return Err(Refusal { number: 5, at: 0 });
     }
-    let answer = lerc::stage(blob, reuse, kept, &mut spare[..], &mut list[..], image);
-    let StageAnswer::Staged(found) = answer else {
-        let why = answer.refusal();
-        return why;
-    };
+    let found = lerc::stage(blob, reuse, kept, &mut spare[..], &mut list[..], image)?;
     staged::put_staged(found, &mut staged[..]);
-    Refusal { number: 0, at: 0 }
+    Ok(())
 }
 
 // A blob that was staged: `said` is the body's end and the count of words written.
@@ -103,15 +88,15 @@ pub(crate) fn publish(
     list: &[usize],
     image: &mut [u64],
     said: &mut [u64],
-) -> Refusal
-    ensures { Entry.PublishDone (Entry.publish_entry blob.now reuse staged.now (record { kept = kept.old; spare = spare.now; list = list.now; image = image.old }) said.old) result (record { kept = kept.old; spare = spare.now; list = list.now; image = image.old }) kept.new image.new said.old said.new }
+) -> Result<(), Refusal>
+    ensures { Entry.PublishDone (Entry.publish_entry blob.now reuse staged.now (record { kept = kept.old; spare = spare.now; list = list.now; image = image.old }) said.old) (refusal_of result) (record { kept = kept.old; spare = spare.now; list = list.now; image = image.old }) kept.new image.new said.old said.new }
 {
     let room = (staged::STAGED <= staged.len()) & (2 <= said.len());
     if !room {
-        return Refusal { number: 5, at: 0 };
+        return Err(Refusal { number: 5, at: 0 });
     }
     let given = staged::staged_from(staged);
-    let answer = lerc::publish(
+    let Published { end, words } = lerc::publish(
         blob,
         reuse,
         given,
@@ -119,12 +104,9 @@ pub(crate) fn publish(
         spare,
         list,
         &mut image[..],
-    );
-    let PublishAnswer::Published { end, words } = answer else {
-        let why = answer.refusal();
-        return why;
-    };
-    records::say(end, words, &mut said[..])
+    )?;
+    records::say(end, words, &mut said[..]);
+    Ok(())
 }
 
 // The mask of a blob: `said` is 1 where the kept mask is in force and 2 where the spare is, and its length.
@@ -135,48 +117,34 @@ pub(crate) fn prepare_mask(
     kept: &[u8],
     spare: &mut [u8],
     said: &mut [u64],
-) -> Refusal
-    ensures { Entry.PrepareDone (Entry.prepare_entry blob.now header.now reuse kept.now spare.old said.old) result spare.old spare.new said.old said.new }
+) -> Result<(), Refusal>
+    ensures { Entry.PrepareDone (Entry.prepare_entry blob.now header.now reuse kept.now spare.old said.old) (refusal_of result) spare.old spare.new said.old said.new }
 {
     let room = (records::HEADER <= header.len()) & (2 <= said.len());
     if !room {
-        return Refusal { number: 5, at: 0 };
+        return Err(Refusal { number: 5, at: 0 });
     }
-    let found = records::header_from(header);
-    let HeaderAnswer::Read(h) = found else {
-        let why = found.refusal();
-        return why;
-    };
-    let answer = lerc_validity::prepare_mask(blob, h, reuse, kept, &mut spare[..]);
-    match answer {
-        MaskAnswer::Kept(n) => records::say(1, n, &mut said[..]),
-        MaskAnswer::Spare(n) => records::say(2, n, &mut said[..]),
-        MaskAnswer::Refused(why) => why,
+    let h = records::header_from(header)?;
+    let mask = lerc_validity::prepare_mask(blob, h, reuse, kept, &mut spare[..])?;
+    match mask {
+        Mask::Kept(n) => records::say(1, n, &mut said[..]),
+        Mask::Spare(n) => records::say(2, n, &mut said[..]),
     }
+    Ok(())
 }
 
 // The ranges of a blob.
-pub(crate) fn read_ranges(blob: &[u8], header: &[u64], ranges: &mut [u64]) -> Refusal
-    ensures { Entry.RangesDone (Entry.ranges_entry blob.now header.now ranges.old) result ranges.old ranges.new }
+pub(crate) fn read_ranges(blob: &[u8], header: &[u64], ranges: &mut [u64]) -> Result<(), Refusal>
+    ensures { Entry.RangesDone (Entry.ranges_entry blob.now header.now ranges.old) (refusal_of result) ranges.old ranges.new }
 {
     let room = (records::HEADER <= header.len()) & (ranges::RANGES <= ranges.len());
     if !room {
-        return Refusal { number: 5, at: 0 };
+        return Err(Refusal { number: 5, at: 0 });
     }
-    let found = records::header_from(header);
-    let HeaderAnswer::Read(h) = found else {
-        let why = found.refusal();
-        return why;
-    };
-    let got = lerc_ranges::read_ranges(blob, h);
-    let answer = got.answer;
-    let RangesAnswer::Read = answer else {
-        let why = answer.refusal();
-        return why;
-    };
-    let r = got.ranges;
+    let h = records::header_from(header)?;
+    let r = lerc_ranges::read_ranges(blob, h)?;
     ranges::put_ranges(r, &mut ranges[..]);
-    Refusal { number: 0, at: 0 }
+    Ok(())
 }
 
 // Every block checked, then the list of their starts: `said` is the count of blocks and the end of the last.
@@ -187,33 +155,20 @@ pub(crate) fn walk(
     mask: &[u8],
     list: &mut [usize],
     said: &mut [u64],
-) -> Refusal
-    ensures { Entry.WalkDone (Entry.walk_entry blob.now header.now ranges.now mask.now list.old said.old) result list.old list.new said.old said.new }
+) -> Result<(), Refusal>
+    ensures { Entry.WalkDone (Entry.walk_entry blob.now header.now ranges.now mask.now list.old said.old) (refusal_of result) list.old list.new said.old said.new }
 {
     let room = (records::HEADER <= header.len())
         & (ranges::RANGES <= ranges.len())
         & (2 <= said.len());
     if !room {
-        return Refusal { number: 5, at: 0 };
+        return Err(Refusal { number: 5, at: 0 });
     }
-    let found = records::header_from(header);
-    let HeaderAnswer::Read(h) = found else {
-        let why = found.refusal();
-        return why;
-    };
-    let got = ranges::ranges_from(ranges);
-    let given = got.answer;
-    let RangesAnswer::Read = given else {
-        let why = given.refusal();
-        return why;
-    };
-    let r = got.ranges;
-    let answer = lerc_image::walk(blob, h, r, mask, &mut list[..]);
-    let WalkAnswer::Walked { blocks, end } = answer else {
-        let why = answer.refusal();
-        return why;
-    };
-    records::say(blocks, end, &mut said[..])
+    let h = records::header_from(header)?;
+    let r = ranges::ranges_from(ranges)?;
+    let Walked { blocks, end } = lerc_image::walk(blob, h, r, mask, &mut list[..])?;
+    records::say(blocks, end, &mut said[..]);
+    Ok(())
 }
 
 // One block by its number: `said` is the count of words written.
@@ -226,48 +181,30 @@ pub(crate) fn fill(
     number: usize,
     image: &mut [u64],
     said: &mut [u64],
-) -> Refusal
-    ensures { Entry.FillDone (Entry.fill_entry blob.now header.now ranges.now mask.now list.now number image.old said.old) mask.now number result image.old image.new said.old said.new }
+) -> Result<(), Refusal>
+    ensures { Entry.FillDone (Entry.fill_entry blob.now header.now ranges.now mask.now list.now number image.old said.old) mask.now number (refusal_of result) image.old image.new said.old said.new }
 {
     let room = (records::HEADER <= header.len())
         & (ranges::RANGES <= ranges.len())
         & (1 <= said.len());
     if !room {
-        return Refusal { number: 5, at: 0 };
+        return Err(Refusal { number: 5, at: 0 });
     }
-    let found = records::header_from(header);
-    let HeaderAnswer::Read(h) = found else {
-        let why = found.refusal();
-        return why;
-    };
-    let got = ranges::ranges_from(ranges);
-    let given = got.answer;
-    let RangesAnswer::Read = given else {
-        let why = given.refusal();
-        return why;
-    };
-    let r = got.ranges;
-    let answer = lerc_image::fill(blob, h, r, mask, list, number, &mut image[..]);
-    let FillAnswer::Filled(words) = answer else {
-        let why = answer.refusal();
-        return why;
-    };
+    let h = records::header_from(header)?;
+    let r = ranges::ranges_from(ranges)?;
+    let words = lerc_image::fill(blob, h, r, mask, list, number, &mut image[..])?;
     said[0] = words as u64;
-    Refusal { number: 0, at: 0 }
+    Ok(())
 }
 
 // a binary64 word as a stored word of a kind, which is what `said` is
-pub(crate) fn stored(v: u64, kind: u32, said: &mut [u64]) -> Refusal
-    ensures { Entry.StoredDone (Entry.stored_entry kind v said.old) result said.old said.new }
+pub(crate) fn stored(v: u64, kind: u32, said: &mut [u64]) -> Result<(), Refusal>
+    ensures { Entry.StoredDone (Entry.stored_entry kind v said.old) (refusal_of result) said.old said.new }
 {
     if said.len() < 1 {
-        return Refusal { number: 5, at: 0 };
+        return Err(Refusal { number: 5, at: 0 });
     }
-    let answer = lerc_samples::stored(v, kind);
-    let StoredAnswer::Word(word) = answer else {
-        let why = answer.refusal();
-        return why;
-    };
+    let word = lerc_samples::stored(v, kind)?;
     said[0] = word;
-    Refusal { number: 0, at: 0 }
+    Ok(())
 }

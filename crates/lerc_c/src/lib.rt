@@ -10,6 +10,8 @@ ghost use Rattle.lerc_numeric.specs.Kinds.{value_of, narrowed};
 ghost use Rattle.lerc_c.specs.Entries as Entry;
 ghost use Rattle.lerc_c.specs.Packs as Packs;
 
+use lerc_words::Refusal;
+
 mod calls;
 mod packs;
 mod ranges;
@@ -24,7 +26,7 @@ pub extern "C" fn lerc2_read_header(blob: &[u8], header: &mut [u64], place: &mut
     if place.len() < 1 {
         return 5;
     }
-    let header_why = calls::read_header(blob, &mut header[..]);
+    let header_why = Refusal::of(&calls::read_header(blob, &mut header[..]));
     place[0] = header_why.at as u64;
     header_why.number
 }
@@ -46,7 +48,7 @@ pub extern "C" fn lerc2_read(
     if place.len() < 1 {
         return 5;
     }
-    let read_why = calls::read(
+    let read_why = Refusal::of(&calls::read(
         blob,
         reuse,
         &mut kept[..],
@@ -54,7 +56,7 @@ pub extern "C" fn lerc2_read(
         &mut list[..],
         &mut image[..],
         &mut said[..],
-    );
+    ));
     place[0] = read_why.at as u64;
     read_why.number
 }
@@ -77,7 +79,7 @@ pub extern "C" fn lerc2_stage(
     if place.len() < 1 {
         return 5;
     }
-    let stage_why = calls::stage(
+    let stage_why = Refusal::of(&calls::stage(
         blob,
         reuse,
         kept,
@@ -85,7 +87,7 @@ pub extern "C" fn lerc2_stage(
         &mut list[..],
         image,
         &mut staged[..],
-    );
+    ));
     place[0] = stage_why.at as u64;
     stage_why.number
 }
@@ -108,7 +110,7 @@ pub extern "C" fn lerc2_publish(
     if place.len() < 1 {
         return 5;
     }
-    let publish_why = calls::publish(
+    let publish_why = Refusal::of(&calls::publish(
         blob,
         reuse,
         staged,
@@ -117,7 +119,7 @@ pub extern "C" fn lerc2_publish(
         list,
         &mut image[..],
         &mut said[..],
-    );
+    ));
     place[0] = publish_why.at as u64;
     publish_why.number
 }
@@ -138,7 +140,14 @@ pub extern "C" fn lerc2_prepare_mask(
     if place.len() < 1 {
         return 5;
     }
-    let mask_why = calls::prepare_mask(blob, header, reuse, kept, &mut spare[..], &mut said[..]);
+    let mask_why = Refusal::of(&calls::prepare_mask(
+        blob,
+        header,
+        reuse,
+        kept,
+        &mut spare[..],
+        &mut said[..],
+    ));
     place[0] = mask_why.at as u64;
     mask_why.number
 }
@@ -156,7 +165,7 @@ pub extern "C" fn lerc2_read_ranges(
     if place.len() < 1 {
         return 5;
     }
-    let ranges_why = calls::read_ranges(blob, header, &mut ranges[..]);
+    let ranges_why = Refusal::of(&calls::read_ranges(blob, header, &mut ranges[..]));
     place[0] = ranges_why.at as u64;
     ranges_why.number
 }
@@ -177,7 +186,14 @@ pub extern "C" fn lerc2_walk(
     if place.len() < 1 {
         return 5;
     }
-    let walk_why = calls::walk(blob, header, ranges, mask, &mut list[..], &mut said[..]);
+    let walk_why = Refusal::of(&calls::walk(
+        blob,
+        header,
+        ranges,
+        mask,
+        &mut list[..],
+        &mut said[..],
+    ));
     place[0] = walk_why.at as u64;
     walk_why.number
 }
@@ -200,7 +216,7 @@ pub extern "C" fn lerc2_fill(
     if place.len() < 1 {
         return 5;
     }
-    let fill_why = calls::fill(
+    let fill_why = Refusal::of(&calls::fill(
         blob,
         header,
         ranges,
@@ -209,7 +225,7 @@ pub extern "C" fn lerc2_fill(
         number,
         &mut image[..],
         &mut said[..],
-    );
+    ));
     place[0] = fill_why.at as u64;
     fill_why.number
 }
@@ -222,7 +238,7 @@ pub extern "C" fn lerc2_pack_open(pack: &[u8], said: &mut [u64], place: &mut [u6
     if place.len() < 1 {
         return 5;
     }
-    let open_why = packs::open_pack(pack, &mut said[..]);
+    let open_why = Refusal::of(&packs::open_pack(pack, &mut said[..]));
     place[0] = open_why.at as u64;
     open_why.number
 }
@@ -241,7 +257,7 @@ pub extern "C" fn lerc2_pack_entry(
     if place.len() < 1 {
         return 5;
     }
-    let entry_why = packs::read_entry(pack, tiles, number, &mut entry[..]);
+    let entry_why = Refusal::of(&packs::read_entry(pack, tiles, number, &mut entry[..]));
     place[0] = entry_why.at as u64;
     entry_why.number
 }
@@ -262,7 +278,14 @@ pub extern "C" fn lerc2_pack_write(
     if place.len() < 1 {
         return 5;
     }
-    let write_why = packs::write_pack(rows, columns, lengths, bodies, &mut pack[..], &mut said[..]);
+    let write_why = Refusal::of(&packs::write_pack(
+        rows,
+        columns,
+        lengths,
+        bodies,
+        &mut pack[..],
+        &mut said[..],
+    ));
     place[0] = write_why.at as u64;
     write_why.number
 }
@@ -275,7 +298,7 @@ pub extern "C" fn lerc2_stored(v: u64, kind: u32, said: &mut [u64], place: &mut 
     if place.len() < 1 {
         return 5;
     }
-    let stored_why = calls::stored(v, kind, &mut said[..]);
+    let stored_why = Refusal::of(&calls::stored(v, kind, &mut said[..]));
     place[0] = stored_why.at as u64;
     stored_why.number
 }

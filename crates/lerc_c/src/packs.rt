@@ -1,31 +1,27 @@
-// Packs: what each entry does, but for the place: why it refused, number 0 where it did not.
+// Packs: what each entry does, but for the place.
 // After a refusal the records and the pack are as they were.
 ghost use Rattle.std.specs.Prelude.{◌≡◌, ◌≤◌, length};
+ghost use Rattle.lerc_words.specs.Res.{refusal_of};
 ghost use Rattle.lerc_words.specs.Lists.{over};
 ghost use Rattle.lerc_c.specs.Packs as Packs;
 
 use super::records;
-use lerc_pack::{Entry, EntryAnswer, PackAnswer};
-use lerc_pack_writer::WriteAnswer;
+use lerc_pack::Entry;
 use lerc_words::Refusal;
 
 // how many numbers an entry of a pack has
 const ENTRY: usize = 6;
 
 // The whole pack is judged: `said` is the count of its tiles.
-pub(crate) fn open_pack(pack: &[u8], said: &mut [u64]) -> Refusal
-    ensures { Packs.PackOpenDone (Packs.pack_entry pack.now said.old) result said.old said.new }
+pub(crate) fn open_pack(pack: &[u8], said: &mut [u64]) -> Result<(), Refusal>
+    ensures { Packs.PackOpenDone (Packs.pack_entry pack.now said.old) (refusal_of result) said.old said.new }
 {
     if said.len() < 1 {
-        return Refusal { number: 5, at: 0 };
+        return Err(Refusal { number: 5, at: 0 });
     }
-    let answer = lerc_pack::open_pack(pack);
-    let PackAnswer::Opened(tiles) = answer else {
-        let why = answer.refusal();
-        return why;
-    };
+    let tiles = lerc_pack::open_pack(pack)?;
     said[0] = tiles as u64;
-    Refusal { number: 0, at: 0 }
+    Ok(())
 }
 
 fn put_entry(e: Entry, out: &mut [u64])
@@ -44,19 +40,20 @@ fn put_entry(e: Entry, out: &mut [u64])
 }
 
 // One entry of a pack with `tiles` tiles: row, column, kind, depth, start and length.
-pub(crate) fn read_entry(pack: &[u8], tiles: usize, number: usize, entry: &mut [u64]) -> Refusal
-    ensures { Packs.PackEntryDone (Packs.entry_entry pack.now tiles number entry.old) result entry.old entry.new }
+pub(crate) fn read_entry(
+    pack: &[u8],
+    tiles: usize,
+    number: usize,
+    entry: &mut [u64],
+) -> Result<(), Refusal>
+    ensures { Packs.PackEntryDone (Packs.entry_entry pack.now tiles number entry.old) (refusal_of result) entry.old entry.new }
 {
     if entry.len() < ENTRY {
-        return Refusal { number: 5, at: 0 };
+        return Err(Refusal { number: 5, at: 0 });
     }
-    let answer = lerc_pack::entry_in(pack, tiles, number);
-    let EntryAnswer::Read(found) = answer else {
-        let why = answer.refusal();
-        return why;
-    };
+    let found = lerc_pack::entry_in(pack, tiles, number)?;
     put_entry(found, &mut entry[..]);
-    Refusal { number: 0, at: 0 }
+    Ok(())
 }
 
 // Tiles as a pack: `said` is the pack's length.
@@ -67,18 +64,14 @@ pub(crate) fn write_pack(
     bodies: &[u8],
     pack: &mut [u8],
     said: &mut [u64],
-) -> Refusal
-    ensures { Packs.PackWriteDone (record { rows = rows.now; columns = columns.now; lengths = lengths.now; bodies = bodies.now }) (Packs.pack_write_entry (record { rows = rows.now; columns = columns.now; lengths = lengths.now; bodies = bodies.now }) (length pack.old) said.old) result pack.old pack.new said.old said.new }
+) -> Result<(), Refusal>
+    ensures { Packs.PackWriteDone (record { rows = rows.now; columns = columns.now; lengths = lengths.now; bodies = bodies.now }) (Packs.pack_write_entry (record { rows = rows.now; columns = columns.now; lengths = lengths.now; bodies = bodies.now }) (length pack.old) said.old) (refusal_of result) pack.old pack.new said.old said.new }
 {
     let room = said.len();
     if room < 1 {
-        return Refusal { number: 5, at: 0 };
+        return Err(Refusal { number: 5, at: 0 });
     }
-    let answer = lerc_pack_writer::write_pack(rows, columns, lengths, bodies, &mut pack[..]);
-    let WriteAnswer::Written(long) = answer else {
-        let why = answer.refusal();
-        return why;
-    };
+    let long = lerc_pack_writer::write_pack(rows, columns, lengths, bodies, &mut pack[..])?;
     said[0] = long as u64;
-    Refusal { number: 0, at: 0 }
+    Ok(())
 }

@@ -1,12 +1,11 @@
 // Ranges as an array of 64-bit numbers, and back.
 ghost use Rattle.std.specs.Prelude.{◌≡◌, ℕ, ◌≤◌, length};
 ghost use Rattle.lerc_words.specs.Lists.{over};
-ghost use Rattle.lerc_ranges.specs.Ranges.{ranges_said};
 ghost use Rattle.lerc_c.specs.Records as Record;
 
 use super::records::put;
 use lerc_header::DEPTHS;
-use lerc_ranges::{Ranges, RangesAnswer, RangesRead};
+use lerc_ranges::Ranges;
 use lerc_words::Refusal;
 
 // where the maxima stand, and how many numbers ranges have
@@ -25,32 +24,21 @@ pub(crate) fn put_ranges(r: Ranges, out: &mut [u64])
 }
 
 // ranges out of their record; a constant mark that is neither 0 nor 1: 3
-pub(crate) fn ranges_from(l: &[u64]) -> RangesRead
+pub(crate) fn ranges_from(l: &[u64]) -> Result<Ranges, Refusal>
     requires { Record.ranges_room ≤ length l.now }
-    ensures { result ≡ ranges_said (Record.ranges_from l.now) }
+    ensures { result ≡ Record.ranges_from l.now }
 {
+    if 1 < l[1] {
+        return Err(Refusal { number: 3, at: 0 });
+    }
     let mut min = [0u64; DEPTHS];
     let mut max = [0u64; DEPTHS];
-    if 1 < l[1] {
-        return RangesRead {
-            answer: RangesAnswer::Refused(Refusal { number: 3, at: 0 }),
-            ranges: Ranges {
-                at: 0,
-                constant: false,
-                min,
-                max,
-            },
-        };
-    }
     put(&l[2..MAXIMA], 0, &mut min);
     put(&l[MAXIMA..RANGES], 0, &mut max);
-    RangesRead {
-        answer: RangesAnswer::Read,
-        ranges: Ranges {
-            at: l[0] as usize,
-            constant: l[1] == 1,
-            min,
-            max,
-        },
-    }
+    Ok(Ranges {
+        at: l[0] as usize,
+        constant: l[1] == 1,
+        min,
+        max,
+    })
 }

@@ -1,12 +1,10 @@
 // Records as arrays of 64-bit numbers, and back.
 ghost use Rattle.std.specs.Prelude.{◌≡◌, ℕ, ◌+◌, ◌≤◌, [], ◌∷◌, length};
 ghost use Rattle.std.proofs.Math.Seq.{paste};
-ghost use Rattle.lerc_words.specs.Res.{refuse};
 ghost use Rattle.lerc_words.specs.Lists.{over};
-ghost use Rattle.lerc_header.specs.Header.{header_said};
 ghost use Rattle.lerc_c.specs.Records as Record;
 
-use lerc_header::{Header, HeaderAnswer};
+use lerc_header::Header;
 use lerc_words::Refusal;
 
 // how many numbers a header has
@@ -18,17 +16,16 @@ pub(crate) fn put(words: &[u64], at: usize, out: &mut [u64])
     ensures { out.new ≡ paste out.old at words.now (length words.now) }
 {
     let end = at + words.len();
-    lerc_slices::copy_words(words, &mut out[at..end]);
+    lerc_slices::copy(words, &mut out[at..end]);
 }
 
-// two numbers that an accepting entry says; hands back that nothing is refused
-pub(crate) fn say(first: usize, second: usize, out: &mut [u64]) -> Refusal
+// two numbers that an accepting entry says
+pub(crate) fn say(first: usize, second: usize, out: &mut [u64])
     requires { 2 ≤ length out.old }
-    ensures { (result ≡ refuse 0) × (out.new ≡ over (first ∷ second ∷ []) out.old) }
+    ensures { out.new ≡ over (first ∷ second ∷ []) out.old }
 {
     let words = [first as u64, second as u64];
     put(&words, 0, &mut out[..]);
-    Refusal { number: 0, at: 0 }
 }
 
 pub(crate) fn put_header(h: Header, out: &mut [u64])
@@ -73,14 +70,14 @@ fn fields_fit(l: &[u64]) -> bool
 }
 
 // a header out of its record; a number that its field cannot hold: 3
-pub(crate) fn header_from(l: &[u64]) -> HeaderAnswer
+pub(crate) fn header_from(l: &[u64]) -> Result<Header, Refusal>
     requires { Record.header_room ≤ length l.now }
-    ensures { header_said result ≡ Record.header_from l.now }
+    ensures { result ≡ Record.header_from l.now }
 {
     if !fields_fit(l) {
-        return HeaderAnswer::Refused(Refusal { number: 3, at: 0 });
+        return Err(Refusal { number: 3, at: 0 });
     }
-    HeaderAnswer::Read(Header {
+    Ok(Header {
         rows: l[0] as u32,
         columns: l[1] as u32,
         depth: l[2] as u32,

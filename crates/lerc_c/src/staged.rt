@@ -5,9 +5,8 @@ ghost use Rattle.lerc.specs.Stage.{kind_number};
 ghost use Rattle.lerc_c.specs.Records as Record;
 
 use super::records;
-use lerc::{BodyKind, StageAnswer, Staged};
-use lerc_header::HeaderAnswer;
-use lerc_validity::MaskAnswer;
+use lerc::{BodyKind, Staged};
+use lerc_validity::Mask;
 use lerc_words::Refusal;
 
 // how many numbers an answer has
@@ -25,23 +24,23 @@ fn kind_number(kind: BodyKind) -> u64
     }
 }
 
-fn mask_number(mask: MaskAnswer) -> u64
+fn mask_number(mask: Result<Mask, Refusal>) -> u64
     ensures { result ≡ Record.mask_number mask }
 {
     match mask {
-        MaskAnswer::Kept(_n) => 1,
-        MaskAnswer::Spare(_n) => 2,
-        MaskAnswer::Refused(_why) => 0,
+        Ok(Mask::Kept(_n)) => 1,
+        Ok(Mask::Spare(_n)) => 2,
+        Err(_why) => 0,
     }
 }
 
-fn mask_length(mask: MaskAnswer) -> usize
+fn mask_length(mask: Result<Mask, Refusal>) -> usize
     ensures { result ≡ Record.mask_length mask }
 {
     match mask {
-        MaskAnswer::Kept(n) => n,
-        MaskAnswer::Spare(n) => n,
-        MaskAnswer::Refused(_why) => 0,
+        Ok(Mask::Kept(n)) => n,
+        Ok(Mask::Spare(n)) => n,
+        Err(_why) => 0,
     }
 }
 
@@ -81,35 +80,34 @@ fn kind_from(n: u64) -> BodyKind
     BodyKind::Huffman
 }
 
-fn mask_from(which: u64, n: usize) -> MaskAnswer
+fn mask_from(which: u64, n: usize) -> Mask
     ensures { result ≡ Record.mask_from which n }
 {
     if which == 1 {
-        return MaskAnswer::Kept(n);
+        return Mask::Kept(n);
     }
-    MaskAnswer::Spare(n)
+    Mask::Spare(n)
 }
 
 // an answer out of its record; a record that is none stands for a refused answer
-pub(crate) fn staged_from(l: &[u64]) -> StageAnswer
+pub(crate) fn staged_from(l: &[u64]) -> Result<Staged, Refusal>
     requires { Record.staged_room ≤ length l.now }
     ensures { result ≡ Record.staged_from l.now }
 {
-    let found = records::header_from(l);
-    let HeaderAnswer::Read(header) = found else {
-        return StageAnswer::Refused(Refusal { number: 0, at: 0 });
+    let Ok(header) = records::header_from(l) else {
+        return Err(Refusal { number: 0, at: 0 });
     };
     let named = (l[13] < 5) & (0 < l[14]) & (l[14] < 3);
     if !named {
-        return StageAnswer::Refused(Refusal { number: 0, at: 0 });
+        return Err(Refusal { number: 0, at: 0 });
     }
     let body = kind_from(l[13]);
     let mask = mask_from(l[14], l[15] as usize);
-    StageAnswer::Staged(Staged {
+    Ok(Staged {
         header,
         body,
         blocks: l[11] as usize,
         end: l[12] as usize,
-        mask,
+        mask: Ok(mask),
     })
 }

@@ -7,26 +7,21 @@ use Prim.Native.Nat.{ℕ}
 use lib.ListN.{length}
 use Rattle.lerc_words.specs.declared.Refusal.{Refusal}
 use Rattle.lerc_words.specs.Res.{Res}
-use Rattle.lerc_samples.specs.declared.StoredAnswer.{StoredAnswer}
-use Rattle.lerc_samples.specs.Samples.{stored, stored_said}
+use Rattle.lerc_samples.specs.Samples.{stored}
 use Rattle.lerc_header.specs.declared.Header.{Header}
 use Rattle.lerc_validity.specs.Validity.{MaskInForce}
 use Rattle.lerc_ranges.specs.declared.Ranges.{Ranges}
 use Rattle.lerc.specs.Meaning.{Meaning}
-use Rattle.lerc.specs.declared.StageAnswer.{StageAnswer}
-use Rattle.lerc.specs.declared.PublishAnswer.{PublishAnswer}
 use Rattle.lerc.specs.Read.{Lent, Masked}
-use Rattle.lerc.specs.Stage.{StageRead, Publishing}
+use Rattle.lerc.specs.Stage.{StageRead, Publishing, PublishTold}
 use Rattle.lerc_pack.specs.declared.Entry.{Entry}
-use Rattle.lerc_pack.specs.declared.PackAnswer.{PackAnswer}
-use Rattle.lerc_pack.specs.declared.EntryAnswer.{EntryAnswer}
-use Rattle.lerc_pack.specs.Pack.{pack_says, pack_said, entry_says, entry_said}
-use Rattle.lerc_pack_writer.specs.declared.WriteAnswer.{WriteAnswer}
+use Rattle.lerc_pack.specs.Pack.{pack_says, entry_says}
 use Rattle.lerc_pack_writer.specs.Writing.{Given, PackWritten}
 use Rattle.lerc_c.specs.Entries.{placing, Returned, header_entry, HeaderDone, prepare_entry, PrepareDone, ranges_entry, RangesDone, Walking, walk_entry, WalkDone, Filling, fill_entry, FillDone, read_entry, masked_entry, ReadDone, stage_entry, staged_mask_entry, StageDone, publish_entry, PublishDone, stored_entry, StoredDone}
 use Rattle.lerc_c.specs.Packs.{pack_entry, PackOpenDone, entry_entry, PackEntryDone, pack_write_entry, PackWriteDone}
 use Rattle.lerc_theorems.proofs.Calls.{promise}
 use Rattle.lerc_c_theorems.specs.Calls.{Told, HeaderInC, PrepareInC, RangesInC, WalkInC, FillInC, ReadInC, StageInC, PublishInC, StageCall, PublishCall, StoredInC, StoredCall, PackOpenInC, PackEntryInC, PackWriteInC, PackOpenCall, PackEntryCall, PackWriteCall}
+use Rattle.lerc.specs.declared.Staged.{Staged}
 
 -- what an entry does, and what is told of it
 abbrev pub Entered : (Refusal → Type 0) → Told → Type 0
@@ -67,18 +62,18 @@ pub publish-done : {b : List ℕ} {reuse : Bool} {staged : List ℕ} {t : Told} 
     → Entered (λ why. PublishDone (placing t.place₀ (publish_entry b reuse staged old said₀)) why old kept₁ image₁ said₀ said₁) t
 publish-done = promise (λ g n x. Returned (λ why. PublishDone (placing g.5 (publish_entry g.0 g.1 g.2 g.3 g.4)) why g.3 x.0 x.1 g.4 x.2) n g.5 x.3) (λ k a r x p. p)
 
-pub stage-call : {b : List ℕ} {reuse : Bool} {answer : StageAnswer} {old : Lent} {spare list : List ℕ} → StageCall b reuse answer old spare list → StageRead b reuse answer old spare list
+pub stage-call : {b : List ℕ} {reuse : Bool} {answer : Res Staged} {old : Lent} {spare list : List ℕ} → StageCall b reuse answer old spare list → StageRead b reuse answer old spare list
 stage-call = promise (λ g r x. StageRead g.0 g.1 r g.2 x.0 x.1) (λ k a r x p. p)
 
-pub publish-call : {b : List ℕ} {reuse : Bool} {given : StageAnswer} {answer : PublishAnswer} {old : Lent} {kept image : List ℕ} → PublishCall b reuse given answer old kept image
+pub publish-call : {b : List ℕ} {reuse : Bool} {given : Res Staged} {answer : Res PublishTold} {old : Lent} {kept image : List ℕ} → PublishCall b reuse given answer old kept image
     → Publishing b reuse given answer old kept image
 publish-call = promise (λ g r x. Publishing g.0 g.1 g.2 r g.3 x.0 x.1) (λ k a r x p. p)
 
 pub stored-done : {v kind : ℕ} {t : Told} {said₀ said₁ : List ℕ} → StoredInC v kind t said₀ said₁ → Entered (λ why. StoredDone (placing t.place₀ (stored_entry kind v said₀)) why said₀ said₁) t
 stored-done = promise (λ g n x. Returned (λ why. StoredDone (placing g.3 (stored_entry g.1 g.0 g.2)) why g.2 x.0) n g.3 x.1) (λ k a r x p. p)
 
-pub stored-call : {v kind : ℕ} {answer : StoredAnswer} → StoredCall v kind answer → stored_said answer ≡ stored kind v
-stored-call = promise (λ g r x. stored_said r ≡ stored g.1 g.0) (λ k a r x p. p)
+pub stored-call : {v kind : ℕ} {answer : Res ℕ} → StoredCall v kind answer → answer ≡ stored kind v
+stored-call = promise (λ g r x. r ≡ stored g.1 g.0) (λ k a r x p. p)
 
 pub pack-open-done : {b : List ℕ} {t : Told} {said₀ said₁ : List ℕ} → PackOpenInC b t said₀ said₁ → Entered (λ why. PackOpenDone (placing t.place₀ (pack_entry b said₀)) why said₀ said₁) t
 pack-open-done = promise (λ g n x. Returned (λ why. PackOpenDone (placing g.2 (pack_entry g.0 g.1)) why g.1 x.0) n g.2 x.1) (λ k a r x p. p)
@@ -92,13 +87,13 @@ pub pack-write-done : {g : Given} {t : Told} {pack₀ pack₁ said₀ said₁ : 
 pack-write-done =
     promise (λ g n x. Returned (λ why. PackWriteDone g.0 (placing g.3 (pack_write_entry g.0 (length g.1) g.2)) why g.1 x.0 g.2 x.1) n g.3 x.2) (λ k a r x p. p)
 
-pub pack-open-call : {b : List ℕ} {answer : PackAnswer} → PackOpenCall b answer → pack_said answer ≡ pack_says b
-pack-open-call = promise (λ g r x. pack_said r ≡ pack_says g) (λ k a r x p. p)
+pub pack-open-call : {b : List ℕ} {answer : Res ℕ} → PackOpenCall b answer → answer ≡ pack_says b
+pack-open-call = promise (λ g r x. r ≡ pack_says g) (λ k a r x p. p)
 
-pub pack-entry-call : {b : List ℕ} {tiles number : ℕ} {answer : EntryAnswer} → PackEntryCall b tiles number answer → entry_said answer ≡ entry_says b tiles number
-pack-entry-call = promise (λ g r x. entry_said r ≡ entry_says g.0 g.1 g.2) (λ k a r x p. p)
+pub pack-entry-call : {b : List ℕ} {tiles number : ℕ} {answer : Res Entry} → PackEntryCall b tiles number answer → answer ≡ entry_says b tiles number
+pack-entry-call = promise (λ g r x. r ≡ entry_says g.0 g.1 g.2) (λ k a r x p. p)
 
-pub pack-write-call : {g : Given} {answer : WriteAnswer} {pack₀ pack₁ : List ℕ} → PackWriteCall g answer pack₀ pack₁ → PackWritten g answer pack₀ pack₁
+pub pack-write-call : {g : Given} {answer : Res ℕ} {pack₀ pack₁ : List ℕ} → PackWriteCall g answer pack₀ pack₁ → PackWritten g answer pack₀ pack₁
 pack-write-call = promise (λ g r x. PackWritten g.0 r g.1 x) (λ k a r x p. p)
 
 -- ---- what an entry does is given by its answer: two outcomes of one answer are alike

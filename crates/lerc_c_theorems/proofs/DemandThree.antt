@@ -14,27 +14,19 @@ use Rattle.lerc_words.specs.Res.{Res, ok, fail, ◌>>=◌, accepts, refuse, requ
 use Rattle.lerc_words.specs.Lists.{over}
 use Rattle.lerc_words.proofs.Binding.{bind_is, bind-counts, and_is, ok-is, accepts-is}
 use Rattle.lerc_header.specs.declared.Header.{Header}
-use Rattle.lerc_header.specs.declared.HeaderAnswer.TheVariants as header-answer
 use Rattle.lerc_header.specs.declared.Shape.{Shape}
-use Rattle.lerc_header.specs.Header.{shape_of, header_says, header_said}
+use Rattle.lerc_header.specs.Header.{shape_of, header_says}
 use Rattle.lerc_header.specs.Shape.{mask_length, block_count}
 use Rattle.lerc_validity.specs.Validity.{MaskInForce, reused, new as made, bytes_of, spare_with, which, prepare_says, in_force}
 use Rattle.lerc_validity.proofs.Prepared.{Part, prepared-right, mask-length, in-force}
 use Rattle.lerc_ranges.specs.declared.Ranges.{Ranges}
-use Rattle.lerc_ranges.specs.Ranges.{read_ranges_says, ranges_said}
-use Rattle.lerc_ranges.proofs.Judged.{read-ranges-kept, ranges-held}
-use Rattle.lerc_image.specs.declared.WalkAnswer.{WalkAnswer}
-use Rattle.lerc_image.specs.declared.WalkAnswer.TheVariants as walk-answer
-use Rattle.lerc_image.specs.declared.FillAnswer.{FillAnswer}
-use Rattle.lerc_image.specs.declared.FillAnswer.TheVariants as fill-answer
+use Rattle.lerc_ranges.specs.Ranges.{read_ranges_says}
+use Rattle.lerc_ranges.proofs.Judged.{read-ranges-kept}
 use Rattle.lerc_image.specs.Geometry.{tile_of, valid_in_tile}
 use Rattle.lerc_image.specs.Blocks.{Chain}
-use Rattle.lerc_image.specs.Walk.{walk_says, walk_said}
-use Rattle.lerc_image.specs.Fill.{fill_said}
-use Rattle.lerc.specs.declared.ReadAnswer.{ReadAnswer}
-use Rattle.lerc.specs.declared.ReadAnswer.TheVariants as read_answer
+use Rattle.lerc_image.specs.Walk.{walk_says, Walk}
 use Rattle.lerc.specs.Meaning.{Meaning, blocks, meaning_from, body_says, meaning}
-use Rattle.lerc.specs.Read.{Lent, ReadTold, room, masked, read_says, read_said}
+use Rattle.lerc.specs.Read.{Lent, ReadTold, room, masked, read_says}
 use Rattle.lerc_c.specs.Records.{why_of, number_of, header_room, header_numbers, fields_fit, header_at, header_from, ranges_room, ranges_numbers, ranges_in, ranges_from}
 use Rattle.lerc_c.specs.Entries.{placing, header_entry, prepare_entry, mask_numbers, ranges_entry, walk_entry, read_room, read_entry}
 use Rattle.lerc_c.proofs.Back.{header-kept, ranges-back}
@@ -42,8 +34,7 @@ use Rattle.lerc_c.proofs.Numbers.{prepare-numbered, zero-accepts}
 use Rattle.lerc_theorems.specs.Calls.{HeaderCall, ReadRanges, RangesCall, WalkCall, FillCalls, none as no_call, more as one-call, ReadCall}
 use Rattle.lerc_theorems.specs.DemandTwo.{Roomy}
 use Rattle.lerc_theorems.specs.DemandThree.{ByWalk, ByRead, Surveyed, by-walk as surveyed-walk, by_read as surveyed-read, ReadAlike, answer_to}
-use Rattle.lerc_theorems.proofs.Calls.{header-call, prepare-call, ranges-call, walk_call, read-call}
-use Rattle.lerc_theorems.proofs.SameAnswers.{header-same, walk_same, read_same}
+use Rattle.lerc_theorems.proofs.Calls.{ranges-held, header-call, prepare-call, ranges-call, walk_call, read-call}
 use Rattle.lerc_theorems.proofs.Refusals.{masked-is}
 use Rattle.lerc_theorems.proofs.Meanings.{Means, meaning-is, mask-kept, keeps, Rooms, rooms}
 use Rattle.lerc_theorems.proofs.Bodies.{coded-is}
@@ -51,10 +42,10 @@ use Rattle.lerc_theorems.proofs.Longer.{alike-take, walk_same as longer-walk}
 use Rattle.lerc_theorems.proofs.Fills.{means-walking, walking-says}
 use Rattle.lerc_theorems.proofs.DemandThree.{demand-three}
 use Rattle.lerc_c_theorems.specs.Calls.{HoldsHeader, HoldsRanges, Told, HasPlace, Accepted, HeaderInC, PrepareInC, RangesInC, WalkInC, ReadInC}
-use Rattle.lerc_c_theorems.specs.SameReader.{Tells, ranges_told, whole_numbers, alone}
+use Rattle.lerc_c_theorems.specs.SameReader.{Tells, whole_numbers, alone}
 use Rattle.lerc_c_theorems.specs.DemandThree.{Bytes, InHandInC, in_hand, shape_in, told_slice, ByWalkInC, ByReadInC, StepsAccept, SurveyedInC, by-walk, by_read, Outcome, FillsInC, none, more, Answered, AllAnswered, no_more, one_more, ReadAlikeInC, AnyOrderInC, DemandThreeInC}
 use Rattle.lerc_c_theorems.proofs.Calls.{Entered, header-done, prepare-done, ranges-done, walk-done, read_done}
-use Rattle.lerc_c_theorems.proofs.SameReader.{ranges-are, prepare-reads, placed-entry}
+use Rattle.lerc_c_theorems.proofs.SameReader.{prepare-reads, placed-entry}
 use Rattle.lerc_theorems.proofs.Made.{handed-made}
 use Rattle.lerc_c_theorems.proofs.Made.{header-as, prepare-as, ranges-as, walk-as, fill-as, read_as}
 
@@ -113,7 +104,7 @@ header-in-hand : (b header₀ header₁ : List ℕ) → Bytes b → Accepted (λ
 header-in-hand b header₀ header₁ bytes (_, _, c) =
     let (i, l) = header-long c refl in
     let (r, d, t) = header-as c i l in
-    let (h, e) = accepts-is (header_said r) (t.zero.0 refl) in
+    let (h, e) = accepts-is r (t.zero.0 refl) in
     let says : header_says b ≡ ok h = sym (header-call d) ∙ e in
     (h, says, subst (λ (l : List ℕ). HoldsHeader l h) (sym (t.written h e)) (record { long = over-long (header_numbers h) header₀; is = header-kept b header₀ bytes says }))
 
@@ -122,8 +113,8 @@ ranges-in-hand : (b header : List ℕ) (h : Header) (ranges₀ ranges₁ : List 
 ranges-in-hand b header h ranges₀ ranges₁ p (_, _, c) =
     let (i, l) = ranges-long c refl in
     let (r, d, t) = ranges-as c p i l in
-    let (g, e) = accepts-is (ranges_told r) (t.zero.0 refl) in
-    let says : read_ranges_says b h ≡ ok g = sym (ap ranges_told (ranges-call d) ∙ ranges-are (read_ranges_says b h)) ∙ e in
+    let (g, e) = accepts-is r (t.zero.0 refl) in
+    let says : read_ranges_says b h ≡ ok g = sym (ranges-call d) ∙ e in
     let k = read-ranges-kept b h g says in
     let z : length (ranges_numbers g) ≡ ranges_room = rw (length-append, k.low, k.high) in
     let l = over-long (ranges_numbers g) ranges₀ in
@@ -134,7 +125,7 @@ record WholeTells (b : List ℕ) (old : Lent) (h : Header) : Type 0 where
   says : header_says b ≡ ok h
   room : room h old ≡ true
 
-whole-read : {b : List ℕ} {reuse : Bool} {h : Header} {n end : ℕ} {old new : Lent} → ReadCall b reuse (read_answer.Whole h n end) old new → WholeTells b old h
+whole-read : {b : List ℕ} {reuse : Bool} {h : Header} {n end : ℕ} {old new : Lent} → ReadCall b reuse (ok (record { header = h; blocks = n; end = end })) old new → WholeTells b old h
 unfolding read_says meaning_from
 whole-read {b} {reuse} {h} {n} {end} {old} c =
     let (m, e, q) = bind-counts (read_says b reuse old) _ (sym (read-call c).says) in
@@ -158,12 +149,12 @@ said-is b w old bytes e = record {
 }
 
 read-in-hand : {b : List ℕ} {reuse : Bool} {old new : Lent} {said₀ said₁ : List ℕ} → Bytes b → Accepted (λ t. ReadInC b reuse t old new said₀ said₁)
-    → (w : ReadTold) × ReadCall b reuse (read_answer.Whole w.header w.blocks w.end) old new × Said said₁ w
+    → (w : ReadTold) × ReadCall b reuse (ok (record { header = w.header; blocks = w.blocks; end = w.end })) old new × Said said₁ w
 read-in-hand {b} {reuse} {old} {new} {said₀} bytes (_, _, c) =
     let (i, l) = read-long c refl in
     let (r, d, t) = read_as c i l in
-    let (w, e) = accepts-is (read_said r) (t.zero.0 refl) in
-    let d = subst (λ (q : ReadAnswer). ReadCall b reuse q old new) (read_same r (read_answer.Whole w.header w.blocks w.end) e) d in
+    let (w, e) = accepts-is r (t.zero.0 refl) in
+    let d = subst (λ (q : Res ReadTold). ReadCall b reuse q old new) (e) d in
     (w, d, subst (λ (l : List ℕ). Said l w) (sym (t.written w e)) (said-is b w said₀ bytes (whole-read d).says))
 
 -- what a record holds is what its numbers are
@@ -194,7 +185,7 @@ held_by x h e p {ranges₀} c = go h (at-header p) e p
         let (v, l) = ranges-long c.2 refl in
         let (r, d, t) = ranges-as c.2 p v l in
         let i : g ≡ ranges_in x.ranges = at-ranges q in
-        let y : r ≡ ranges_said (ok (ranges_in x.ranges)) = ranges-call d ∙ ap ranges_said (s ∙ ap ok i) in
+        let y : r ≡ (ok (ranges_in x.ranges)) = ranges-call d ∙ (s ∙ ap ok i) in
         record {
           says = e ∙ ap ok z;
           header = p;
@@ -215,11 +206,11 @@ module _ (x : InHandInC) (w : ByWalkInC x) where
   hold : Held x
   hold = let (h, s, p) = header-in-hand x.blob w.header₀ x.header w.bytes w.header in held_by x h s p w.ranges
 
-  header-called : HeaderCall x.blob (header-answer.Read h)
+  header-called : HeaderCall x.blob (ok h)
   header-called =
       let (i, l) = header-long w.header.2 refl in
       let (r, d, t) = header-as w.header.2 i l in
-      subst (HeaderCall x.blob) (header-same r (header-answer.Read h) (header-call d ∙ hold.says)) d
+      subst (HeaderCall x.blob) ((header-call d ∙ hold.says)) d
 
   prepared : (f : MaskInForce) × (prepare_says x.blob h x.reuse x.kept (length w.spare₀) ≡ ok f) × (w.spare₁ ≡ spare_with f w.spare₀) × (w.part₁ ≡ over (mask_numbers f) w.part₀)
   prepared =
@@ -238,18 +229,18 @@ module _ (x : InHandInC) (w : ByWalkInC x) where
       let z : length (bytes_of f) ≡ mask_length (shape_of h) = mask-length x.blob h x.reuse x.kept (length w.spare₀) f e in
       rw (← z) (front f mask x.kept w.spare₀ w.part₀ (prepared-right x.blob h x.reuse x.kept (length w.spare₀) f e).part (rw (j, i) at k))
 
-  walk-called : WalkCall x.blob h (ranges_in x.ranges) w.longer (walk-answer.Walked x.count x.end) w.list₀ w.list₁
+  walk-called : WalkCall x.blob h (ranges_in x.ranges) w.longer (ok (record { blocks = x.count; end = x.end })) w.list₀ w.list₁
   walk-called =
       let (i, l) = walk-long w.walk.2 refl in
       let (r, d, t) = walk-as w.walk.2 hold.header hold.ranges i l in
-      let (v, e) = accepts-is (walk_said r) (t.zero.0 refl) in
+      let (v, e) = accepts-is r (t.zero.0 refl) in
       let s = t.written v e in
       let n : v.blocks ≡ x.count = sym (w.count ∙ ap (λ (l : List ℕ). get_or l 0 0) s) in
       let k : v.end ≡ x.end = sym (w.end ∙ ap (λ (l : List ℕ). get_or l 1 0) s) in
-      let z = walk_same r (walk-answer.Walked v.blocks v.end) e ∙ told n k in
-      subst (λ (q : WalkAnswer). WalkCall x.blob h (ranges_in x.ranges) w.longer q w.list₀ w.list₁) z d
+      let z = e ∙ told n k in
+      subst (λ (q : Res Walk). WalkCall x.blob h (ranges_in x.ranges) w.longer q w.list₀ w.list₁) z d
     where
-      told : {n m end other : ℕ} → n ≡ m → end ≡ other → walk-answer.Walked n end ≡ walk-answer.Walked m other
+      told : {n m end other : ℕ} → n ≡ m → end ≡ other → ok {A = Walk} (record { blocks = n; end = end }) ≡ ok {A = Walk} (record { blocks = m; end = other })
       told n k = rw (n, k)
 
   walked : ByWalk (in_hand x)
@@ -282,15 +273,15 @@ module _ (x : InHandInC) (w : ByReadInC x) where
   read-hold : Held x
   read-hold = let (v, d, s) = read-in-hand w.bytes w.read in held_by x v.header (whole-read d).says s.header w.ranges
 
-  read-called : ReadCall x.blob x.reuse (read_answer.Whole (header_at x.header) x.count x.end) w.old w.new
+  read-called : ReadCall x.blob x.reuse (ok (record { header = (header_at x.header); blocks = x.count; end = x.end })) w.old w.new
   read-called =
       let (v, d, s) = read-in-hand w.bytes w.read in
       let i : v.header ≡ header_at x.header = at-header s.header in
       let n : v.blocks ≡ x.count = sym (w.count ∙ s.blocks) in
       let k : v.end ≡ x.end = sym (w.end ∙ s.end) in
-      subst (λ (q : ReadAnswer). ReadCall x.blob x.reuse q w.old w.new) (told i n k) d
+      subst (λ (q : Res ReadTold). ReadCall x.blob x.reuse q w.old w.new) (told i n k) d
     where
-      told : {h g : Header} {n m end other : ℕ} → h ≡ g → n ≡ m → end ≡ other → read_answer.Whole h n end ≡ read_answer.Whole g m other
+      told : {h g : Header} {n m end other : ℕ} → h ≡ g → n ≡ m → end ≡ other → ok {A = ReadTold} (record { header = h; blocks = n; end = end }) ≡ ok {A = ReadTold} (record { header = g; blocks = m; end = other })
       told i n k = rw (i, n, k)
 
   read_whole : ByRead (in_hand x)
@@ -345,7 +336,7 @@ module _ (b : List ℕ) (reuse : Bool) (old : Lent) (h : Header) (f : MaskInForc
     header = λ v header₀ header₁ q i l. let (s, d, t) = header-as q i l in t.zero.1 (ap accepts (header-call d ∙ parts.header));
     prepare = λ v header spare said₀ said₁ q p i l. let (s, d, t) = prepare-as q p i l in t.zero.1 (ap accepts (prepare-call d).says ∙ rw (mask-found) (told_of f));
     ranges = λ v header ranges₀ ranges₁ q p i l. let (s, d, t) = ranges-as q p i l in
-        t.zero.1 (ap accepts (ap ranges_told (ranges-call d) ∙ ranges-are (read_ranges_says b h) ∙ ranges-found.1));
+        t.zero.1 (ap accepts (ranges-call d ∙ ranges-found.1));
     walk = λ v header ranges mask list said₀ said₁ g q p i says m k l. let (s, d, t) = walk-as q p i k l in
         t.zero.1 (ap accepts (walk_call d).says ∙ rw (walk-found g says mask m));
   }
@@ -353,28 +344,28 @@ module _ (b : List ℕ) (reuse : Bool) (old : Lent) (h : Header) (f : MaskInForc
 -- ---- fills
 
 -- each record tells what the reader answered
-abbrev AllTell : List FillAnswer → List Outcome → Type 0
+abbrev AllTell : List (Res ℕ) → List Outcome → Type 0
 AllTell [] [] = Unit {0}
 AllTell [] (o ∷ others) = ⊥
 AllTell (a ∷ answers) [] = ⊥
-AllTell (a ∷ answers) (o ∷ others) = Tells (fill_said a) alone o.told o.said₀ o.said₁ × AllTell answers others
+AllTell (a ∷ answers) (o ∷ others) = Tells a alone o.told o.said₀ o.said₁ × AllTell answers others
 
 module _ {b header ranges mask list : List ℕ} {h : Header} {r : Ranges} (p : HoldsHeader header h) (q : HoldsRanges ranges r) where
-  filled : (ns : List ℕ) (said : List Outcome) (old new : List ℕ) → FillsInC b header ranges mask list ns said old new → (answers : List FillAnswer) × FillCalls b h r mask list ns answers old new × AllTell answers said
+  filled : (ns : List ℕ) (said : List Outcome) (old new : List ℕ) → FillsInC b header ranges mask list ns said old new → (answers : List (Res ℕ)) × FillCalls b h r mask list ns answers old new × AllTell answers said
   filled ns said old new (none image) = ([], no_call image, tt)
   filled ns said old new (more n rest one others old' mid new' i l c f) =
       let (a, d, t) = fill-as c p q i l in
       let (answers, calls, tells) = filled rest others mid new' f in
       (a ∷ answers, one-call n rest a answers old' mid new' d calls, (t, tells))
 
-answered : (s : Shape) (mask : List ℕ) (n : ℕ) (o : Outcome) → Tells (fill_said (answer_to s mask n)) alone o.told o.said₀ o.said₁ → Answered s mask n o
+answered : (s : Shape) (mask : List ℕ) (n : ℕ) (o : Outcome) → Tells ((answer_to s mask n)) alone o.told o.said₀ o.said₁ → Answered s mask n o
 answered s mask n o t = record {
   place = t.place ∙ ap (set o.told.place₀ 0) (go (ltb n (block_count s)));
-  below = λ l. let e : fill_said (answer_to s mask n) ≡ ok (valid_in_tile s mask (tile_of s n)) = rw (lt-ltb _ _ l) in (t.zero.1 (ap accepts e), t.written _ e);
-  above = λ l. let e : fill_said (answer_to s mask n) ≡ fail (refuse 11) = rw (le-ltb _ _ l) in (t.refused _ e, t.kept _ e);
+  below = λ l. let e : (answer_to s mask n) ≡ ok (valid_in_tile s mask (tile_of s n)) = rw (lt-ltb _ _ l) in (t.zero.1 (ap accepts e), t.written _ e);
+  above = λ l. let e : (answer_to s mask n) ≡ fail (refuse 11) = rw (le-ltb _ _ l) in (t.refused _ e, t.kept _ e);
 }
   where
-    go : (b : Bool) → (why_of (fill_said (cond b (fill-answer.Filled (valid_in_tile s mask (tile_of s n))) (fill-answer.Refused (refuse 11))))).at ≡ 0
+    go : (b : Bool) → (why_of ((cond b (ok (valid_in_tile s mask (tile_of s n))) (fail (refuse 11))))).at ≡ 0
     go true = refl
     go false = refl
 
@@ -389,8 +380,8 @@ alike : (x : InHandInC) → header_says x.blob ≡ ok (header_at x.header) → (
 alike x e left a =
     let (i, l) = read-long a.read.2 refl in
     let (r, d, t) = read_as a.read.2 i l in
-    let (v, s) = accepts-is (read_said r) (t.zero.0 refl) in
-    let y = whole-read (subst (λ (q : ReadAnswer). ReadCall x.blob x.reuse q a.lent left) (read_same r (read_answer.Whole v.header v.blocks v.end) s) d) in
+    let (v, s) = accepts-is r (t.zero.0 refl) in
+    let y = whole-read (subst (λ (q : Res ReadTold). ReadCall x.blob x.reuse q a.lent left) (s) d) in
     let z : v.header ≡ header_at x.header = ok-is (sym y.says ∙ e) in
     record { answer = r; lent = a.lent; read = d; room = subst (λ (h : Header). room h a.lent ≡ true) z y.room; same-mask = a.same-mask; same_start = a.same_start }
 
@@ -401,7 +392,7 @@ in-any-order x h y ns said new f =
     let a = demand-three.any_order (in_hand x) y ns answers new calls in
     record {
       found = a.found;
-      answers = all-answered (shape_in x) x.mask ns said (subst (λ (q : List FillAnswer). AllTell q said) a.answers tells);
+      answers = all-answered (shape_in x) x.mask ns said (subst (λ (q : List (Res ℕ)). AllTell q said) a.answers tells);
       long = a.long;
       cells = a.cells;
       as_read = λ left r. a.as_read left (alike x h.says left r);

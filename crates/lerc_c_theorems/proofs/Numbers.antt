@@ -23,9 +23,7 @@ use Rattle.lerc_image.specs.Walk.{walk_says}
 use Rattle.lerc_image.specs.Fill.{fill_says}
 use Rattle.lerc_slices.specs.Slices.{begins_with}
 use Rattle.lerc_validity.specs.Validity.{holds_mask}
-use Rattle.lerc.specs.declared.StageAnswer.{StageAnswer}
 use Rattle.lerc.specs.declared.Staged.{Staged}
-use Rattle.lerc.specs.declared.StageAnswer.TheVariants as stage-answer
 use Rattle.lerc.specs.Meaning.{Meaning, starts_of}
 use Rattle.lerc.specs.Read.{Lent, read_says}
 use Rattle.lerc.specs.Stage.{staged_of, is_answer, was_staged, publish_says}
@@ -120,10 +118,10 @@ neither f n (inr w) = n.good refl w
 -- a record of which a number is too wide, or names nothing, stands for no answer
 module _ (staged : List ℕ) where
   abbrev named : Bool → Header → Res Staged
-  named u h = require u 3 >>= λ _. ok (record { header = h; body = kind_from (get_or staged 13 0); blocks = get_or staged 11 0; end = get_or staged 12 0; mask = mask_from (get_or staged 14 0) (get_or staged 15 0) })
+  named u h = require u 3 >>= λ _. ok (record { header = h; body = kind_from (get_or staged 13 0); blocks = get_or staged 11 0; end = get_or staged 12 0; mask = ok (mask_from (get_or staged 14 0) (get_or staged 15 0)) })
 
   answer-none : (t u : Bool) → Decides t (HeaderWide staged) → Decides u (NameWide staged)
-      → (answer_in ((require t 3 >>= λ _. ok (header_at staged)) >>= named u) ≡ stage-answer.Refused (refuse 0)) ↔ (HeaderWide staged ⊎ NameWide staged)
+      → (answer_in ((require t 3 >>= λ _. ok (header_at staged)) >>= named u) ≡ fail (refuse 0)) ↔ (HeaderWide staged ⊎ NameWide staged)
   answer-none true true f n = (λ e. absurd (let z : ◌≡◌ {A = ℕ} 0 1 = cc in omega arith), λ w. absurd (neither f n w))
   answer-none true false f n = (λ _. inr (n.bad refl), λ _. refl)
   answer-none false u f n = (λ _. inl (f.bad refl), λ _. refl)
@@ -328,7 +326,7 @@ stage-table : (place b : List ℕ) (reuse : Bool) (l : Lent) (staged : List ℕ)
 stage-table place b reuse l staged = placed-table place (whole-exactly b reuse l) (long staged_room staged) no_test (stage-form b reuse l staged)
 
 -- staging gave it, test by test
-module _ (m : Meaning) (given : StageAnswer) (l : Lent) where
+module _ (m : Meaning) (given : Res Staged) (l : Lent) where
   as-staged : was_staged m given l ≡ true → AsStaged m given l
   as-staged e =
       let (e, list) = and_is (holds_mask m.mask l.spare && is_answer given (staged_of m)) (begins_with (starts_of m.body) l.list) e in
@@ -338,7 +336,7 @@ module _ (m : Meaning) (given : StageAnswer) (l : Lent) where
   was-staged : AsStaged m given l → was_staged m given l ≡ true
   was-staged p = rw (p.spare, p.answer, answer-self m, p.list)
 
-module _ (b : List ℕ) (reuse : Bool) (given : StageAnswer) (l : Lent) where
+module _ (b : List ℕ) (reuse : Bool) (given : Res Staged) (l : Lent) where
   publish-refused : (x : Res Meaning) → read_says b reuse l ≡ x → {why : Refusal} → (x >>= λ m. require (was_staged m given l) 3 >>= λ _. ok m) ≡ fail why → PublishRefused b reuse given l why
   publish-refused (fail r) e {why} d = publish-read ((whole-exactly b reuse l why).0 (e ∙ d))
   publish-refused (ok m) e {why} d = go (was_staged m given l) refl d
@@ -467,7 +465,7 @@ stage-only =
     only l stage-places refl refl (λ a w. refl) (λ a why. whole_in (In l) refl refl refl refl refl refl refl refl refl refl)
 
 -- 3 is also of what staging did not give
-publish-in : {b : List ℕ} {reuse : Bool} {given : StageAnswer} {l : Lent} (P : ℕ → Type 0) → P 3 → ((why : Refusal) → WholeRefused b reuse l why → P why.number) → (why : Refusal)
+publish-in : {b : List ℕ} {reuse : Bool} {given : Res Staged} {l : Lent} (P : ℕ → Type 0) → P 3 → ((why : Refusal) → WholeRefused b reuse l why → P why.number) → (why : Refusal)
     → PublishRefused b reuse given l why → P why.number
 publish-in P three whole why (publish-read r) = whole why r
 publish-in P three whole why (publish-given m e other) = three

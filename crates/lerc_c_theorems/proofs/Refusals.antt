@@ -16,7 +16,6 @@ use Rattle.lerc_ranges.specs.declared.Ranges.{Ranges}
 use Rattle.lerc_validity.specs.Validity.{MaskInForce, spare_with}
 use Rattle.lerc.specs.Meaning.{Meaning}
 use Rattle.lerc.specs.Read.{Lent, read_says, Masked, masked, refused_after, read_after}
-use Rattle.lerc.specs.declared.StageAnswer.TheVariants as stage-answer
 use Rattle.lerc.specs.Stage.{StageRead}
 use Rattle.lerc.proofs.Both.{read-refused}
 use Rattle.lerc_c.specs.Records.{why_of, staged_room}
@@ -114,7 +113,7 @@ module _ (b : List ℕ) (reuse : Bool) (old : Lent) (staged place : List ℕ) wh
           let (u, v) = and_is (leb 1 (length place)) (leb staged_room (length staged)) t in
           let i = rw (u, v) at e in
           let s = rw (u, v) at d.spare in
-          let r : StageRead b reuse (stage-answer.Refused q) old spare old.list = record { says = rw (i); spare = s; list = rw (i) } in
+          let r : StageRead b reuse (fail q) old spare old.list = record { says = rw (i); spare = s; list = rw (i) } in
           whole-keeps b reuse old (record { kept = old.kept; spare = spare; list = old.list; image = old.image }) q (read-refused b reuse old r)
 
     stage-none : (leb 1 (length place) && leb staged_room (length staged)) ≡ false → spare ≡ old.spare

@@ -12,30 +12,21 @@ use Rattle.lerc_words.specs.declared.Refusal.{Refusal}
 use Rattle.lerc_words.specs.Res.{Res, ok, fail, ◌>>=◌, require, accepts, after}
 use Rattle.lerc_words.specs.Lists.{over}
 use Rattle.lerc_words.proofs.Binding.{ok-is}
-use Rattle.lerc_samples.specs.declared.StoredAnswer.{StoredAnswer}
-use Rattle.lerc_samples.specs.Samples.{stored, stored_said}
+use Rattle.lerc_samples.specs.Samples.{stored}
 use Rattle.lerc_header.specs.declared.Header.{Header}
-use Rattle.lerc_header.specs.declared.HeaderAnswer.{HeaderAnswer}
-use Rattle.lerc_header.specs.Header.{shape_of, header_says, header_said}
+use Rattle.lerc_header.specs.Header.{shape_of, header_says}
 use Rattle.lerc_header.specs.Shape.{block_count}
-use Rattle.lerc_validity.specs.declared.MaskAnswer.{MaskAnswer}
-use Rattle.lerc_validity.specs.declared.MaskAnswer.TheVariants as mask
-use Rattle.lerc_validity.specs.Validity.{MaskInForce, reused, new as made, which, spare_with, prepare_says, mask_said}
+use Rattle.lerc_validity.specs.Validity.{MaskInForce, reused, new as made, which, spare_with, prepare_says, MaskTold}
 use Rattle.lerc_ranges.specs.declared.Ranges.{Ranges}
-use Rattle.lerc_ranges.specs.declared.RangesRead.{RangesRead}
-use Rattle.lerc_ranges.specs.Ranges.{read_ranges_says, ranges_said}
+use Rattle.lerc_ranges.specs.Ranges.{read_ranges_says}
 use Rattle.lerc_block.specs.Block.{Block}
-use Rattle.lerc_image.specs.declared.WalkAnswer.{WalkAnswer}
-use Rattle.lerc_image.specs.declared.FillAnswer.{FillAnswer}
 use Rattle.lerc_image.specs.Blocks.{Chain}
 use Rattle.lerc_image.specs.Paint.{scattered}
 use Rattle.lerc_image.specs.Geometry.{tile_of, valid_in_tile}
-use Rattle.lerc_image.specs.Walk.{Walk, walk_says, walk_said, walk_count, walk_list}
-use Rattle.lerc_image.specs.Fill.{fill_says, fill_said, fill_count, fill_image}
-use Rattle.lerc.specs.declared.ReadAnswer.{ReadAnswer}
+use Rattle.lerc_image.specs.Walk.{Walk, walk_says, walk_count, walk_list}
+use Rattle.lerc_image.specs.Fill.{fill_says, fill_count, fill_image}
 use Rattle.lerc.specs.Meaning.{Meaning, starts_of, end_of}
-use Rattle.lerc.specs.declared.StageAnswer.{StageAnswer}
-use Rattle.lerc.specs.Read.{Lent, read_says, Masked, masked, published, read_after, read_count, read_said}
+use Rattle.lerc.specs.Read.{Lent, read_says, Masked, masked, published, read_after, read_count, ReadTold}
 use Rattle.lerc.specs.Stage.{staged_of, staged_spare, staged_list, body_told, publish_says}
 use Rattle.lerc_c.specs.Records.{why_of, header_room, header_numbers, ranges_room, ranges_numbers, staged_room, staged_numbers}
 use Rattle.lerc_c.specs.Entries.{placing, header_entry, prepare_entry, mask_numbers, ranges_entry, Walking, walk_numbers, walk_entry, Filling, fill_numbers, fill_paints, fill_entry, read_room, read_numbers, read_entry, masked_entry, stage_entry, staged_mask_entry, publish_entry, told_numbers, publish_numbers, stored_entry}
@@ -47,8 +38,10 @@ use Rattle.lerc_theorems.specs.Calls.{HeaderCall, PrepareCall, RangesCall, WalkC
 use Rattle.lerc_theorems.proofs.Calls.{header-call, prepare-call, ranges-call, walk_call, fill-call, read-call}
 use Rattle.lerc_theorems.proofs.Demands.{fail-is, not-refused}
 use Rattle.lerc_c_theorems.specs.Calls.{HoldsHeader, HoldsRanges, HoldsStaged, Told, HasPlace, HeaderInC, PrepareInC, RangesInC, WalkInC, FillInC, ReadInC, StoredInC, StoredCall}
-use Rattle.lerc_c_theorems.specs.SameReader.{Tells, part_numbers, ranges_told, walked_numbers, whole_numbers, alone, SameStage, SamePublish, SamePackOpen, SamePackEntry, SamePackWrite, SameReader}
+use Rattle.lerc_c_theorems.specs.SameReader.{Tells, part_numbers, walked_numbers, whole_numbers, alone, SameStage, SamePublish, SamePackOpen, SamePackEntry, SamePackWrite, SameReader}
 use Rattle.lerc_c_theorems.proofs.Calls.{Entered, header-done, prepare-done, ranges-done, walk-done, fill_done, read_done, stage-done, publish-done, stage-call, publish-call, stored-done, stored-call, pack-open-done, pack-entry-done, pack-write-done, pack-open-call, pack-entry-call, pack-write-call}
+use Rattle.lerc_validity.specs.declared.Mask.TheVariants as mask
+use Rattle.lerc.specs.declared.Staged.{Staged}
 
 -- ---- an entry, and the answer that it numbers-tell
 
@@ -146,7 +139,7 @@ module _ (b : List ℕ) (reuse : Bool) (l : Lent) (staged : List ℕ) (long : st
   unfolding staged_mask_entry
   staged-mask-reads = rw (le-leb staged_room (length staged) long)
 
-pub publish-reads : (b : List ℕ) (reuse : Bool) {staged : List ℕ} {given : StageAnswer} (l : Lent) (said : List ℕ) → HoldsStaged staged given → 2 ≤ length said
+pub publish-reads : (b : List ℕ) (reuse : Bool) {staged : List ℕ} {given : Res Staged} (l : Lent) (said : List ℕ) → HoldsStaged staged given → 2 ≤ length said
     → publish_entry b reuse staged l said ≡ publish_says b reuse given l
 unfolding publish_entry
 publish-reads b reuse l said p n = rw (le-leb _ _ p.long, le-leb 2 (length said) n, p.is)
@@ -168,10 +161,6 @@ pack-write-reads g room said l = rw (le-leb 1 (length said) l)
 part-told : (f : MaskInForce) → NumbersOf mask_numbers which part_numbers f
 part-told (reused m) = record { answer = mask.Kept (length m); is = refl; same = refl }
 part-told (made m) = record { answer = mask.Spare (length m); is = refl; same = refl }
-
-pub ranges-are : (m : Res Ranges) → ranges_told (ranges_said m) ≡ m
-ranges-are (ok r) = refl
-ranges-are (fail why) = refl
 
 abbrev walk_told : Walking → Res Walk
 walk_told w = walk_count w.header w.chain
@@ -201,7 +190,7 @@ module _ (h : Header) where
 -- ---- entry by entry
 
 header-same : (b : List ℕ) (t : Told) (header₀ header₁ : List ℕ) → HeaderInC b t header₀ header₁ → HasPlace t → header_room ≤ length header₀
-    → (answer : HeaderAnswer) → HeaderCall b answer → Tells (header_said answer) header_numbers t header₀ header₁
+    → (answer : Res Header) → HeaderCall b answer → Tells answer header_numbers t header₀ header₁
 header-same b t header₀ header₁ c i l answer d =
     let p = header-done c in
     let m = placing t.place₀ (header_entry b header₀) in
@@ -210,7 +199,7 @@ header-same b t header₀ header₁ c i l answer d =
 
 prepare-same : (b header : List ℕ) (reuse : Bool) (kept : List ℕ) (t : Told) (spare₀ spare₁ said₀ said₁ : List ℕ) → PrepareInC b header reuse kept t spare₀ spare₁ said₀ said₁
     → (h : Header) → HoldsHeader header h → HasPlace t → 2 ≤ length said₀
-    → (answer : MaskAnswer) (spare : List ℕ) → PrepareCall b h reuse kept answer spare₀ spare → Tells (mask_said answer) part_numbers t said₀ said₁ × (spare₁ ≡ spare)
+    → (answer : Res MaskTold) (spare : List ℕ) → PrepareCall b h reuse kept answer spare₀ spare → Tells answer part_numbers t said₀ said₁ × (spare₁ ≡ spare)
 prepare-same b header reuse kept t spare₀ spare₁ said₀ said₁ c h q i l answer spare d =
     let p = prepare-done c in
     let m = prepare_entry b header reuse kept spare₀ said₀ in
@@ -221,17 +210,17 @@ prepare-same b header reuse kept t spare₀ spare₁ said₀ said₁ c h q i l a
     )
 
 ranges-same : (b header : List ℕ) (t : Told) (ranges₀ ranges₁ : List ℕ) → RangesInC b header t ranges₀ ranges₁ → (h : Header) → HoldsHeader header h → HasPlace t → ranges_room ≤ length ranges₀
-    → (answer : RangesRead) → RangesCall b h answer → Tells (ranges_told answer) ranges_numbers t ranges₀ ranges₁
+    → (answer : Res Ranges) → RangesCall b h answer → Tells answer ranges_numbers t ranges₀ ranges₁
 ranges-same b header t ranges₀ ranges₁ c h q i l answer d =
     let p = ranges-done c in
     let m = placing t.place₀ (ranges_entry b header ranges₀) in
     let e = placed-entry t.place₀ (ranges_entry b header ranges₀) i ∙ ranges-reads b q ranges₀ l in
     numbers-tell ranges_numbers ok ranges_numbers (itself ranges_numbers) m (placing-numbered t.place₀ (ranges-numbered b header ranges₀))
-    (ap ranges_told (ranges-call d) ∙ ranges-are (read_ranges_says b h) ∙ sym e ∙ unit m) p p.done.why p.done.ranges
+    (ranges-call d ∙ sym e ∙ unit m) p p.done.why p.done.ranges
 
 walk_same : (b header ranges mask : List ℕ) (t : Told) (list₀ list₁ said₀ said₁ : List ℕ) → WalkInC b header ranges mask t list₀ list₁ said₀ said₁
     → (h : Header) (r : Ranges) → HoldsHeader header h → HoldsRanges ranges r → HasPlace t → 2 ≤ length said₀
-    → (answer : WalkAnswer) (list : List ℕ) → WalkCall b h r mask answer list₀ list → Tells (walk_said answer) walked_numbers t said₀ said₁ × (list₁ ≡ list)
+    → (answer : Res Walk) (list : List ℕ) → WalkCall b h r mask answer list₀ list → Tells answer walked_numbers t said₀ said₁ × (list₁ ≡ list)
 unfolding walk_list
 walk_same b header ranges mask t list₀ list₁ said₀ said₁ c h r q g i l answer list d =
     let p = walk-done c in
@@ -246,7 +235,7 @@ walk_same b header ranges mask t list₀ list₁ said₀ said₁ c h r q g i l a
 
 fill-same : (b header ranges mask list : List ℕ) (block : ℕ) (t : Told) (image₀ image₁ said₀ said₁ : List ℕ) → FillInC b header ranges mask list block t image₀ image₁ said₀ said₁
     → (h : Header) (r : Ranges) → HoldsHeader header h → HoldsRanges ranges r → HasPlace t → 1 ≤ length said₀
-    → (answer : FillAnswer) (image : List ℕ) → FillCall b h r mask list block answer image₀ image → Tells (fill_said answer) alone t said₀ said₁ × (image₁ ≡ image)
+    → (answer : Res ℕ) (image : List ℕ) → FillCall b h r mask list block answer image₀ image → Tells answer alone t said₀ said₁ × (image₁ ≡ image)
 unfolding fill_image
 fill-same b header ranges mask list block t image₀ image₁ said₀ said₁ c h r q g i l answer image d =
     let p = fill_done c in
@@ -261,7 +250,7 @@ fill-same b header ranges mask list block t image₀ image₁ said₀ said₁ c 
     )
 
 read_same : (b : List ℕ) (reuse : Bool) (t : Told) (old new : Lent) (said₀ said₁ : List ℕ) → ReadInC b reuse t old new said₀ said₁ → HasPlace t → read_room ≤ length said₀
-    → (answer : ReadAnswer) (left : Lent) → ReadCall b reuse answer old left → Tells (read_said answer) whole_numbers t said₀ said₁ × (new ≡ left)
+    → (answer : Res ReadTold) (left : Lent) → ReadCall b reuse answer old left → Tells answer whole_numbers t said₀ said₁ × (new ≡ left)
 read_same b reuse t old new said₀ said₁ c i l answer left d =
     let p = read_done c in
     let m = read_entry b reuse old said₀ in
@@ -299,7 +288,7 @@ publish-same b reuse staged t old kept₁ image₁ said₀ said₁ c given g i l
     )
 
 stored_same : (v kind : ℕ) (t : Told) (said₀ said₁ : List ℕ) → StoredInC v kind t said₀ said₁ → HasPlace t → 1 ≤ length said₀
-    → (answer : StoredAnswer) → StoredCall v kind answer → Tells (stored_said answer) alone t said₀ said₁
+    → (answer : Res ℕ) → StoredCall v kind answer → Tells answer alone t said₀ said₁
 stored_same v kind t said₀ said₁ c i l answer d =
     let p = stored-done c in
     let m = placing t.place₀ (stored_entry kind v said₀) in

@@ -18,13 +18,9 @@ use Rattle.lerc_header.specs.Header.{shape_of}
 use Rattle.lerc_header.specs.Shape.{mask_length as mask_bytes}
 use Rattle.lerc_validity.specs.Validity.{MaskInForce, reused, new as made, bytes_of, spare_with}
 use Rattle.lerc_validity.proofs.Prepared.{Part, Right, mask-right}
-use Rattle.lerc.specs.declared.ReadAnswer.{ReadAnswer}
-use Rattle.lerc.specs.declared.ReadAnswer.TheVariants as read_answer
 use Rattle.lerc.specs.declared.Staged.{Staged}
-use Rattle.lerc.specs.declared.StageAnswer.TheVariants as stage-answer
-use Rattle.lerc.specs.declared.PublishAnswer.TheVariants as publish-answer
 use Rattle.lerc.specs.Meaning.{Meaning}
-use Rattle.lerc.specs.Read.{Lent, read_says, Masked, masked, published, read_after, read_count, WholeRead}
+use Rattle.lerc.specs.Read.{Lent, read_says, Masked, masked, published, read_after, read_count, WholeRead, ReadTold}
 use Rattle.lerc.specs.Stage.{kind_number, mask_named, staged_of, staged_spare, staged_list, StageRead, body_told, Publishing}
 use Rattle.lerc.proofs.Both.{read-masked, publishes, means, read_done}
 use Rattle.lerc_c.specs.Records.{why_of, header_numbers, fields_fit, header_at, header_from, staged_room, mask_number, mask_length, staged_numbers, kind_from, mask_from, names_right, answer_in, staged_in, staged_from}
@@ -48,7 +44,7 @@ use Rattle.lerc_c_theorems.proofs.DemandThree.{over-long, at-header, Held, held_
 record Taken (b : List ℕ) (reuse : Bool) (old : Lent) (spare list staged₀ staged₁ : List ℕ) : Type 0 where
   meaning : Meaning
   says : read_says b reuse old ≡ ok meaning
-  read : StageRead b reuse (stage-answer.Staged (staged_of meaning)) old spare list
+  read : StageRead b reuse (ok (staged_of meaning)) old spare list
   written : staged₁ ≡ over (staged_numbers (staged_of meaning)) staged₀
 
 taken-by : {b : List ℕ} {reuse : Bool} {old : Lent} {w : Refusal} {spare list staged₀ staged₁ : List ℕ} (place : List ℕ)
@@ -73,11 +69,11 @@ taken {b} {reuse} {t} {old} {staged₀ = staged₀} c z =
     taken-by t.place₀ p.done m e
 
 -- its record stands for its answer
-handed : {b : List ℕ} {reuse : Bool} {old : Lent} {spare list staged₀ staged₁ : List ℕ} → Bytes b → (t : Taken b reuse old spare list staged₀ staged₁) → HoldsStaged staged₁ (stage-answer.Staged (staged_of t.meaning))
+handed : {b : List ℕ} {reuse : Bool} {old : Lent} {spare list staged₀ staged₁ : List ℕ} → Bytes b → (t : Taken b reuse old spare list staged₀ staged₁) → HoldsStaged staged₁ (ok (staged_of t.meaning))
 handed {b} {reuse} {old} {staged₀ = staged₀} bytes t =
     let a = staged_of t.meaning in
-    let k : HoldsStaged (over (staged_numbers a) staged₀) (stage-answer.Staged a) = record { long = over-long (staged_numbers a) staged₀; is = staged-kept b reuse old staged₀ bytes t.says } in
-    subst (λ (l : List ℕ). HoldsStaged l (stage-answer.Staged a)) (sym t.written) k
+    let k : HoldsStaged (over (staged_numbers a) staged₀) (ok a) = record { long = over-long (staged_numbers a) staged₀; is = staged-kept b reuse old staged₀ bytes t.says } in
+    subst (λ (l : List ℕ). HoldsStaged l (ok a)) (sym t.written) k
 
 -- and serves as the header's
 header-handed : {b : List ℕ} {reuse : Bool} {old : Lent} {spare list staged₀ staged₁ : List ℕ} → Bytes b → (t : Taken b reuse old spare list staged₀ staged₁) → HoldsHeader staged₁ t.meaning.header
@@ -111,7 +107,7 @@ kind-forth (suc (suc (suc zero))) h = refl
 kind-forth (suc (suc (suc (suc zero)))) h = refl
 kind-forth (suc (suc (suc (suc (suc n))))) h = absurd (omega (arith, h))
 
-mask-forth : (which n : ℕ) → 0 < which → which < 3 → (mask_number (mask_from which n) ≡ which) × (mask_length (mask_from which n) ≡ n)
+mask-forth : (which n : ℕ) → 0 < which → which < 3 → (mask_number (ok (mask_from which n)) ≡ which) × (mask_length (ok (mask_from which n)) ≡ n)
 unfolding mask_from
 mask-forth zero n s h = absurd (omega (arith, s))
 mask-forth (suc zero) n s h = (refl, refl)
@@ -119,13 +115,13 @@ mask-forth (suc (suc zero)) n s h = (refl, refl)
 mask-forth (suc (suc (suc which))) n s h = absurd (omega (arith, h))
 
 abbrev staged_at : List ℕ → Staged
-staged_at l = record { header = header_at l; body = kind_from (get_or l 13 0); blocks = get_or l 11 0; end = get_or l 12 0; mask = mask_from (get_or l 14 0) (get_or l 15 0) }
+staged_at l = record { header = header_at l; body = kind_from (get_or l 13 0); blocks = get_or l 11 0; end = get_or l 12 0; mask = ok (mask_from (get_or l 14 0) (get_or l 15 0)) }
 
-answered : (l : List ℕ) {a : Staged} → staged_from l ≡ stage-answer.Staged a → (names_right l ≡ true) × (staged_at l ≡ a)
+answered : (l : List ℕ) {a : Staged} → staged_from l ≡ ok a → (names_right l ≡ true) × (staged_at l ≡ a)
 unfolding staged_in header_from
 answered l {a} e = go (fields_fit l) (names_right l) e
   where
-    go : (t u : Bool) → answer_in ((require t 3 >>= λ _. ok (header_at l)) >>= λ h. require u 3 >>= λ _. ok (record { header = h; body = kind_from (get_or l 13 0); blocks = get_or l 11 0; end = get_or l 12 0; mask = mask_from (get_or l 14 0) (get_or l 15 0) })) ≡ stage-answer.Staged a
+    go : (t u : Bool) → answer_in ((require t 3 >>= λ _. ok (header_at l)) >>= λ h. require u 3 >>= λ _. ok (record { header = h; body = kind_from (get_or l 13 0); blocks = get_or l 11 0; end = get_or l 12 0; mask = ok (mask_from (get_or l 14 0) (get_or l 15 0)) })) ≡ ok a
         → (u ≡ true) × (staged_at l ≡ a)
     go true true e = (refl, cc)
     go true false e = absurd (let z : ◌≡◌ {A = ℕ} 0 1 = cc in omega arith)
@@ -144,7 +140,7 @@ record_is : RecordIsAnswer
 record_is b reuse l m staged bytes e h = (
   λ s. let (n, a) = answered staged s in numbers-are staged h n ∙ ap staged_numbers a,
   λ s. let w : over (staged_numbers (staged_of m)) staged ≡ staged = ap (λ (x : List ℕ). x ++ drop staged_room staged) (sym s) ∙ take-append-drop staged_room staged in
-      subst (λ (x : List ℕ). staged_from x ≡ stage-answer.Staged (staged_of m)) w (staged-kept b reuse l staged bytes e),
+      subst (λ (x : List ℕ). staged_from x ≡ ok (staged_of m)) w (staged-kept b reuse l staged bytes e),
 )
 
 stage-tells : StageTellsAsRead
@@ -167,7 +163,7 @@ stage-then-publish b reuse old spare₁ list₁ staged₀ staged₁ bytes (_, _,
     let p = publish-done d in
     let e = placed-entry u.place₀ (publish_entry b reuse staged₁ left said₀) j ∙ publish-reads b reuse left said₀ (handed bytes x) n in
     let told = body_told m.header m.body in
-    let w : Publishing b reuse (stage-answer.Staged (staged_of x.meaning)) (publish-answer.Published told.end told.words) left kept₁ image₁ =
+    let w : Publishing b reuse (ok (staged_of x.meaning)) (ok (record { end = told.end; words = told.words })) left kept₁ image₁ =
     record {
       says = rw (y);
       kept = p.done.kept ∙ ap (λ (z : Res Meaning). after z left.kept (λ m. (published m left).kept)) e;
@@ -194,7 +190,7 @@ named-long : (f : MaskInForce) → mask_length (mask_named f) ≡ length (bytes_
 named-long (reused m) = refl
 named-long (made m) = refl
 
-told-whole : {h g : Header} {n m end other : ℕ} → h ≡ g → n ≡ m → end ≡ other → read_answer.Whole h n end ≡ read_answer.Whole g m other
+told-whole : {h g : Header} {n m end other : ℕ} → h ≡ g → n ≡ m → end ≡ other → ok {A = ReadTold} (record { header = h; blocks = n; end = end }) ≡ ok {A = ReadTold} (record { header = g; blocks = m; end = other })
 told-whole i n k = rw (i, n, k)
 
 module _ (x : InHandInC) (w : ByStageInC x) where
@@ -227,11 +223,11 @@ module _ (x : InHandInC) (w : ByStageInC x) where
   abbrev left : Lent
   left = published found w.old
 
-  read-there : ReadCall x.blob x.reuse (read_answer.Whole (header_at x.header) x.count x.end) w.old left
+  read-there : ReadCall x.blob x.reuse (ok (record { header = (header_at x.header); blocks = x.count; end = x.end })) w.old left
   read-there =
-      let r : WholeRead x.blob x.reuse (read_answer.Whole found.header (staged_of found).blocks (staged_of found).end) w.old left =
+      let r : WholeRead x.blob x.reuse (ok (record { header = found.header; blocks = (staged_of found).blocks; end = (staged_of found).end })) w.old left =
       record { says = sym (ap (λ (y : Res Meaning). y >>= read_count) by.says); lent = sym (ap (λ (y : Res Meaning). read_after y (masked x.blob x.reuse w.old) w.old) by.says) } in
-      subst (λ (q : ReadAnswer). ReadCall x.blob x.reuse q w.old left) (told-whole header_is (sym (w.count ∙ number_is 11)) (sym (w.end ∙ number_is 12))) (read_made x.blob x.reuse _ w.old left r)
+      subst (λ (q : Res ReadTold). ReadCall x.blob x.reuse q w.old left) (told-whole header_is (sym (w.count ∙ number_is 11)) (sym (w.end ∙ number_is 12))) (read_made x.blob x.reuse _ w.old left r)
 
   long-is : length (bytes_of found.mask) ≡ mask_bytes (shape_of (header_at x.header))
   long-is = right.size ∙ ap (λ (h : Header). mask_bytes (shape_of h)) header_is

@@ -3,21 +3,15 @@
 -- the inputs are a tuple in the order of its parameters, the outputs the same at exit.
 -- Assumes nothing.
 use Rattle.std.specs.Prelude.{◌≡◌, Bool, List, ℕ, ◌≤◌, length}
-use Rattle.lerc_words.specs.Res.{ok}
-use Rattle.lerc_samples.specs.declared.StoredAnswer.{StoredAnswer}
+use Rattle.lerc_words.specs.Res.{ok, Res}
 use Rattle.lerc_samples.proofs.stored.Reads as stored-value
 use Rattle.lerc_header.specs.declared.Header.{Header}
 use Rattle.lerc_ranges.specs.declared.Ranges.{Ranges}
-use Rattle.lerc.specs.declared.StageAnswer.{StageAnswer}
-use Rattle.lerc.specs.declared.PublishAnswer.{PublishAnswer}
 use Rattle.lerc.specs.Read.{Lent}
 use Rattle.lerc.proofs.stage.Reads as staging
 use Rattle.lerc.proofs.publish.Reads as publishing
-use Rattle.lerc_pack.specs.declared.PackAnswer.{PackAnswer}
-use Rattle.lerc_pack.specs.declared.EntryAnswer.{EntryAnswer}
 use Rattle.lerc_pack.proofs.open_pack.Reads as open-pack
 use Rattle.lerc_pack.proofs.entry_in.Reads as entry_in
-use Rattle.lerc_pack_writer.specs.declared.WriteAnswer.{WriteAnswer}
 use Rattle.lerc_pack_writer.specs.Writing.{Given}
 use Rattle.lerc_pack_writer.proofs.write_pack.Reads as write-pack
 use Rattle.lerc_c.specs.Records.{header_room, header_from, ranges_room, ranges_from, staged_room, staged_from}
@@ -35,6 +29,9 @@ use Rattle.lerc_c.proofs.lerc2_pack_entry.Reads as pack-entry
 use Rattle.lerc_c.proofs.lerc2_pack_write.Reads as pack-write
 use Rattle.lerc_theorems.specs.Calls.{Call}
 use Rattle.lerc_c_theorems.specs.Promises.{c-lent, c-stage-lent, c-staged, c-given, c-published, c-tiles, c-written}
+use Rattle.lerc.specs.Stage.{PublishTold}
+use Rattle.lerc.specs.declared.Staged.{Staged}
+use Rattle.lerc_pack.specs.declared.Entry.{Entry}
 
 -- ---- records that are lent
 
@@ -49,7 +46,7 @@ pub record HoldsRanges (ranges : List ℕ) (r : Ranges) : Type 0 where
   pub is : ranges_from ranges ≡ ok r
 
 -- long enough for an answer of staging: it stands for the answer a
-pub record HoldsStaged (staged : List ℕ) (a : StageAnswer) : Type 0 where
+pub record HoldsStaged (staged : List ℕ) (a : Res Staged) : Type 0 where
   pub long : staged_room ≤ length staged
   pub is : staged_from staged ≡ a
 
@@ -122,16 +119,16 @@ PublishInC b reuse staged t old kept₁ image₁ said₀ said₁ =
     (b, reuse, staged, old, said₀, t.place₀) t.number (kept₁, image₁, said₁, t.place₁)
 
 -- the reader's own: blob, reuse; the answer; what is lent; spare and list afterwards
-abbrev pub StageCall : List ℕ → Bool → StageAnswer → Lent → List ℕ → List ℕ → Type 0
+abbrev pub StageCall : List ℕ → Bool → Res Staged → Lent → List ℕ → List ℕ → Type 0
 StageCall b reuse said old spare list =
     Call {S = List ℕ × Bool × Lent} {T = List ℕ × List ℕ} staging.Post
     (λ a. (a.0.now, a.1.0, record { kept = a.1.1.0.now; spare = a.1.1.1.0.now; list = a.1.1.1.1.0.now; image = a.1.1.1.1.1.0.now })) (λ r. r)
     (λ o. (o.1.1.1.0.now, o.1.1.1.1.0.now)) (b, reuse, old) said (spare, list)
 
 -- blob, reuse, the answer given; the answer; what is lent; kept mask and image afterwards
-abbrev pub PublishCall : List ℕ → Bool → StageAnswer → PublishAnswer → Lent → List ℕ → List ℕ → Type 0
+abbrev pub PublishCall : List ℕ → Bool → Res Staged → Res PublishTold → Lent → List ℕ → List ℕ → Type 0
 PublishCall b reuse given said old kept image =
-    Call {S = List ℕ × Bool × StageAnswer × Lent} {T = List ℕ × List ℕ} publishing.Post
+    Call {S = List ℕ × Bool × Res Staged × Lent} {T = List ℕ × List ℕ} publishing.Post
     (λ a. (a.0.now, a.1.0, a.1.1.0, record { kept = a.1.1.1.0.now; spare = a.1.1.1.1.0.now; list = a.1.1.1.1.1.0.now; image = a.1.1.1.1.1.1.0.now })) (λ r. r)
     (λ o. (o.1.1.1.0.now, o.1.1.1.1.1.1.0.now)) (b, reuse, given, old) said (kept, image)
 
@@ -142,7 +139,7 @@ StoredInC v kind t said₀ said₁ =
     (v, kind, said₀, t.place₀) t.number (said₁, t.place₁)
 
 -- the reader's own: value, kind; the answer
-abbrev pub StoredCall : ℕ → ℕ → StoredAnswer → Type 0
+abbrev pub StoredCall : ℕ → ℕ → Res ℕ → Type 0
 StoredCall v kind said = Call {S = ℕ × ℕ} {T = Unit {0}} stored-value.Post (λ a. (a.0, a.1.0)) (λ r. r) (λ o. tt) (v, kind) said tt
 
 -- ---- packs
@@ -166,15 +163,15 @@ PackWriteInC g t pack₀ pack₁ said₀ said₁ =
     (g, pack₀, said₀, t.place₀) t.number (pack₁, said₁, t.place₁)
 
 -- the reader's own: pack; the answer
-abbrev pub PackOpenCall : List ℕ → PackAnswer → Type 0
+abbrev pub PackOpenCall : List ℕ → Res ℕ → Type 0
 PackOpenCall b said = Call {T = Unit {0}} open-pack.Post (λ a. a.0.now) (λ r. r) (λ o. tt) b said tt
 
 -- pack, the count of its tiles, the entry's number; the answer
-abbrev pub PackEntryCall : List ℕ → ℕ → ℕ → EntryAnswer → Type 0
+abbrev pub PackEntryCall : List ℕ → ℕ → ℕ → Res Entry → Type 0
 PackEntryCall b tiles number said = Call {S = List ℕ × ℕ × ℕ} {T = Unit {0}} entry_in.Post (λ a. (a.0.now, a.1.0, a.1.1.0)) (λ r. r) (λ o. tt) (b, tiles, number) said tt
 
 -- tiles; the answer; the pack's slice
-abbrev pub PackWriteCall : Given → WriteAnswer → List ℕ → List ℕ → Type 0
+abbrev pub PackWriteCall : Given → Res ℕ → List ℕ → List ℕ → Type 0
 PackWriteCall g said pack₀ pack₁ =
     Call {S = Given × List ℕ} {T = List ℕ} write-pack.Post
     (λ a. (record { rows = a.0.now; columns = a.1.0.now; lengths = a.1.1.0.now; bodies = a.1.1.1.0.now }, a.1.1.1.1.0.now)) (λ r. r) (λ o. o.1.1.1.1.0.now) (g, pack₀) said pack₁

@@ -2,7 +2,6 @@
 -- Assumes nothing.
 use Rattle.std.specs.Prelude.{◌≡◌, Bool, List, ℕ, ◌≤◌, length}
 use Rattle.lerc_words.specs.Res.{ok}
-use Rattle.lerc.specs.declared.ReadAnswer.TheVariants as read_answer
 use Rattle.lerc.specs.Meaning.{Meaning, end_of, starts_of, meaning}
 use Rattle.lerc.specs.Read.{Lent}
 use Rattle.lerc_c.specs.Entries.{read_room, read_numbers}
@@ -16,4 +15,4 @@ pub record DemandTwoInC : Type 0 where
       → Tells (meaning b reuse old.kept) read_numbers t said₀ said₁
   -- kept mask, spare, list and every valid cell are that meaning, as a read that answers so leaves them; all other cells keep their words
   pub cells-exact-in-c : (b : List ℕ) (reuse : Bool) (t : Told) (old new : Lent) (said₀ said₁ : List ℕ) → ReadInC b reuse t old new said₀ said₁ → HasPlace t → read_room ≤ length said₀ → Roomy b old
-      → (m : Meaning) → meaning b reuse old.kept ≡ ok m → Exact m (read_answer.Whole m.header (length (starts_of m.body)) (end_of m.body)) old new
+      → (m : Meaning) → meaning b reuse old.kept ≡ ok m → Exact m (ok (record { header = m.header; blocks = (length (starts_of m.body)); end = (end_of m.body) })) old new

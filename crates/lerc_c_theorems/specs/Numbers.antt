@@ -3,12 +3,10 @@
 -- Assumes nothing.
 use Rattle.std.specs.Prelude.{◌≡◌, ◌↔◌, ◌≢◌, ◌⊎◌, Bool, true, List, [], ◌∷◌, ℕ, ◌^◌, ◌≤◌, ◌<◌, length, get_or, set}
 use Rattle.lerc_words.specs.declared.Refusal.{Refusal}
-use Rattle.lerc_words.specs.Res.{ok, refuse}
+use Rattle.lerc_words.specs.Res.{ok, refuse, Res, fail}
 use Rattle.lerc_slices.specs.Slices.{begins_with}
 use Rattle.lerc_validity.specs.Validity.{holds_mask}
 use Rattle.lerc_image.specs.Paint.{among}
-use Rattle.lerc.specs.declared.StageAnswer.{StageAnswer}
-use Rattle.lerc.specs.declared.StageAnswer.TheVariants as stage-answer
 use Rattle.lerc.specs.Meaning.{Meaning, starts_of}
 use Rattle.lerc.specs.Read.{Lent, read_says}
 use Rattle.lerc.specs.Stage.{staged_of}
@@ -32,6 +30,7 @@ use Rattle.lerc_theorems.specs.BlockTable.{StoredRefused}
 use Rattle.lerc_theorems.specs.Table.{HeaderRefused, PrepareRefused, ReadRangesRefused, WalkRefused, FillRefused, WholeRefused}
 use Rattle.lerc_c_theorems.specs.Promises.{c-lent, c-stage-lent, c-staged, c-given, c-published, c-tiles, c-written}
 use Rattle.lerc_c_theorems.specs.PackTable.{PackRefused, EntryOutside, WriteRefused}
+use Rattle.lerc.specs.declared.Staged.{Staged}
 
 -- ---- the table
 
@@ -71,16 +70,16 @@ pub data NameWide (staged : List ℕ) : Type 0 where
 
 -- a record stands for a refused answer exactly where a number is too wide for its field or names nothing
 abbrev pub NoAnswer : Type 0
-NoAnswer = (staged : List ℕ) → (staged_from staged ≡ stage-answer.Refused (refuse 0)) ↔ (HeaderWide staged ⊎ NameWide staged)
+NoAnswer = (staged : List ℕ) → (staged_from staged ≡ fail (refuse 0)) ↔ (HeaderWide staged ⊎ NameWide staged)
 
 -- staging gave this answer for this meaning, and left this spare and this list
-pub record AsStaged (m : Meaning) (given : StageAnswer) (l : Lent) : Type 0 where
-  pub answer : given ≡ stage-answer.Staged (staged_of m)
+pub record AsStaged (m : Meaning) (given : Res Staged) (l : Lent) : Type 0 where
+  pub answer : given ≡ ok (staged_of m)
   pub spare : holds_mask m.mask l.spare ≡ true
   pub list : begins_with (starts_of m.body) l.list ≡ true
 
 -- what a whole read refuses, then an answer, a spare or a list that staging did not give (3)
-pub data PublishRefused (b : List ℕ) (reuse : Bool) (given : StageAnswer) (l : Lent) : Refusal → Type 0 where
+pub data PublishRefused (b : List ℕ) (reuse : Bool) (given : Res Staged) (l : Lent) : Refusal → Type 0 where
   publish-read : {why : Refusal} → WholeRefused b reuse l why → PublishRefused b reuse given l why
   publish-given : (m : Meaning) → read_says b reuse l ≡ ok m → (AsStaged m given l → ⊥) → PublishRefused b reuse given l (refuse 3)
 

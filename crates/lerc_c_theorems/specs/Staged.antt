@@ -4,7 +4,6 @@ use Rattle.std.specs.Prelude.{◌≡◌, ◌↔◌, Bool, cond, List, ℕ, ◌�
 use Rattle.lerc_words.specs.declared.Refusal.{Refusal}
 use Rattle.lerc_words.specs.Res.{ok}
 use Rattle.lerc_header.specs.Shape.{cells}
-use Rattle.lerc.specs.declared.StageAnswer.TheVariants as stage-answer
 use Rattle.lerc.specs.Meaning.{Meaning}
 use Rattle.lerc.specs.Read.{Lent, read_says}
 use Rattle.lerc.specs.Stage.{staged_of}
@@ -17,12 +16,12 @@ use Rattle.lerc_c_theorems.specs.DemandThree.{Bytes, InHandInC, shape_in, Outcom
 -- the record that staging a blob of bytes wrote stands for its answer, and serves as the header's record
 abbrev pub StagedHanded : Type 0
 StagedHanded = (b : List ℕ) (reuse : Bool) (old : Lent) (spare₁ list₁ staged₀ staged₁ : List ℕ) → Bytes b → Accepted (λ t. StageInC b reuse t old spare₁ list₁ staged₀ staged₁)
-    → (m : Meaning) × (read_says b reuse old ≡ ok m) × HoldsStaged staged₁ (stage-answer.Staged (staged_of m)) × HoldsHeader staged₁ m.header
+    → (m : Meaning) × (read_says b reuse old ≡ ok m) × HoldsStaged staged₁ (ok (staged_of m)) × HoldsHeader staged₁ m.header
 
 -- a record stands for the answer that staging gives exactly where its first numbers are that answer's
 abbrev pub RecordIsAnswer : Type 0
 RecordIsAnswer = (b : List ℕ) (reuse : Bool) (l : Lent) (m : Meaning) (staged : List ℕ) → Bytes b → read_says b reuse l ≡ ok m → staged_room ≤ length staged
-    → (staged_from staged ≡ stage-answer.Staged (staged_of m)) ↔ (take staged_room staged ≡ staged_numbers (staged_of m))
+    → (staged_from staged ≡ ok (staged_of m)) ↔ (take staged_room staged ≡ staged_numbers (staged_of m))
 
 -- "Staging refuses as whole read did": with room in both records the two tell the same number and the same place
 abbrev pub StageTellsAsRead : Type 0

@@ -1,7 +1,7 @@
 // The checksum of a blob's bytes: two sums of 16-bit words, in one pass.
 #![tactic(auto)]
 
-ghost use Rattle.std.specs.Prelude.{◌≡◌, ◌+◌, ◌*◌, ◌^◌, ◌≤◌, ◌<◌, min, length};
+ghost use Rattle.std.specs.Prelude.{◌≡◌, ◌+◌, ◌*◌, ◌^◌, ◌≤◌, ◌<◌, length};
 ghost use Rattle.lerc_checksum.specs.Checksum as Rule;
 ghost use Rattle.lerc_checksum.specs.Parts.{run, four_words, low_words, lanes_of, lane_sum, gathered, Gathers, RoomFor, Small};
 
@@ -42,21 +42,22 @@ fn word(s: &[u8], k: usize) -> u32
     pair(s[2 * k], s[2 * k + 1])
 }
 
-// four bytes, the first highest
-fn four_bytes(a: u8, b: u8, c: u8, d: u8) -> u64
-    ensures { (result ≡ ((256 * a + b) * 256 + c) * 256 + d) × (result < 2 ^ 32) }
-{
-    ((256 * (a as u64) + b as u64) * 256 + c as u64) * 256 + d as u64
-}
-
 // four words from the k-th on, the first highest; by bytes, which compile to one load
 fn four_words(s: &[u8], k: usize) -> u64
     requires { 2 * (k + 4) ≤ length s.now }
     ensures { result ≡ four_words s.now k }
 {
     let at = 2 * k;
-    LANE * four_bytes(s[at], s[at + 1], s[at + 2], s[at + 3])
-        + four_bytes(s[at + 4], s[at + 5], s[at + 6], s[at + 7])
+    u64::from_be_bytes([
+        s[at],
+        s[at + 1],
+        s[at + 2],
+        s[at + 3],
+        s[at + 4],
+        s[at + 5],
+        s[at + 6],
+        s[at + 7],
+    ])
 }
 
 // the low word of either half, in a lane each
@@ -91,10 +92,8 @@ fn count_quads(s: &[u8], k: usize, m: usize) -> Lanes
         odd: 0,
         both: 0,
     };
-    let mut i = 0;
-    while i < m / 2 {
+    for i in 0..m / 2 {
         lanes = add_quad(s, k, 2 * i + 1, add_quad(s, k, 2 * i, lanes));
-        i += 1;
     }
     if m % 2 == 0 {
         return lanes;
@@ -131,14 +130,12 @@ fn count_rest(s: &[u8], k: usize, n: usize, t: Sums) -> Sums
     ensures { result ≡ run s.now k n t }
 {
     let mut sums = t;
-    let mut i = 0;
-    while i < n {
+    for i in 0..n {
         let first = sums.first + word(s, k + i);
         sums = Sums {
             first,
             second: sums.second + first,
         };
-        i += 1;
     }
     sums
 }
@@ -168,12 +165,6 @@ fn fold_both(t: Sums) -> Sums
     }
 }
 
-fn lesser(a: usize, b: usize) -> usize
-    ensures { result ≡ min a b }
-{
-    if a < b { a } else { b }
-}
-
 // all whole words, folded after each group
 fn count_groups(s: &[u8], words: usize) -> Sums
     requires { 2 * words ≤ length s.now }
@@ -183,11 +174,9 @@ fn count_groups(s: &[u8], words: usize) -> Sums
         first: 65535,
         second: 65535,
     };
-    let mut k = 0;
-    while k < words {
-        let n = lesser(words - k, GROUP);
+    for k in (0..words).step_by(GROUP) {
+        let n = GROUP.min(words - k);
         sums = fold_both(count_words(s, k, n, sums));
-        k += n;
     }
     sums
 }

@@ -9,7 +9,7 @@ use Rattle.std.specs.Float.Ieee.{add, mul, lt, of_int, of_bits, to_bits}
 use Rattle.lerc_words.specs.Res.{ok}
 use Rattle.lerc_numeric.specs.Numeric.{negative, field, finite, infinite, mag, bits64, bits32, signed, absorbs, sum, scaled, less, lesser}
 use Rattle.lerc_numeric.specs.Numeric as Numeric
-use Rattle.lerc_numeric.specs.Kinds.{modulus, integer, field32, mag32, widened, value_of, narrowed, whole, cut, integer_said}
+use Rattle.lerc_numeric.specs.Kinds.{modulus, integer, field32, mag32, widened, value_of, narrowed, whole, cut}
 use Rattle.lerc_numeric.proofs.plus.Reads as plusses
 use Rattle.lerc_numeric.proofs.scale.Reads as scales
 use Rattle.lerc_numeric.proofs.narrow.Reads as narrows
@@ -124,7 +124,7 @@ pub record Computes : Type 0 where
   pub scale : (k : _) (a : _) (r : _) (x : _) → scales.Post k a r x → r ≡ scaled a.0 a.1.0
   pub narrow : (k : _) (a : _) (r : _) (x : _) → narrows.Post k a r x → r ≡ narrowed a.0
   pub number : (k : _) (a : _) (r : _) (x : _) → numbers.Post k a r x → r ≡ value_of a.1.0 a.0
-  pub to-integer : (k : _) (a : _) (r : _) (x : _) → integers.Post k a r x → integer_said r ≡ cut a.1.0 a.0
+  pub to-integer : (k : _) (a : _) (r : _) (x : _) → integers.Post k a r x → r ≡ cut a.1.0 a.0
   pub less : (k : _) (a : _) (r : _) (x : _) → compares.Post k a r x → r ≡ Numeric.less a.0 a.1.0
   pub same : (k : _) (a : _) (r : _) (x : _) → equates.Post k a r x → r ≡ Numeric.same a.0 a.1.0
   pub minimum : (k : _) (a : _) (r : _) (x : _) → chooses.Post k a r x → r ≡ lesser a.0 a.1.0

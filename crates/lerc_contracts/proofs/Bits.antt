@@ -21,10 +21,8 @@ use Rattle.lerc_words.proofs.Little.{Bytes, word_at-ok, word_at-no}
 use Rattle.lerc_words.proofs.Tables.{tabulate-same, all_same}
 use Rattle.lerc_numeric.proofs.Digits.{size_exact}
 use Rattle.lerc_bits.specs.declared.Plan as our
-use Rattle.lerc_bits.specs.declared.PlanAnswer.{PlanAnswer}
-use Rattle.lerc_bits.specs.declared.CountsAnswer.{CountsAnswer}
 use Rattle.lerc_bits.specs.Bits as ours
-use Rattle.lerc_bits.specs.Bits.{plan_said, counts_said, Span, span, CountsDecoded, Counts, run_bytes, run, digits, chosen, all_below, unpacked, count_bytes, plain_plan, table_plan, fits, tabled}
+use Rattle.lerc_bits.specs.Bits.{Span, span, CountsDecoded, Counts, run_bytes, run, digits, chosen, all_below, unpacked, count_bytes, plain_plan, table_plan, fits, tabled}
 use Rattle.lerc_bits.proofs.Run.{digit_at, run-digit, digits-at}
 use Rattle.lerc_bits.proofs.Returns.{Headed, fits-ok, fits-no, tabled-zero, tabled-no, tabled-few, tabled-more, plan-no, plan-form, plan-short, plan-many, plan-plain, plan-tabled, counts-no, counts-by, unpacked-plain, unpacked-table, unpacked-bad}
 use Rattle.lerc_bits.proofs.Plans.{laid-spread, plan-kept, plan-is as planned-is}
@@ -275,8 +273,8 @@ decoded-is s start y few = rw (plan-is s start y few) (go (ours.plan s start) re
 
 -- ---- `inspect`: its clauses, from the promise of `lerc_bits::inspect`
 
-module _ (s : List ℕ) (start : ℕ) (y : Bytes s) (r : PlanAnswer) (promise : plan_said r ≡ marked start (ours.plan s start)) where
-  given : {p : our.Plan} → plan_said r ≡ ok p → ours.plan s start ≡ ok p
+module _ (s : List ℕ) (start : ℕ) (y : Bytes s) (r : Res our.Plan) (promise : r ≡ marked start (ours.plan s start)) where
+  given : {p : our.Plan} → r ≡ ok p → ours.plan s start ≡ ok p
   given e = marked-is start (ours.plan s start) (sym promise ∙ e)
 
   pub inspect-clauses : InspectClauses s start r
@@ -290,14 +288,14 @@ module _ (s : List ℕ) (start : ℕ) (y : Bytes s) (r : PlanAnswer) (promise : 
   }
 
 -- counts that were accepted have no place
-pub accepted-marked : (p : ℕ) (m : Res Counts) {r : CountsAnswer} {v : Span} {old new : List ℕ} → counts_said r ≡ ok v → CountsDecoded m r old new → CountsDecoded (marked p m) r old new
+pub accepted-marked : (p : ℕ) (m : Res Counts) {r : Res Span} {v : Span} {old new : List ℕ} → r ≡ ok v → CountsDecoded m r old new → CountsDecoded (marked p m) r old new
 accepted-marked p (ok c) e d = d
 accepted-marked p (fail q) e d = absurd (let x = sym e ∙ d.says in let z : ◌≡◌ {A = ℕ} 0 1 = cc in omega arith)
 
 -- ---- `decode_into`, and `decode`, whose array is 256 zeros at first: from the promise of `lerc_bits::decode`
 
-module _ (s : List ℕ) (start : ℕ) (y : Bytes s) (few : length s ≤ length_max) (r : CountsAnswer) (old new : List ℕ) (promise : CountsDecoded (marked start (ours.counts s start)) r old new) where
-  module _ (n next : ℕ) (d : Items) (e : counts_said r ≡ ok (record { n = n; next = next })) (t : decoded s start ≡ some d) where
+module _ (s : List ℕ) (start : ℕ) (y : Bytes s) (few : length s ≤ length_max) (r : Res Span) (old new : List ℕ) (promise : CountsDecoded (marked start (ours.counts s start)) r old new) where
+  module _ (n next : ℕ) (d : Items) (e : r ≡ ok (record { n = n; next = next })) (t : decoded s start ≡ some d) where
     -- the counts that were read
     read : (m : Res Counts) → ours.counts s start ≡ m → (c : Counts) × (ours.counts s start ≡ ok c) × (n ≡ length c.values) × (next ≡ c.next) × (c.values ≡ d.values) × (c.next ≡ d.end) × (new ≡ over c.values old)
     read (ok c) f =

@@ -27,11 +27,9 @@ use Rattle.lerc_mask.specs.Mask.{pixel_valid}
 use Rattle.lerc_mask.proofs.Steps.{bytes-part}
 use Rattle.lerc_ranges.specs.declared.Ranges.{Ranges}
 use Rattle.lerc_ranges.specs.Ranges.{pairs_right}
-use Rattle.lerc_block.specs.declared.BlockAnswer.{BlockAnswer}
-use Rattle.lerc_block.specs.Block.{Block, flag_at, block_says, read_block_says, block_said, next_block, BlockRead, tile_limit}
+use Rattle.lerc_block.specs.Block.{Block, flag_at, block_says, read_block_says, next_block, BlockRead, tile_limit}
 use Rattle.lerc_block.proofs.Accepted.{block-ends}
 use Rattle.lerc_image.specs.declared.Tile.{Tile}
-use Rattle.lerc_image.specs.declared.FillAnswer.{FillAnswer}
 use Rattle.lerc_image.specs.Geometry.{tile_of, valid_in_tile}
 use Rattle.lerc_image.specs.Paint.{in_block, word_of, scattered}
 use Rattle.lerc_image.specs.Blocks.{block_at}
@@ -200,28 +198,28 @@ module _ (h : Header) (mask : List ℕ) (n : ℕ) (image : List ℕ) (g : Shaped
   found : (r : ResultModel) → theirs ≡ some r → (b : Block) × (counted ≡ ok b) × (result h mask n image b ≡ r)
   found r e = said-is (result h mask n image) counted (sym same_block ∙ e)
 
-  module _ (r : BlockAnswer) (old new : List ℕ)
+  module _ (r : Res ℕ) (old new : List ℕ)
       (promise : BlockRead (marked at (read_block_says s at h.kind h.error maximum (tile_of (shape_of h) n).x (valid_in_tile (shape_of h) mask (tile_of (shape_of h) n)))) r old new) where
     -- a tile has no more than 256 valid pixels
-    says : block_said r ≡ marked at (next_block ours)
+    says : r ≡ marked at (next_block ours)
     says = promise.says ∙ ap (λ (m : Res Block). marked at m >>= λ b. ok b.next)
         (read-block s at h.kind h.error maximum (tile_of (shape_of h) n).x (valid_in_tile (shape_of h) mask (tile_of (shape_of h) n)) (valid-small (shape_of h) (tile_of (shape_of h) n) (tile-in (shape_of h) g n below) mask))
         ∙ sym (marked-tells at ours (λ b. b.next))
 
     -- 4.67 and 4.82, with 4.23: a block is accepted where upstream has a mode and finishes its cells
-    pub read-block-ok : accepts (block_said r) ≡ is_some theirs
+    pub read-block-ok : accepts r ≡ is_some theirs
     read-block-ok = rw (says, marked-accepts at (next_block ours), ← same_next, same_block) (told-some (λ b. b.next) (result h mask n image) counted)
 
-    next-told : {next : ℕ} → block_said r ≡ ok next → next_block ours ≡ ok next
+    next-told : {next : ℕ} → r ≡ ok next → next_block ours ≡ ok next
     next-told e = marked-is at (next_block ours) (sym says ∙ e)
 
     -- 4.23: where upstream has no mode, ours is refused
-    pub read-mode-none : mode s at h (tile_of (shape_of h) n) ≡ none → accepts (block_said r) ≡ false
+    pub read-mode-none : mode s at h (tile_of (shape_of h) n) ≡ none → accepts r ≡ false
     unfolding block
     read-mode-none e = read-block-ok ∙ rw (e)
 
     -- 4.25, for the end
-    pub read-block-inside : (next : ℕ) → block_said r ≡ ok next → (at < next) × (next ≤ length s)
+    pub read-block-inside : (next : ℕ) → r ≡ ok next → (at < next) × (next ≤ length s)
     read-block-inside next e = go ours refl
       where
         go : (m : Res Block) → ours ≡ m → (at < next) × (next ≤ length s)
@@ -243,7 +241,7 @@ module _ (h : Header) (mask : List ℕ) (n : ℕ) (image : List ℕ) (g : Shaped
 
 -- ---- `reconstruct`: from the promise of `lerc_image::fill`
 
-module _ (b : List ℕ) (h : Header) (ranges : Ranges) (mask list : List ℕ) (n : ℕ) (r : FillAnswer) (old new : List ℕ) (promise : Filled b h ranges mask list n r old new) where
+module _ (b : List ℕ) (h : Header) (ranges : Ranges) (mask list : List ℕ) (n : ℕ) (r : Res ℕ) (old new : List ℕ) (promise : Filled b h ranges mask list n r old new) where
   -- what was written
   left : (m : Res Block) → fill_says b h ranges mask list n (length old) ≡ m → (length new ≡ length old) × ((j : ℕ) → cells (shape_of h) ≤ j → j < length old → get_or new j 0 ≡ get_or old j 0)
   unfolding fill_image

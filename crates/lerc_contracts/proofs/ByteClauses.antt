@@ -26,17 +26,15 @@ use Rattle.lerc_image.specs.Geometry.{is_valid_cell}
 use Rattle.lerc_image.specs.Paint.{painted}
 use Rattle.lerc_image.proofs.Painting.{length-painted, painted-cell, painted-words}
 use Rattle.lerc_image.proofs.Upto.{valid-below}
-use Rattle.lerc_byte_image.specs.declared.EndAnswer.{EndAnswer}
 use Rattle.lerc_byte_image.specs.Table.{Table, range_at, table_at}
 use Rattle.lerc_byte_image.specs.Symbols.{Coded, coded_at}
 use Rattle.lerc_byte_image.specs.Prediction.{byte_word}
-use Rattle.lerc_byte_image.specs.Image.{image_at, checked_image, ended, end_said, symbol_no, by_table, write_table, written_image}
+use Rattle.lerc_byte_image.specs.Image.{image_at, checked_image, ended, symbol_no, by_table, write_table, written_image}
 use Rattle.lerc_byte_image.proofs.Written.{byte-same, byte_small, image-symbols}
-use Rattle.lerc_validity.specs.declared.MaskAnswer.{MaskAnswer}
+use Rattle.lerc_validity.specs.Validity.{MaskTold}
 use Rattle.lerc.specs.declared.Staged.{Staged}
-use Rattle.lerc.specs.declared.StageAnswer.{StageAnswer}
 use Rattle.lerc.specs.Meaning.{Body, huffman, huffman_body, end_of, cell_word}
-use Rattle.lerc.specs.Stage.{staged_body, stage_said}
+use Rattle.lerc.specs.Stage.{staged_body}
 use Rattle.lerc.specs.Parts.{Ready, BodyRead}
 use Rattle.lerc_contracts.specs.Outside.{said, is_some}
 use Rattle.lerc_contracts.specs.ByteImage.{decoded}
@@ -67,8 +65,8 @@ bytes-start s start n l = rw (word_at-no 4 s start (omega arith))
 
 -- ---- `decode`
 
-module _ (b : List ℕ) (h : Header) (mask : List ℕ) (mode : ℕ) (delta : Bool) (r : EndAnswer) (old new : List ℕ)
-    (checked : end_said r ≡ ended (checked_image b h mode)) (written : new ≡ written_image b h mode delta mask old) where
+module _ (b : List ℕ) (h : Header) (mask : List ℕ) (mode : ℕ) (delta : Bool) (r : Res ℕ) (old new : List ℕ)
+    (checked : r ≡ ended (checked_image b h mode)) (written : new ≡ written_image b h mode delta mask old) where
   -- the blob cut at its size
   abbrev cut : List ℕ
   cut = take h.size b
@@ -102,7 +100,7 @@ module _ (b : List ℕ) (h : Header) (mask : List ℕ) (mode : ℕ) (delta : Boo
       go t false e = low
 
   -- what was accepted
-  accepted : (end : ℕ) → end_said r ≡ ok end → (c : Coded) × (image_at cut h mode ≡ ok c) × (end ≡ c.end)
+  accepted : (end : ℕ) → r ≡ ok end → (c : Coded) × (image_at cut h mode ≡ ok c) × (end ≡ c.end)
   unfolding checked_image
   accepted end e =
       let (c, d, e) = bind_is (checked_image b h mode) _ (sym checked ∙ e) in
@@ -128,11 +126,11 @@ module _ (b : List ℕ) (h : Header) (mask : List ℕ) (mode : ℕ) (delta : Boo
           bytes-is cut h (held-shaped h (length b) k) mask (mode + 1) delta old room
           ∙ rw (counts) (sym (said-marked (imaged h mask delta old) mode (coded_at cut (mode + 1) (h.valid * h.depth))))
 
-      bytes_ok : accepts (end_said r) ≡ is_some (their_bytes b h mask mode delta old)
+      bytes_ok : accepts r ≡ is_some (their_bytes b h mask mode delta old)
       unfolding checked_image
       bytes_ok = rw (checked, k, their-bytes) (told-some (λ c. c.end) (imaged h mask delta old) (image_at cut h mode))
 
-      bytes-result : (end : ℕ) → end_said r ≡ ok end → their_bytes b h mask mode delta old ≡ some (record { at = end; image = new })
+      bytes-result : (end : ℕ) → r ≡ ok end → their_bytes b h mask mode delta old ≡ some (record { at = end; image = new })
       bytes-result end d =
           let (c, i, z) = accepted end d in
           let (t, w, same) = now-is c i in
@@ -170,7 +168,7 @@ huffman-is s h g mask image room counts mode delta = bytes-is s h g mask (mode +
     go (ok c) = refl
     go (fail q) = refl
 
-module _ (s : List ℕ) (h : Header) (mode : ℕ) (delta : Bool) (force : MaskAnswer) (mask : List ℕ) (a : StageAnswer) (old new : List ℕ) (ready : Ready s h mask) (image : cells (shape_of h) ≤ length old)
+module _ (s : List ℕ) (h : Header) (mode : ℕ) (delta : Bool) (force : Res MaskTold) (mask : List ℕ) (a : Res Staged) (old new : List ℕ) (ready : Ready s h mask) (image : cells (shape_of h) ≤ length old)
     (promise : BodyRead (huffman_body s h delta mode) h force mask a old new) where
   same_bytes : decoded s h mask (mode + 1) delta old ≡ said (bodied h mask old) (huffman_body s h delta mode)
   same_bytes = huffman-is s h (held-shaped h (length s) ready.header) mask old image ready.counts mode delta
@@ -182,7 +180,7 @@ module _ (s : List ℕ) (h : Header) (mode : ℕ) (delta : Bool) (force : MaskAn
       let (_, _, _, _, u, v) = image-symbols s h mode i in
       rw (← ok-is e) (v, u)
 
-  unwritten : (q : Refusal) → stage_said a ≡ fail q → (m : Res Body) → huffman_body s h delta mode ≡ m → new ≡ old
+  unwritten : (q : Refusal) → a ≡ fail q → (m : Res Body) → huffman_body s h delta mode ≡ m → new ≡ old
   unwritten q e (ok c) d = absurd (let z : ◌≡◌ {A = Res Staged} (fail q) (ok (staged_body h force c)) = sym e ∙ promise.says ∙ rw (d) in let o : ◌≡◌ {A = ℕ} 0 1 = cc in omega arith)
   unwritten q e (fail r) d = promise.image ∙ rw (d)
 

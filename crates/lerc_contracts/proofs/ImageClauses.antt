@@ -29,22 +29,19 @@ use Rattle.lerc_ranges.specs.Ranges.{constant_words}
 use Rattle.lerc_ranges.proofs.Judged.{length-constants}
 use Rattle.lerc_block.specs.Block.{Block, raw_words, block_says}
 use Rattle.lerc_block.proofs.Accepted.{block-ends}
-use Rattle.lerc_image.specs.declared.WalkAnswer.{WalkAnswer}
 use Rattle.lerc_image.specs.Geometry.{tile_of, valid_in_tile, is_valid_cell}
 use Rattle.lerc_image.specs.Paint.{painted, word_of}
 use Rattle.lerc_image.specs.Blocks.{block_at, Chain, chain, all_blocks}
-use Rattle.lerc_image.specs.Walk.{Walk, walk_said}
+use Rattle.lerc_image.specs.Walk.{Walk}
 use Rattle.lerc_image.specs.Tiles.{tiles_says, tiles_image, Tiled}
 use Rattle.lerc_image.proofs.Painting.{length-painted, painted-cell}
 use Rattle.lerc_image.proofs.Upto.{valid-below}
 use Rattle.lerc_image.proofs.Chain.{chain-none, chain-parts}
-use Rattle.lerc_validity.specs.declared.MaskAnswer.{MaskAnswer}
-use Rattle.lerc.specs.declared.ReadAnswer.{ReadAnswer}
+use Rattle.lerc_validity.specs.Validity.{MaskTold}
 use Rattle.lerc.specs.declared.Staged.{Staged}
-use Rattle.lerc.specs.declared.StageAnswer.{StageAnswer}
 use Rattle.lerc.specs.Meaning.{Body, missing_word_at, raw_body, constant_body, end_of, cell_word}
-use Rattle.lerc.specs.Read.{Lent, masked, read_says, WholeRead}
-use Rattle.lerc.specs.Stage.{staged_body, stage_said}
+use Rattle.lerc.specs.Read.{ReadTold, Lent, masked, read_says, WholeRead}
+use Rattle.lerc.specs.Stage.{staged_body}
 use Rattle.lerc.specs.Parts.{Ready, body_image, BodyRead}
 use Rattle.lerc_numeric.specs.Numeric.{counted_sum}
 use Rattle.lerc_overflow.specs.By.{all_blocks_by}
@@ -91,7 +88,7 @@ chain-inside s h maxima m (suc f) n at c l e =
     let z : c.end ≡ p.others.end = ap (λ (x : Chain). x.end) p.whole in
     (omega (arith, b.0, r.0), omega (arith, r.1))
 
-module _ (b : List ℕ) (h : Header) (mask maxima : List ℕ) (at : ℕ) (r : WalkAnswer) (list list' old new : List ℕ) (promise : Tiled (tiles_says b h mask maxima at (length list) (length old)) h mask r list list' old new) where
+module _ (b : List ℕ) (h : Header) (mask maxima : List ℕ) (at : ℕ) (r : Res Walk) (list list' old new : List ℕ) (promise : Tiled (tiles_says b h mask maxima at (length list) (length old)) h mask r list list' old new) where
   abbrev walked_to : Chain → Walk
   walked_to c = record { blocks = block_count (shape_of h); end = c.end }
 
@@ -120,7 +117,7 @@ module _ (b : List ℕ) (h : Header) (mask maxima : List ℕ) (at : ℕ) (r : Wa
     same_ends : (counted >>= ends) ≡ (tiles_says b h mask maxima at (length list) (length old) >>= ends)
     same_ends = chain-ends (take h.size b) h maxima mask (block_count (shape_of h)) 0 at ∙ ap (λ (x : Res Chain). x >>= ends) (sym judged)
 
-    module _ (w : Walk) (a : walk_said r ≡ ok w) where
+    module _ (w : Walk) (a : r ≡ ok w) where
       -- what was walked
       walked : (m : Res Chain) → tiles_says b h mask maxima at (length list) (length old) ≡ m → (c : Chain) × (tiles_says b h mask maxima at (length list) (length old) ≡ ok c) × (w.end ≡ c.end) × (new ≡ tiles_image h mask old c)
       walked (ok c) d =
@@ -160,7 +157,7 @@ module _ (b : List ℕ) (h : Header) (mask maxima : List ℕ) (at : ℕ) (r : Wa
 -- ---- `decode_linear`
 
 -- either body
-module _ (m : Res Body) (h : Header) (force : MaskAnswer) (mask : List ℕ) (a : StageAnswer) (old new : List ℕ) (promise : BodyRead m h force mask a old new) where
+module _ (m : Res Body) (h : Header) (force : Res MaskTold) (mask : List ℕ) (a : Res Staged) (old new : List ℕ) (promise : BodyRead m h force mask a old new) where
   kept : (x : Res Body) → m ≡ x → (length new ≡ length old) × ((j : ℕ) → h.columns * h.rows * h.depth ≤ j → j < length old → get_or new j 0 ≡ get_or old j 0)
   kept (fail q) e = let p : new ≡ old = promise.image ∙ rw (e) in rw (p) (refl, λ j _ _. refl)
   kept (ok c) e =
@@ -168,17 +165,17 @@ module _ (m : Res Body) (h : Header) (force : MaskAnswer) (mask : List ℕ) (a :
       rw (p) (length-painted old _ _, λ j l o. past h mask old (cell_word h mask c) j l o)
 
   -- the body that was read
-  pub read-body : (w : Staged) → stage_said a ≡ ok w → (x : Res Body) → m ≡ x → (c : Body) × (m ≡ ok c) × (w.end ≡ end_of c) × (new ≡ body_image h mask old c)
+  pub read-body : (w : Staged) → a ≡ ok w → (x : Res Body) → m ≡ x → (c : Body) × (m ≡ ok c) × (w.end ≡ end_of c) × (new ≡ body_image h mask old c)
   read-body w e (ok c) d =
       let z : ok w ≡ ok (staged_body h force c) = sym e ∙ promise.says ∙ rw (d) in
       (c, d, ap (λ (x : Staged). x.end) (ok-is z), promise.image ∙ rw (d))
   read-body w e (fail q) d = absurd (let z : ◌≡◌ {A = Res Staged} (ok w) (fail q) = sym e ∙ promise.says ∙ rw (d) in let o : ◌≡◌ {A = ℕ} 0 1 = cc in omega arith)
 
   module _ (t : Option ResultModel) (same : t ≡ said (bodied h mask old) m) where
-    pub linear-ok : accepts (stage_said a) ≡ is_some t
+    pub linear-ok : accepts a ≡ is_some t
     linear-ok = rw (promise.says, same) (told-some {B = Staged} (λ c. staged_body h force c) (bodied h mask old) m)
 
-    pub linear-result : (w : Staged) → stage_said a ≡ ok w → t ≡ some (record { at = w.end; image = new })
+    pub linear-result : (w : Staged) → a ≡ ok w → t ≡ some (record { at = w.end; image = new })
     linear-result w e =
         let (c, d, p, q) = read-body w e m refl in
         same ∙ ap (said (bodied h mask old)) d ∙ sym (result-is p q)
@@ -201,7 +198,7 @@ raw-inside s h at c e =
     (omega arith, omega arith)
 
 -- a raw body: upstream's `raw` is true, and its constants are not looked at
-module _ (s : List ℕ) (h : Header) (at : ℕ) (force : MaskAnswer) (mask constants : List ℕ) (a : StageAnswer) (old new : List ℕ) (ready : Ready s h mask) (image : cells (shape_of h) ≤ length old)
+module _ (s : List ℕ) (h : Header) (at : ℕ) (force : Res MaskTold) (mask constants : List ℕ) (a : Res Staged) (old new : List ℕ) (ready : Ready s h mask) (image : cells (shape_of h) ≤ length old)
     (promise : BodyRead (raw_body s h at) h force mask a old new) (inside : at ≤ length s) where
   abbrev their-raw : Option ResultModel
   their-raw = their_raw s h mask constants at old
@@ -218,7 +215,7 @@ module _ (s : List ℕ) (h : Header) (at : ℕ) (force : MaskAnswer) (mask const
   }
 
 -- a constant body: upstream has its words from `convert` (3.34, 3.35), and always accepts
-module _ (s : List ℕ) (h : Header) (ranges : Ranges) (force : MaskAnswer) (mask words : List ℕ) (a : StageAnswer) (old new : List ℕ) (ready : Ready s h mask) (image : cells (shape_of h) ≤ length old)
+module _ (s : List ℕ) (h : Header) (ranges : Ranges) (force : Res MaskTold) (mask words : List ℕ) (a : Res Staged) (old new : List ℕ) (ready : Ready s h mask) (image : cells (shape_of h) ≤ length old)
     (long : length ranges.min ≡ depth_limit) (promise : BodyRead (constant_body h ranges) h force mask a old new) (converted : constant_words h.depth h.kind ranges.min ≡ ok words) where
   abbrev their-constant : Option ResultModel
   their-constant = their_constant s h mask (over words (replicate depth_limit 0)) ranges.at old
@@ -253,7 +250,7 @@ raw-start s h at l =
     rw (lt-leb (at + h.valid * h.depth * type_size h.kind) (length s) k, here)
 
 -- from what a whole read promises
-module _ (b : List ℕ) (reuse : Bool) (r : ReadAnswer) (old new : Lent) (promise : WholeRead b reuse r old new) where
+module _ (b : List ℕ) (reuse : Bool) (r : Res ReadTold) (old new : Lent) (promise : WholeRead b reuse r old new) where
   pub whole-read-clauses : WholeReadClauses b r old
   unfolding read_says masked
   whole-read-clauses = record {

@@ -24,9 +24,7 @@ use Rattle.lerc_samples.specs.Samples.{sample_at, offset_kind}
 use Rattle.lerc_samples.proofs.Reading.{sample-is}
 use Rattle.lerc_header.specs.declared.Header.{Header}
 use Rattle.lerc_bits.specs.declared.Plan.{Plan}
-use Rattle.lerc_bits.specs.declared.CountsAnswer.{CountsAnswer}
-use Rattle.lerc_bits.specs.declared.CountsAnswer.TheVariants as counted
-use Rattle.lerc_bits.specs.Bits.{Counts, plan, counts, counts_by, counts_said, spanned, CountsDecoded}
+use Rattle.lerc_bits.specs.Bits.{Span, Counts, plan, counts, counts_by, spanned, CountsDecoded}
 use Rattle.lerc_bits.proofs.Returns.{counts-no}
 use Rattle.lerc_bits.proofs.Plans.{counts-by-plan}
 use Rattle.lerc_bits.proofs.Values.{counts-plan, counts-ends, counts-few}
@@ -34,10 +32,8 @@ use Rattle.lerc_block.specs.declared.plan.Steps.{Steps}
 use Rattle.lerc_block.specs.declared.plan.Form.{Form}
 use Rattle.lerc_block.specs.declared.plan.Form.TheVariants as coded
 use Rattle.lerc_block.specs.declared.plan.BlockPlan.{BlockPlan}
-use Rattle.lerc_block.specs.declared.plan.BlockPlanAnswer.{BlockPlanAnswer}
-use Rattle.lerc_block.specs.declared.plan.BlockPlanAnswer.TheVariants as given
 use Rattle.lerc_block.specs.Block.{flag_at}
-use Rattle.lerc_block.specs.Plan.{raw_plan, finite_word, stepped_plan, offset_plan, form_plan, plan_at, plan_says, plan_said}
+use Rattle.lerc_block.specs.Plan.{raw_plan, finite_word, stepped_plan, offset_plan, form_plan, plan_at, plan_says}
 use Rattle.lerc_block.specs.Check.{read_flag}
 use Rattle.lerc_block.proofs.Planning.{plan-flagged}
 use Rattle.lerc_image.specs.declared.Tile.{Tile}
@@ -298,8 +294,8 @@ module _ (s : List ℕ) (y : Bytes s) (few : length s ≤ length_max) (at : ℕ)
 
 -- ---- `read_mode`
 
-module _ (s : List ℕ) (y : Bytes s) (few : length s ≤ length_max) (at : ℕ) (h : Header) (t : Tile) (r : BlockPlanAnswer) (inspected : plan_said r ≡ marked at (plan_says s at h.kind t.x 0))
-    (a : CountsAnswer) (old new : List ℕ) (second : SecondCall s r a old new) where
+module _ (s : List ℕ) (y : Bytes s) (few : length s ≤ length_max) (at : ℕ) (h : Header) (t : Tile) (r : Res BlockPlan) (inspected : r ≡ marked at (plan_says s at h.kind t.x 0))
+    (a : Res Span) (old new : List ℕ) (second : SecondCall s r a old new) where
   form-taken : (p : BlockPlan) (f : Form) → CountsCalled s f a old new → counts_taken a f ≡ is_some (said (mode_of at) (counted_form s p f))
   form-taken p (coded.Raw place) c = refl
   form-taken p coded.Zero c = refl
@@ -310,13 +306,13 @@ module _ (s : List ℕ) (y : Bytes s) (few : length s ≤ length_max) (at : ℕ)
       go (ok c) = refl
       go (fail q) = refl
 
-  answer-taken : (x : BlockPlanAnswer) → SecondCall s x a old new → mode_taken a x ≡ is_some (said (mode_of at) (plan_said x >>= counted_plan s))
-  answer-taken (given.Plan p) c = form-taken p p.form c
-  answer-taken (given.Refused q) c = refl
+  answer-taken : (x : Res BlockPlan) → SecondCall s x a old new → mode_taken a x ≡ is_some (said (mode_of at) (x >>= counted_plan s))
+  answer-taken (ok p) c = form-taken p p.form c
+  answer-taken (fail q) c = refl
 
-  plan-called : {p : BlockPlan} (x : BlockPlanAnswer) → plan_said x ≡ ok p → SecondCall s x a old new → CountsCalled s p.form a old new
-  plan-called (given.Plan p) e c = rw (← ok-is e) c
-  plan-called (given.Refused q) e c = absurd (let z : ◌≡◌ {A = ℕ} 0 1 = cc in omega arith)
+  plan-called : {p : BlockPlan} (x : Res BlockPlan) → x ≡ ok p → SecondCall s x a old new → CountsCalled s p.form a old new
+  plan-called (ok p) e c = rw (← ok-is e) c
+  plan-called (fail q) e c = absurd (let z : ◌≡◌ {A = ℕ} 0 1 = cc in omega arith)
 
   free-none : (next : ℕ) (f : Form) → ((mode_of_form at next f).flag ≡ 1 → ⊥) → counts_number a f ≡ 0
   free-none next (coded.Raw place) n = refl
@@ -328,7 +324,7 @@ module _ (s : List ℕ) (y : Bytes s) (few : length s ≤ length_max) (at : ℕ)
   taken-marked (ok p) = refl
   taken-marked (fail q) = refl
 
-  module _ (p : BlockPlan) (e : plan_said r ≡ ok p) (accepted : counts_taken a p.form ≡ true) where
+  module _ (p : BlockPlan) (e : r ≡ ok p) (accepted : counts_taken a p.form ≡ true) where
     found : plan_says s at h.kind t.x 0 ≡ ok p
     found = marked-is at (plan_says s at h.kind t.x 0) (sym inspected ∙ e)
 
@@ -367,17 +363,16 @@ module _ (s : List ℕ) (y : Bytes s) (few : length s ≤ length_max) (at : ℕ)
         promise : CountsDecoded (counts s to) a old new
         promise = rw (counts-by-plan s to y placed) called
 
-        go : (x : CountsAnswer) → a ≡ x → Read (coded.Stepped steps)
-        go (counted.Counts n next) b =
+        go : (x : Res Span) → a ≡ x → Read (coded.Stepped steps)
+        go (ok c) b =
             let k : ModeKept s at (mode_of_form at p.next (coded.Stepped steps)) = rw (d) at kept in
             let (q, z, l) = k.counted refl in
-            let answered = ap counts_said b in
-            let found = decode-clauses s to y few a old new (accepted-marked to (counts s to) answered promise) in
+            let found = decode-clauses s to y few a old new (accepted-marked to (counts s to) b promise) in
             rw (b) (
-              (found.decode-end n next _ answered z).1,
-              λ _. z ∙ ap (λ (v : List ℕ). some (record { end = p.next; values = v })) (sym (found.decode-values n next _ answered z)),
+              (found.decode-end c.n c.next _ b z).1,
+              λ _. z ∙ ap (λ (v : List ℕ). some (record { end = p.next; values = v })) (sym (found.decode-values c.n c.next _ b z)),
             )
-        go (counted.Refused q) b = absurd (let x = rw (d, b) at accepted in let z : ◌≡◌ {A = ℕ} 0 1 = cc in omega arith)
+        go (fail q) b = absurd (let x = rw (d, b) at accepted in let z : ◌≡◌ {A = ℕ} 0 1 = cc in omega arith)
 
     form-read : (f : Form) → p.form ≡ f → Read f
     form-read (coded.Raw place) d = (omega arith, λ z. absurd (omega arith))

@@ -14,11 +14,10 @@ use lib.Pow.{pow_pos}
 use lib.Ieee.{size}
 use lib.Ieee.Digits.{size-lt, size-le}
 use lib.Ieee.Nearest.{closest}
-use Rattle.lerc_words.specs.Res.{ok, fail, ◌>>=◌, refuse, require}
-use Rattle.lerc_numeric.specs.declared.IntegerAnswer.{IntegerAnswer}
+use Rattle.lerc_words.specs.Res.{Res, ok, fail, ◌>>=◌, refuse, require}
 use Rattle.lerc_numeric.specs.Numeric.{negative, field, finite, sig, exp, less, lesser}
 use Rattle.lerc_numeric.specs.Kinds as kinds
-use Rattle.lerc_numeric.specs.Kinds.{type_size, value_of, integer_said, cut}
+use Rattle.lerc_numeric.specs.Kinds.{type_size, value_of, cut}
 use Rattle.lerc_numeric.specs.Inside.{jam}
 use Rattle.lerc_numeric.proofs.Closest.{near_down, near_up, near-tie}
 use Rattle.lerc_numeric.proofs.Digits.{size-ge}
@@ -237,7 +236,7 @@ number-kind kind v h = rw (le-ltb kind 6 (omega arith), ne_eqb kind 6 (λ e. ome
 -- ---- `to_integer`
 
 -- 1.39
-pub integer-kind : (v kind : ℕ) (r : IntegerAnswer) → integer_said r ≡ cut kind v → 6 ≤ kind → integer_said r ≡ fail (refuse 9)
+pub integer-kind : (v kind : ℕ) (r : Res ℕ) → r ≡ cut kind v → 6 ≤ kind → r ≡ fail (refuse 9)
 integer-kind v kind r e l = e ∙ sym (cut-kind kind v l)
 
 pub modulus-is : (kind : ℕ) → kind < 6 → modulus_of kind ≡ kinds.modulus kind

@@ -33,20 +33,15 @@ use Rattle.lerc_header.specs.Shape.{pixels, mask_length}
 use Rattle.lerc_mask.specs.Mask.{valid_below, mask_field}
 use Rattle.lerc_mask.specs.Mask.{mask_runs, coded}
 use Rattle.lerc_mask.proofs.Pixels.{valid-uniform-0, valid-uniform-255}
-use Rattle.lerc_validity.specs.declared.MaskAnswer.{MaskAnswer}
-use Rattle.lerc_ranges.specs.declared.RangesAnswer.TheVariants as ranges-answer
-use Rattle.lerc_ranges.specs.declared.RangesRead.{RangesRead}
-use Rattle.lerc_ranges.specs.declared.ConstantsAnswer.TheVariants as constants-answer
-use Rattle.lerc_ranges.specs.declared.Constants.{Constants}
 use Rattle.lerc_ranges.specs.declared.Ranges.{Ranges}
-use Rattle.lerc_ranges.specs.Ranges.{number_at, by_depth, maxima_at, ranges_end, uniform_ranges, ranges_says, coded_ranges, pairs_right, read_ranges_says, ranges_said, constant_words, constants_said}
-use Rattle.lerc_validity.specs.Validity.{MaskInForce, reused, new, bytes_of, uniform, kept, unrolled, mask_in, mask_says, prepare_says, mask_said, which, Prepared, in_force}
+use Rattle.lerc_ranges.specs.Ranges.{number_at, by_depth, maxima_at, ranges_end, uniform_ranges, ranges_says, coded_ranges, pairs_right, read_ranges_says, constant_words, constants_said}
+use Rattle.lerc_validity.specs.Validity.{MaskTold, MaskInForce, reused, new, bytes_of, uniform, kept, unrolled, mask_in, mask_says, prepare_says, which, Prepared, in_force}
 use Rattle.lerc_validity.proofs.Preparing.{uniform-ok, uniform-no, says_none, says_all, says-kept, says-runs, prepare-no, prepare-says}
 use Rattle.lerc_validity.proofs.Prepared.{prepare-found, prepared-right, mask-length, in-force}
 use Rattle.lerc_ranges.proofs.Judged.{read-ranges-kept}
 use Rattle.lerc_contracts.specs.Outside.{said, is_some, unwrap, on_some, number, storage}
 use Rattle.lerc_contracts.specs.Planes.{mask_size, count, counted, validity, equal, bounds, ranges, constants}
-use Rattle.lerc_contracts.specs.Between.{Sectioned, model, ranges_ok, constants_ok}
+use Rattle.lerc_contracts.specs.Between.{Sectioned, model}
 use Rattle.lerc_contracts.specs.PlanesClauses.{ValidityCases, RangesCases, PrepareClauses, ReadRangesClauses, ConvertClauses}
 use Rattle.lerc_contracts.proofs.WithoutNumber.{said-marked}
 
@@ -279,7 +274,7 @@ which-some (fail q) = refl
 -- ---- `prepare`: from the promises of `lerc_validity::prepare_mask` and `mask_in_force`. Upstream's one mask is the kept one
 -- before, and the one in force after
 
-module _ (b : List ℕ) (h : Header) (reuse : Bool) (old : List ℕ) (r : MaskAnswer) (spare newer : List ℕ) (promise : Prepared (prepare_says b h reuse old (length spare)) r spare newer) where
+module _ (b : List ℕ) (h : Header) (reuse : Bool) (old : List ℕ) (r : Res MaskTold) (spare newer : List ℕ) (promise : Prepared (prepare_says b h reuse old (length spare)) r spare newer) where
   told : (m : Res MaskInForce) → prepare_says b h reuse old (length spare) ≡ m → Prepared m r spare newer
   told m e = rw (e) at promise
 
@@ -300,13 +295,13 @@ module _ (b : List ℕ) (h : Header) (reuse : Bool) (old : List ℕ) (r : MaskAn
         prepare-says b h reuse old (length spare) {e = e} k (rw (i, ← size_is h) here) (rw (i, ← size_is h) there)
 
     -- 3.14
-    pub prepare-mask : accepts (mask_said r) ≡ true → validity (take h.size b) h old reuse ≡ some (in_force r old newer)
+    pub prepare-mask : accepts r ≡ true → validity (take h.size b) h old reuse ≡ some (in_force r old newer)
     prepare-mask a = go (prepare_says b h reuse old (length spare)) refl
       where
         go : (m : Res MaskInForce) → prepare_says b h reuse old (length spare) ≡ m → validity (take h.size b) h old reuse ≡ some (in_force r old newer)
         go (ok f) e = validity-of (take h.size b) h old reuse f (sym judged ∙ e) ∙ ap (λ (x : List ℕ). some x)
             (sym (in-force f (ok f) r old spare newer refl (prepared-right b h reuse old (length spare) f e).part (told (ok f) e)))
-        go (fail q) e = absurd (let w : mask_said r ≡ fail q = (told (fail q) e).says in let t : accepts (mask_said r) ≡ false = rw (w) in let z : ◌≡◌ {A = ℕ} 0 1 = cc in omega arith)
+        go (fail q) e = absurd (let w : r ≡ fail q = (told (fail q) e).says in let t : accepts r ≡ false = rw (w) in let z : ◌≡◌ {A = ℕ} 0 1 = cc in omega arith)
 
   pub prepare-clauses : PrepareClauses b h reuse old r spare newer
   unfolding prepare_says
@@ -325,40 +320,36 @@ module _ (b : List ℕ) (h : Header) (reuse : Bool) (old : List ℕ) (r : MaskAn
 pub same_ok : (a b : ℕ) (r : Bool) → r ≡ same a b → r ≡ equal a b
 same_ok a b r e = e ∙ sym (equal_is a b)
 
-ranges-some : (m : Res Ranges) → ranges_ok (ranges_said m).answer ≡ is_some (said model m)
+ranges-some : (m : Res Ranges) → accepts m ≡ is_some (said model m)
 ranges-some (ok m) = refl
 ranges-some (fail q) = refl
 
-module _ (b : List ℕ) (h : Header) (r : RangesRead) (promise : r ≡ ranges_said (read_ranges_says b h)) where
+module _ (b : List ℕ) (h : Header) (r : Res Ranges) (promise : r ≡ read_ranges_says b h) where
   module _ (e : Extent) (k : held h (length b) ≡ ok e) where
     judged-ranges : read_ranges_says b h ≡ ranges_says (take h.size b) h
     unfolding read_ranges_says
     judged-ranges = rw (k)
-
-    read_is : (m : Res Ranges) → read_ranges_says b h ≡ m → r.answer ≡ ranges-answer.Read → read_ranges_says b h ≡ ok r.ranges
-    read_is (ok m) d a = d ∙ ap (λ (x : RangesRead). ok x.ranges) (sym (promise ∙ ap ranges_said d))
-    read_is (fail q) d a = absurd (let w : r.answer ≡ ranges-answer.Refused q = ap (λ (x : RangesRead). x.answer) (promise ∙ ap ranges_said d) in let z : ◌≡◌ {A = ℕ} 0 1 = cc in omega arith)
 
   pub read-ranges-clauses : ReadRangesClauses b h r
   unfolding read_ranges_says
   read-ranges-clauses = record {
     read-ranges-held = λ q e. rw (promise, e);
     read-ranges-ok = λ e k. rw (promise, judged-ranges e k, ranges-is (take h.size b) h) (ranges-some (ranges_says (take h.size b) h));
-    read-ranges-model = λ e k a. ranges-is (take h.size b) h ∙ ap (said model) (sym (judged-ranges e k) ∙ read_is e k (read_ranges_says b h) refl a);
-    read-ranges-inside = λ e k a. let i = read-ranges-kept b h r.ranges (read_is e k (read_ranges_says b h) refl a) in (i.behind, i.inside);
+    read-ranges-model = λ e k g a. ranges-is (take h.size b) h ∙ ap (said model) (sym (judged-ranges e k) ∙ sym promise ∙ a);
+    read-ranges-inside = λ e k g a. let i = read-ranges-kept b h g (sym promise ∙ a) in (i.behind, i.inside);
   }
 
-constants-some : (m : Res (List ℕ)) → constants_ok (constants_said m).answer ≡ is_some (said (λ ws. over ws (replicate 64 0)) m)
+constants-some : (m : Res (List ℕ)) → accepts (constants_said m) ≡ is_some (said (λ ws. over ws (replicate 64 0)) m)
 constants-some (ok m) = refl
 constants-some (fail q) = refl
 
-module _ (values : List ℕ) (depth kind : ℕ) (r : Constants) (wide : length values ≡ 64) (promise : r ≡ constants_said (constant_words depth kind values)) (few : depth ≤ 64) where
-  stored_is : (m : Res (List ℕ)) → r ≡ constants_said m → r.answer ≡ constants-answer.Stored → said (λ ws. over ws (replicate 64 0)) m ≡ some r.words
-  stored_is (ok m) e a = rw (e)
-  stored_is (fail q) e a = absurd (let w : r.answer ≡ constants-answer.Refused q = ap (λ (x : Constants). x.answer) e in let z : ◌≡◌ {A = ℕ} 0 1 = cc in omega arith)
+module _ (values : List ℕ) (depth kind : ℕ) (r : Res (List ℕ)) (wide : length values ≡ 64) (promise : r ≡ constants_said (constant_words depth kind values)) (few : depth ≤ 64) where
+  stored_is : (m : Res (List ℕ)) {words : List ℕ} → constants_said m ≡ ok words → said (λ ws. over ws (replicate 64 0)) m ≡ some words
+  stored_is (ok m) {words} e = let z : over m (replicate 64 0) ≡ words = cc in ap some z
+  stored_is (fail q) e = absurd (let z : ◌≡◌ {A = ℕ} 0 1 = cc in omega arith)
 
   pub convert-clauses : ConvertClauses values depth kind r
   convert-clauses = record {
     convert-ok = rw (promise, constants-is values depth kind few (omega arith)) (constants-some (constant_words depth kind values));
-    convert-words = λ a. rw (constants-is values depth kind few (omega arith)) (stored_is (constant_words depth kind values) promise a);
+    convert-words = λ words a. rw (constants-is values depth kind few (omega arith)) (stored_is (constant_words depth kind values) (sym promise ∙ a));
   }

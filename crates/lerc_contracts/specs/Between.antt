@@ -15,10 +15,6 @@ use Rattle.lerc_mask.specs.Mask.{pixel_valid}
 use Rattle.lerc_bits.specs.declared.Plan as our
 use Rattle.lerc_bits.specs.Bits.{Counts, counts_by}
 use Rattle.lerc_ranges.specs.declared.Ranges.{Ranges}
-use Rattle.lerc_ranges.specs.declared.RangesAnswer.{RangesAnswer}
-use Rattle.lerc_ranges.specs.declared.RangesAnswer.TheVariants as ranges-answer
-use Rattle.lerc_ranges.specs.declared.ConstantsAnswer.{ConstantsAnswer}
-use Rattle.lerc_ranges.specs.declared.ConstantsAnswer.TheVariants as constants-answer
 use Rattle.lerc_block.specs.Block.{Block}
 use Rattle.lerc_block.specs.declared.plan.Form.{Form}
 use Rattle.lerc_block.specs.declared.plan.Form.TheVariants as coded
@@ -61,15 +57,6 @@ Sectioned h = ((h.valid ≡ 0) → h.mask ≡ 0) × ((h.valid ≡ pixels (shape_
 -- a record under upstream's name, as its `model`
 abbrev pub model : Ranges → RangeModel
 model r = record { at = r.at; constant = r.constant; min = r.min; max = r.max }
-
--- whether ranges were read, and words stored
-abbrev pub ranges_ok : RangesAnswer → Bool
-ranges_ok ranges-answer.Read = true
-ranges_ok (ranges-answer.Refused q) = false
-
-abbrev pub constants_ok : ConstantsAnswer → Bool
-constants_ok constants-answer.Stored = true
-constants_ok (constants-answer.Refused q) = false
 
 -- ---- lerc_block.rs
 

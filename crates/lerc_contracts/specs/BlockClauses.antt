@@ -3,7 +3,7 @@
 use Rattle.std.specs.Prelude.{◌≡◌, true, false, ◌||◌, List, ℕ, zero, suc, ◌+◌, ◌*◌, ◌/◌, ◌%◌, ◌≤◌, ◌<◌, eqb, length, get_or, set, take}
 use Rattle.std.proofs.Math.Option.{none, some}
 use Rattle.lerc_words.specs.declared.Refusal.{Refusal}
-use Rattle.lerc_words.specs.Res.{ok, fail, little, refuse, placed, marked, accepts, ◌>>=◌}
+use Rattle.lerc_words.specs.Res.{Res, ok, fail, little, refuse, placed, marked, accepts, ◌>>=◌}
 use Rattle.lerc_words.proofs.Little.{Bytes}
 use Rattle.lerc_numeric.specs.Numeric.{finite, infinite, counted_sum, scaled}
 use Rattle.lerc_numeric.specs.Kinds.{type_size}
@@ -12,8 +12,8 @@ use Rattle.lerc_samples.specs.Samples.{sample_at, stored, offset_kind}
 use Rattle.lerc_header.specs.declared.Header.{Header}
 use Rattle.lerc_header.specs.Header.{shape_of, held}
 use Rattle.lerc_header.specs.Shape.{Shaped, cells, block_count}
-use Rattle.lerc_bits.specs.Bits.{Counts, counts}
-use Rattle.lerc_block.specs.Block.{block_says, read_block_says, block_said, BlockRead, tile_limit}
+use Rattle.lerc_bits.specs.Bits.{Span, Counts, counts}
+use Rattle.lerc_block.specs.Block.{block_says, read_block_says, BlockRead, tile_limit}
 use Rattle.lerc_image.specs.declared.Tile.{Tile}
 use Rattle.lerc_image.specs.Geometry.{tile_of, valid_in_tile, pixel_of, cell_of}
 use Rattle.lerc_image.specs.Paint.{scattered}
@@ -26,14 +26,10 @@ use Rattle.lerc_mask.specs.Mask.{pixel_valid}
 use Rattle.lerc_header.specs.declared.Extent.{Extent}
 use Rattle.lerc_ranges.specs.declared.Ranges.{Ranges}
 use Rattle.lerc_ranges.specs.Ranges.{pairs_right}
-use Rattle.lerc_block.specs.declared.BlockAnswer.{BlockAnswer}
-use Rattle.lerc_image.specs.declared.FillAnswer.{FillAnswer}
-use Rattle.lerc_image.specs.Fill.{fill_said, Filled}
+use Rattle.lerc_image.specs.Fill.{Filled}
 use Rattle.lerc_contracts.specs.Bits.{decoded}
-use Rattle.lerc_bits.specs.declared.CountsAnswer.{CountsAnswer}
 use Rattle.lerc_block.specs.declared.plan.BlockPlan.{BlockPlan}
-use Rattle.lerc_block.specs.declared.plan.BlockPlanAnswer.{BlockPlanAnswer}
-use Rattle.lerc_block.specs.Plan.{plan_says, plan_said}
+use Rattle.lerc_block.specs.Plan.{plan_says}
 use Rattle.lerc_contracts.specs.ReadMode.{mode_of, SecondCall, counts_taken, mode_taken, counts_number}
 
 -- where all steps go, the words are scattered over the image
@@ -79,17 +75,17 @@ pub record OffsetCases (s : List ℕ) (at f k v : ℕ) : Type 0 where
   pub offset-steps : finite v ≡ true → eqb f 3 ≡ false → Bytes s → length s ≤ length_max → (c : Counts) → counts s (at + 1 + type_size k) ≡ ok c → mode_offset s at f k v ≡ some (record { at = c.next; flag = f; offset = v; quant = at + 1 + type_size k; next = c.next })
 
 -- `read_mode`, from the promises of `lerc_block::inspect_block` and `lerc_bits::decode_plan`
-pub record ReadModeClauses (s : List ℕ) (at : ℕ) (h : Header) (t : Tile) (r : BlockPlanAnswer) (a : CountsAnswer) (new : List ℕ) : Type 0 where
+pub record ReadModeClauses (s : List ℕ) (at : ℕ) (h : Header) (t : Tile) (r : Res BlockPlan) (a : Res Span) (new : List ℕ) : Type 0 where
   -- 4.23
   pub read-mode-ok : mode_taken a r ≡ is_some (mode s at h t)
   -- 4.24
-  pub read-mode-is : (p : BlockPlan) → plan_said r ≡ ok p → counts_taken a p.form ≡ true → mode s at h t ≡ some (mode_of at p)
+  pub read-mode-is : (p : BlockPlan) → r ≡ ok p → counts_taken a p.form ≡ true → mode s at h t ≡ some (mode_of at p)
   -- 4.25
-  pub read-mode-inside : (p : BlockPlan) → plan_said r ≡ ok p → counts_taken a p.form ≡ true → (at < (mode_of at p).at) × ((mode_of at p).at ≤ length s) × ((mode_of at p).flag < 4) × (counts_number a p.form ≤ 256)
+  pub read-mode-inside : (p : BlockPlan) → r ≡ ok p → counts_taken a p.form ≡ true → (at < (mode_of at p).at) × ((mode_of at p).at ≤ length s) × ((mode_of at p).flag < 4) × (counts_number a p.form ≤ 256)
   -- 4.26
-  pub read-mode-free : (p : BlockPlan) → plan_said r ≡ ok p → counts_taken a p.form ≡ true → ((mode_of at p).flag ≡ 1 → ⊥) → counts_number a p.form ≡ 0
+  pub read-mode-free : (p : BlockPlan) → r ≡ ok p → counts_taken a p.form ≡ true → ((mode_of at p).flag ≡ 1 → ⊥) → counts_number a p.form ≡ 0
   -- 4.27
-  pub read-mode-counts : (p : BlockPlan) → plan_said r ≡ ok p → counts_taken a p.form ≡ true → (mode_of at p).flag ≡ 1 → decoded s (mode_of at p).quant ≡ some (record { end = (mode_of at p).at; values = take (counts_number a p.form) new })
+  pub read-mode-counts : (p : BlockPlan) → r ≡ ok p → counts_taken a p.form ≡ true → (mode_of at p).flag ≡ 1 → decoded s (mode_of at p).quant ≡ some (record { end = (mode_of at p).at; values = take (counts_number a p.form) new })
 
 -- `value`: its cases
 pub record ValueCases (s : List ℕ) (h : Header) (m : Mode) (q : List ℕ) (at index maximum : ℕ) : Type 0 where
@@ -139,30 +135,30 @@ pub record TargetClauses (h : Header) (t : Tile) (row col : ℕ) : Type 0 where
   pub target_below : target t h (row * t.w + col) < width h * height h * h.depth
 
 -- `read_mode` and `reconstruct` together, for block n of an image: from the promise of `lerc_block::read_block`
-pub record ReadBlockClauses (h : Header) (mask : List ℕ) (n : ℕ) (image : List ℕ) (s : List ℕ) (maximum at : ℕ) (r : BlockAnswer) : Type 0 where
+pub record ReadBlockClauses (h : Header) (mask : List ℕ) (n : ℕ) (image : List ℕ) (s : List ℕ) (maximum at : ℕ) (r : Res ℕ) : Type 0 where
   -- 4.23, 4.67, 4.82
-  pub read-block-ok : accepts (block_said r) ≡ is_some (block s h (tile_of (shape_of h) n) mask maximum at image)
+  pub read-block-ok : accepts r ≡ is_some (block s h (tile_of (shape_of h) n) mask maximum at image)
   -- 4.23
-  pub read-mode-none : mode s at h (tile_of (shape_of h) n) ≡ none → accepts (block_said r) ≡ false
+  pub read-mode-none : mode s at h (tile_of (shape_of h) n) ≡ none → accepts r ≡ false
   -- 4.68, 4.83
-  pub read-block-end : (next : ℕ) (t : ResultModel) → block_said r ≡ ok next → block s h (tile_of (shape_of h) n) mask maximum at image ≡ some t → next ≡ t.at
+  pub read-block-end : (next : ℕ) (t : ResultModel) → r ≡ ok next → block s h (tile_of (shape_of h) n) mask maximum at image ≡ some t → next ≡ t.at
   -- 4.25
-  pub read-block-inside : (next : ℕ) → block_said r ≡ ok next → (at < next) × (next ≤ length s)
+  pub read-block-inside : (next : ℕ) → r ≡ ok next → (at < next) × (next ≤ length s)
 
 -- `reconstruct` and `reconstruct_float`, from the promise of `lerc_image::fill`
-pub record ReconstructClauses (b : List ℕ) (h : Header) (ranges : Ranges) (mask list : List ℕ) (n : ℕ) (r : FillAnswer) (old new : List ℕ) : Type 0 where
+pub record ReconstructClauses (b : List ℕ) (h : Header) (ranges : Ranges) (mask list : List ℕ) (n : ℕ) (r : Res ℕ) (old new : List ℕ) : Type 0 where
   -- 4.21, 4.38, 4.59, 4.72
-  pub fill-held : (q : Refusal) → held h (length b) ≡ fail q → fill_said r ≡ fail q
+  pub fill-held : (q : Refusal) → held h (length b) ≡ fail q → r ≡ fail q
   -- 4.59, 4.72
-  pub fill-number : (e : Extent) → held h (length b) ≡ ok e → e.blocks ≤ n → fill_said r ≡ fail (refuse 11)
+  pub fill-number : (e : Extent) → held h (length b) ≡ ok e → e.blocks ≤ n → r ≡ fail (refuse 11)
   -- 4.64, 4.65, 4.79, 4.80
-  pub fill-room : (e : Extent) → held h (length b) ≡ ok e → n < e.blocks → room_for e mask list old ≡ false → fill_said r ≡ fail (refuse 5)
+  pub fill-room : (e : Extent) → held h (length b) ≡ ok e → n < e.blocks → room_for e mask list old ≡ false → r ≡ fail (refuse 5)
   -- 4.66, 4.81
   pub fill-length : length new ≡ length old
   -- 4.71, 4.86
   pub fill-rest : (j : ℕ) → h.columns * h.rows * h.depth ≤ j → j < length old → get_or new j 0 ≡ get_or old j 0
   -- 4.67, 4.82
-  pub fill-ok : (e : Extent) → held h (length b) ≡ ok e → n < e.blocks → room_for e mask list old ≡ true → pairs_right h.depth ranges ≡ true → Bytes b → accepts (fill_said r) ≡ is_some (their_fill b h ranges mask list n old)
+  pub fill-ok : (e : Extent) → held h (length b) ≡ ok e → n < e.blocks → room_for e mask list old ≡ true → pairs_right h.depth ranges ≡ true → Bytes b → accepts r ≡ is_some (their_fill b h ranges mask list n old)
   -- 4.69, 4.84: no operand of a sum is infinite
   pub fill-image : (e : Extent) → held h (length b) ≡ ok e → n < e.blocks → room_for e mask list old ≡ true → pairs_right h.depth ranges ≡ true → Bytes b → Calm (take h.size b) (get_or list n 0) h.kind h.error → (t : ResultModel) → their_fill b h ranges mask list n old ≡ some t → new ≡ t.image
 
@@ -183,7 +179,7 @@ pub record BlockClauses : Type 0 where
   pub start-past : (s : List ℕ) (at kind error top x n : ℕ) → length s ≤ at → marked at (block_says s at kind error top x n) ≡ fail (placed at (refuse 1))
   -- 4.22
   pub tile-over : (s : List ℕ) (at kind error top x n : ℕ) → tile_limit < n → marked at (read_block_says s at kind error top x n) ≡ fail (placed at (refuse 8))
-  pub read-mode-clauses : (s : List ℕ) → Bytes s → length s ≤ length_max → (at : ℕ) (h : Header) (t : Tile) (r : BlockPlanAnswer) → plan_said r ≡ marked at (plan_says s at h.kind t.x 0) → (a : CountsAnswer) (old new : List ℕ) → SecondCall s r a old new → ReadModeClauses s at h t r a new
+  pub read-mode-clauses : (s : List ℕ) → Bytes s → length s ≤ length_max → (at : ℕ) (h : Header) (t : Tile) (r : Res BlockPlan) → r ≡ marked at (plan_says s at h.kind t.x 0) → (a : Res Span) (old new : List ℕ) → SecondCall s r a old new → ReadModeClauses s at h t r a new
   pub value-cases : (s : List ℕ) (h : Header) (m : Mode) (q : List ℕ) (at index maximum : ℕ) → ValueCases s h m q at index maximum
   -- 4.44
   pub value-inside : (s : List ℕ) (h : Header) (m : Mode) (q : List ℕ) (at index maximum : ℕ) → at ≤ length s → index ≤ length q → (step : Step) → value s h m q at index maximum ≡ some step → (at ≤ step.at) × (step.at ≤ length s) × (index ≤ step.q) × (step.q ≤ length q)
@@ -193,7 +189,7 @@ pub record BlockClauses : Type 0 where
   -- 4.46, 4.47
   pub run_none : (h : Header) (mask : List ℕ) (n : ℕ) (start : List ℕ) → Shaped (shape_of h) → n < block_count (shape_of h) → cells (shape_of h) ≤ length start → (s : List ℕ) (m : Mode) (q : List ℕ) (maximum : ℕ) (pos idx : ℕ → ℕ) → pos 0 ≡ m.at → idx 0 ≡ 0 → RunNone h mask n start s m q maximum pos idx
   pub target-clauses : (h : Header) (t : Tile) → TileValid t h → (row col : ℕ) → row < t.h → col < t.w → TargetClauses h t row col
-  pub read-block-clauses : (h : Header) (mask : List ℕ) (n : ℕ) (image : List ℕ) → Shaped (shape_of h) → n < block_count (shape_of h) → cells (shape_of h) ≤ length image → (s : List ℕ) → Bytes s → length s ≤ length_max → (maximum at : ℕ) (r : BlockAnswer) (old new : List ℕ) → BlockRead (marked at (read_block_says s at h.kind h.error maximum (tile_of (shape_of h) n).x (valid_in_tile (shape_of h) mask (tile_of (shape_of h) n)))) r old new → ReadBlockClauses h mask n image s maximum at r
-  pub reconstruct-clauses : (b : List ℕ) (h : Header) (ranges : Ranges) (mask list : List ℕ) (n : ℕ) (r : FillAnswer) (old new : List ℕ) → Filled b h ranges mask list n r old new → ReconstructClauses b h ranges mask list n r old new
+  pub read-block-clauses : (h : Header) (mask : List ℕ) (n : ℕ) (image : List ℕ) → Shaped (shape_of h) → n < block_count (shape_of h) → cells (shape_of h) ≤ length image → (s : List ℕ) → Bytes s → length s ≤ length_max → (maximum at : ℕ) (r : Res ℕ) (old new : List ℕ) → BlockRead (marked at (read_block_says s at h.kind h.error maximum (tile_of (shape_of h) n).x (valid_in_tile (shape_of h) mask (tile_of (shape_of h) n)))) r old new → ReadBlockClauses h mask n image s maximum at r
+  pub reconstruct-clauses : (b : List ℕ) (h : Header) (ranges : Ranges) (mask list : List ℕ) (n : ℕ) (r : Res ℕ) (old new : List ℕ) → Filled b h ranges mask list n r old new → ReconstructClauses b h ranges mask list n r old new
   -- 4.70, 4.85
   pub reconstruct-inside : (s : List ℕ) (h : Header) (t : Tile) (m : Mode) (q mask : List ℕ) (maximum : ℕ) (out : List ℕ) → m.at ≤ length s → (r : ResultModel) → finish s h t m q mask maximum 0 m.at 0 out 256 ≡ some r → (m.at ≤ r.at) × (r.at ≤ length s)

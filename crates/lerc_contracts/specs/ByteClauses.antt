@@ -3,7 +3,7 @@
 use Rattle.std.specs.Prelude.{◌≡◌, Bool, true, false, cond, ◌&&◌, List, ℕ, zero, suc, ◌+◌, ◌-◌, ◌*◌, ◌/◌, ◌≤◌, ◌<◌, eqb, length, get_or, take, set}
 use Rattle.std.proofs.Math.Option.{none, some}
 use Rattle.lerc_words.specs.declared.Refusal.{Refusal}
-use Rattle.lerc_words.specs.Res.{ok, fail, refuse, accepts}
+use Rattle.lerc_words.specs.Res.{Res, ok, fail, refuse, accepts}
 use Rattle.lerc_words.specs.Lists.{count}
 use Rattle.lerc_header.specs.declared.Header.{Header}
 use Rattle.lerc_header.specs.declared.Extent.{Extent}
@@ -12,17 +12,14 @@ use Rattle.lerc_header.specs.Shape.{Shaped, pixels, cells}
 use Rattle.lerc_mask.specs.Mask.{pixel_valid, valid_below}
 use Rattle.lerc_sweep.specs.Sweep.{huffman_from, swept}
 use Rattle.lerc_image.specs.Geometry.{is_valid_cell}
-use Rattle.lerc_byte_image.specs.declared.EndAnswer.{EndAnswer}
 use Rattle.lerc_byte_image.specs.Table.{Table}
 use Rattle.lerc_byte_image.specs.Symbols.{Symbol, coded_at}
 use Rattle.lerc_byte_image.specs.Prediction.{left_behind}
 use Rattle.lerc_byte_image.specs.Prediction as ours
-use Rattle.lerc_byte_image.specs.Image.{checked_image, ended, end_said, written_image}
-use Rattle.lerc_validity.specs.declared.MaskAnswer.{MaskAnswer}
+use Rattle.lerc_byte_image.specs.Image.{checked_image, ended, written_image}
+use Rattle.lerc_validity.specs.Validity.{MaskTold}
 use Rattle.lerc.specs.declared.Staged.{Staged}
-use Rattle.lerc.specs.declared.StageAnswer.{StageAnswer}
 use Rattle.lerc.specs.Meaning.{huffman_body}
-use Rattle.lerc.specs.Stage.{stage_said}
 use Rattle.lerc.specs.Parts.{Ready, BodyRead}
 use Rattle.lerc_contracts.specs.Outside.{said, is_some, Parsed, table, symbol}
 use Rattle.lerc_contracts.specs.ByteImage.{pixel, target, prediction, bytes_end, finish, decoded}
@@ -68,37 +65,37 @@ pub record DecodedCases (s : List ℕ) (h : Header) (mask : List ℕ) (start : �
   pub decoded-table : (t : Parsed) → table s start ≡ some t → decoded s h mask start delta out ≡ finish s h mask t.at t.table delta 0 0 0 out (cells (shape_of h))
 
 -- `decode`, from the promises of `lerc_byte_image::check` and of `lerc_byte_image::write`
-pub record DecodeBytesClauses (b : List ℕ) (h : Header) (mask : List ℕ) (mode : ℕ) (delta : Bool) (r : EndAnswer) (old new : List ℕ) : Type 0 where
+pub record DecodeBytesClauses (b : List ℕ) (h : Header) (mask : List ℕ) (mode : ℕ) (delta : Bool) (r : Res ℕ) (old new : List ℕ) : Type 0 where
   -- 6.11
-  pub bytes-held : (q : Refusal) → held h (length b) ≡ fail q → (end_said r ≡ fail q) × (new ≡ old)
+  pub bytes-held : (q : Refusal) → held h (length b) ≡ fail q → (r ≡ fail q) × (new ≡ old)
   -- 6.15, 6.16
   pub bytes-room : (e : Extent) → held h (length b) ≡ ok e → image_room e mask old ≡ false → new ≡ old
   -- 6.18
   pub bytes-length : length new ≡ length old
   -- 6.19
-  pub bytes_ok : (e : Extent) → held h (length b) ≡ ok e → image_room e mask old ≡ true → valid_below (pixels (shape_of h)) mask ≡ h.valid → accepts (end_said r) ≡ is_some (their_bytes b h mask mode delta old)
+  pub bytes_ok : (e : Extent) → held h (length b) ≡ ok e → image_room e mask old ≡ true → valid_below (pixels (shape_of h)) mask ≡ h.valid → accepts r ≡ is_some (their_bytes b h mask mode delta old)
   -- 6.20
   pub bytes-result : (e : Extent) → held h (length b) ≡ ok e → image_room e mask old ≡ true → valid_below (pixels (shape_of h)) mask ≡ h.valid
-      → (end : ℕ) → end_said r ≡ ok end → their_bytes b h mask mode delta old ≡ some (record { at = end; image = new })
+      → (end : ℕ) → r ≡ ok end → their_bytes b h mask mode delta old ≡ some (record { at = end; image = new })
   -- 6.21
-  pub bytes_inside : (end : ℕ) → end_said r ≡ ok end → (mode + 1 < end) × (end ≤ length (take h.size b))
+  pub bytes_inside : (end : ℕ) → r ≡ ok end → (mode + 1 < end) × (end ≤ length (take h.size b))
   -- 6.22
   pub bytes_small : (i : ℕ) → i < length old → get_or old i 0 ≤ 255 → get_or new i 0 ≤ 255
   -- a valid cell whatever it held (6.17)
-  pub bytes-valid : (e : Extent) → held h (length b) ≡ ok e → image_room e mask old ≡ true → (end : ℕ) → end_said r ≡ ok end → (i : ℕ) → is_valid_cell (shape_of h) mask i ≡ true → get_or new i 0 ≤ 255
+  pub bytes-valid : (e : Extent) → held h (length b) ≡ ok e → image_room e mask old ≡ true → (end : ℕ) → r ≡ ok end → (i : ℕ) → is_valid_cell (shape_of h) mask i ≡ true → get_or new i 0 ≤ 255
   -- 6.23
   pub bytes_rest : (j : ℕ) → h.columns * h.rows * h.depth ≤ j → j < length old → get_or new j 0 ≡ get_or old j 0
 
 -- `decode`, from what a read does behind an accepted mask (6.18 and 6.23: `linear-length`, `linear-rest`, of any body)
-pub record ReadBytesClauses (s : List ℕ) (h : Header) (mask : List ℕ) (mode : ℕ) (delta : Bool) (a : StageAnswer) (old new : List ℕ) : Type 0 where
+pub record ReadBytesClauses (s : List ℕ) (h : Header) (mask : List ℕ) (mode : ℕ) (delta : Bool) (a : Res Staged) (old new : List ℕ) : Type 0 where
   -- 6.19
-  pub read-bytes-ok : accepts (stage_said a) ≡ is_some (decoded s h mask (mode + 1) delta old)
+  pub read-bytes-ok : accepts a ≡ is_some (decoded s h mask (mode + 1) delta old)
   -- 6.20
-  pub read-bytes-result : (w : Staged) → stage_said a ≡ ok w → decoded s h mask (mode + 1) delta old ≡ some (record { at = w.end; image = new })
+  pub read-bytes-result : (w : Staged) → a ≡ ok w → decoded s h mask (mode + 1) delta old ≡ some (record { at = w.end; image = new })
   -- 6.21
-  pub read-bytes-inside : (w : Staged) → stage_said a ≡ ok w → (mode + 1 < w.end) × (w.end ≤ length s)
+  pub read-bytes-inside : (w : Staged) → a ≡ ok w → (mode + 1 < w.end) × (w.end ≤ length s)
   -- and where it is refused the image is as it was, which upstream leaves open (section 7)
-  pub read-bytes-kept : (q : Refusal) → stage_said a ≡ fail q → new ≡ old
+  pub read-bytes-kept : (q : Refusal) → a ≡ fail q → new ≡ old
 
 pub record ByteClauses : Type 0 where
   pub place-clauses : (h : Header) → Shaped (shape_of h) → (mask : List ℕ) (delta : Bool) (k : ℕ) → k < cells (shape_of h) → PlaceClauses h mask delta k
@@ -115,7 +112,7 @@ pub record ByteClauses : Type 0 where
   pub bytes-kind : (s : List ℕ) (kind error at : ℕ) (delta : Bool) (mode : ℕ) → swept s kind error at ≡ ok (huffman_from delta mode) → kind < 2
   -- 6.13
   pub bytes-start : (s : List ℕ) (start n : ℕ) → length s < start → coded_at s start n ≡ fail (refuse 1)
-  pub decode-bytes-clauses : (b : List ℕ) (h : Header) (mask : List ℕ) (mode : ℕ) (delta : Bool) (r : EndAnswer) (old new : List ℕ)
-      → end_said r ≡ ended (checked_image b h mode) → new ≡ written_image b h mode delta mask old → DecodeBytesClauses b h mask mode delta r old new
-  pub read-bytes-clauses : (s : List ℕ) (h : Header) (mode : ℕ) (delta : Bool) (force : MaskAnswer) (mask : List ℕ) (a : StageAnswer) (old new : List ℕ) → Ready s h mask → cells (shape_of h) ≤ length old
+  pub decode-bytes-clauses : (b : List ℕ) (h : Header) (mask : List ℕ) (mode : ℕ) (delta : Bool) (r : Res ℕ) (old new : List ℕ)
+      → r ≡ ended (checked_image b h mode) → new ≡ written_image b h mode delta mask old → DecodeBytesClauses b h mask mode delta r old new
+  pub read-bytes-clauses : (s : List ℕ) (h : Header) (mode : ℕ) (delta : Bool) (force : Res MaskTold) (mask : List ℕ) (a : Res Staged) (old new : List ℕ) → Ready s h mask → cells (shape_of h) ≤ length old
       → BodyRead (huffman_body s h delta mode) h force mask a old new → ReadBytesClauses s h mask mode delta a old new

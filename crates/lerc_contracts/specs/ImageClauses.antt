@@ -22,6 +22,7 @@ use Rattle.lerc_contracts.specs.Between.{painting, tiled_image, used_to, bodied,
 use Rattle.lerc_words.specs.Lists.{count, over}
 use Rattle.lerc_numeric.specs.Kinds.{type_size}
 use Rattle.lerc_mask.specs.Mask.{pixel_valid, valid_below}
+use Rattle.lerc_validity.specs.Validity.{MaskTold}
 use Rattle.lerc.specs.Meaning.{Body, raw_body, constant_body}
 use Rattle.lerc.specs.Meaning as body
 use Rattle.lerc_words.specs.declared.Refusal.{Refusal}
@@ -29,14 +30,9 @@ use Rattle.lerc_header.specs.declared.Extent.{Extent}
 use Rattle.lerc_header.specs.Limits.{depth_limit}
 use Rattle.lerc_ranges.specs.declared.Ranges.{Ranges}
 use Rattle.lerc_ranges.specs.Ranges.{constant_words}
-use Rattle.lerc_image.specs.declared.WalkAnswer.{WalkAnswer}
-use Rattle.lerc_image.specs.Walk.{Walk, walk_said}
-use Rattle.lerc_validity.specs.declared.MaskAnswer.{MaskAnswer}
-use Rattle.lerc.specs.declared.ReadAnswer.{ReadAnswer}
+use Rattle.lerc_image.specs.Walk.{Walk}
 use Rattle.lerc.specs.declared.Staged.{Staged}
-use Rattle.lerc.specs.declared.StageAnswer.{StageAnswer}
-use Rattle.lerc.specs.Read.{Lent, room, read_said, WholeRead}
-use Rattle.lerc.specs.Stage.{stage_said}
+use Rattle.lerc.specs.Read.{ReadTold, Lent, room, WholeRead}
 use Rattle.lerc.specs.Parts.{Ready, BodyRead}
 
 -- `tiles`: a block, then the next position
@@ -92,23 +88,23 @@ pub record TilesCases (s : List ℕ) (h : Header) (mask max : List ℕ) : Type 0
   pub tiles-is : TilesIs s h mask max
 
 -- `decode_tiles`, from the promise of `lerc_image::decode_tiles`
-pub record DecodeTilesClauses (b : List ℕ) (h : Header) (mask maxima : List ℕ) (at : ℕ) (r : WalkAnswer) (list old new : List ℕ) : Type 0 where
+pub record DecodeTilesClauses (b : List ℕ) (h : Header) (mask maxima : List ℕ) (at : ℕ) (r : Res Walk) (list old new : List ℕ) : Type 0 where
   -- 5.23
-  pub tiles-held : (q : Refusal) → held h (length b) ≡ fail q → walk_said r ≡ fail q
+  pub tiles-held : (q : Refusal) → held h (length b) ≡ fail q → r ≡ fail q
   -- 5.25, 5.26
-  pub tiles-room : (e : Extent) → held h (length b) ≡ ok e → room_for e mask list old ≡ false → walk_said r ≡ fail (refuse 5)
+  pub tiles-room : (e : Extent) → held h (length b) ≡ ok e → room_for e mask list old ≡ false → r ≡ fail (refuse 5)
   -- 5.27
   pub tiles-length : length new ≡ length old
   -- 5.32
   pub tiles-rest : (j : ℕ) → h.columns * h.rows * h.depth ≤ j → j < length old → get_or new j 0 ≡ get_or old j 0
   -- 5.28
-  pub tiles-ok : (e : Extent) → held h (length b) ≡ ok e → room_for e mask list old ≡ true → Bytes b → accepts (walk_said r) ≡ is_some (their_tiles b h mask maxima at old)
+  pub tiles-ok : (e : Extent) → held h (length b) ≡ ok e → room_for e mask list old ≡ true → Bytes b → accepts r ≡ is_some (their_tiles b h mask maxima at old)
   -- 5.29
-  pub tiles-next : (e : Extent) → held h (length b) ≡ ok e → room_for e mask list old ≡ true → Bytes b → (w : Walk) → walk_said r ≡ ok w → (t : ResultModel) → their_tiles b h mask maxima at old ≡ some t → w.end ≡ t.at
+  pub tiles-next : (e : Extent) → held h (length b) ≡ ok e → room_for e mask list old ≡ true → Bytes b → (w : Walk) → r ≡ ok w → (t : ResultModel) → their_tiles b h mask maxima at old ≡ some t → w.end ≡ t.at
   -- 5.30: no operand of a sum is infinite
-  pub tiles-result : (e : Extent) → held h (length b) ≡ ok e → room_for e mask list old ≡ true → Bytes b → ((c : Chain) → all_blocks (take h.size b) h maxima mask at ≡ ok c → AllCalm (take h.size b) h c.starts) → (w : Walk) → walk_said r ≡ ok w → their_tiles b h mask maxima at old ≡ some (record { at = w.end; image = new })
+  pub tiles-result : (e : Extent) → held h (length b) ≡ ok e → room_for e mask list old ≡ true → Bytes b → ((c : Chain) → all_blocks (take h.size b) h maxima mask at ≡ ok c → AllCalm (take h.size b) h c.starts) → (w : Walk) → r ≡ ok w → their_tiles b h mask maxima at old ≡ some (record { at = w.end; image = new })
   -- 5.31
-  pub tiles-inside : (e : Extent) → held h (length b) ≡ ok e → room_for e mask list old ≡ true → Bytes b → (w : Walk) → walk_said r ≡ ok w → at ≤ length (take h.size b) → (at ≤ w.end) × (w.end ≤ length (take h.size b))
+  pub tiles-inside : (e : Extent) → held h (length b) ≡ ok e → room_for e mask list old ≡ true → Bytes b → (w : Walk) → r ≡ ok w → at ≤ length (take h.size b) → (at ≤ w.end) × (w.end ≤ length (take h.size b))
 
 -- `linear_value`: its cases
 pub record LinearValueCases (s : List ℕ) (h : Header) (at k : ℕ) (constants : List ℕ) : Type 0 where
@@ -131,11 +127,11 @@ pub record LinearCases (s : List ℕ) (h : Header) (mask constants : List ℕ) (
   pub linear-step : (k at : ℕ) (out : List ℕ) → (k ≡ cells (shape_of h) → ⊥) → (fuel : ℕ) (w : PlaceAndWord) → pixel_valid mask (k / h.depth) ≡ true → linear_value s h at k raw constants ≡ some w → linear s h mask constants raw k at out (suc fuel) ≡ linear s h mask constants raw (k + 1) w.at (set out k w.value) fuel
 
 -- what `decode_linear` asks, refused: from the promise of a whole read
-pub record WholeReadClauses (b : List ℕ) (r : ReadAnswer) (old : Lent) : Type 0 where
+pub record WholeReadClauses (b : List ℕ) (r : Res ReadTold) (old : Lent) : Type 0 where
   -- 5.41
-  pub whole-header : (q : Refusal) → header_says b ≡ fail q → read_said r ≡ fail q
+  pub whole-header : (q : Refusal) → header_says b ≡ fail q → r ≡ fail q
   -- 5.43, 5.44
-  pub whole_room : (h : Header) → header_says b ≡ ok h → room h old ≡ false → read_said r ≡ fail (refuse 5)
+  pub whole_room : (h : Header) → header_says b ≡ ok h → room h old ≡ false → r ≡ fail (refuse 5)
 
 -- `decode_linear`: either body
 pub record DecodeLinearClauses (h : Header) (old new : List ℕ) : Type 0 where
@@ -145,22 +141,22 @@ pub record DecodeLinearClauses (h : Header) (old new : List ℕ) : Type 0 where
   pub linear-rest : (j : ℕ) → h.columns * h.rows * h.depth ≤ j → j < length old → get_or new j 0 ≡ get_or old j 0
 
 -- `decode_linear`, where `raw` is true; its constants are not looked at
-pub record RawBodyClauses (s : List ℕ) (h : Header) (at : ℕ) (mask constants : List ℕ) (a : StageAnswer) (old new : List ℕ) : Type 0 where
+pub record RawBodyClauses (s : List ℕ) (h : Header) (at : ℕ) (mask constants : List ℕ) (a : Res Staged) (old new : List ℕ) : Type 0 where
   -- 5.46
-  pub raw-ok : accepts (stage_said a) ≡ is_some (their_raw s h mask constants at old)
+  pub raw-ok : accepts a ≡ is_some (their_raw s h mask constants at old)
   -- 5.47, 5.48
-  pub raw-result : (w : Staged) → stage_said a ≡ ok w → their_raw s h mask constants at old ≡ some (record { at = w.end; image = new })
+  pub raw-result : (w : Staged) → a ≡ ok w → their_raw s h mask constants at old ≡ some (record { at = w.end; image = new })
   -- 5.49
-  pub raw-end : (w : Staged) → stage_said a ≡ ok w → (at ≤ w.end) × (w.end ≤ length s)
+  pub raw-end : (w : Staged) → a ≡ ok w → (at ≤ w.end) × (w.end ≤ length s)
 
 -- `decode_linear`, where `raw` is false: its words are those of `convert`, and it always accepts
-pub record ConstantBodyClauses (s : List ℕ) (h : Header) (ranges : Ranges) (mask words : List ℕ) (a : StageAnswer) (old new : List ℕ) : Type 0 where
+pub record ConstantBodyClauses (s : List ℕ) (h : Header) (ranges : Ranges) (mask words : List ℕ) (a : Res Staged) (old new : List ℕ) : Type 0 where
   -- 5.46
-  pub constant-ok : accepts (stage_said a) ≡ is_some (their_constant s h mask (over words (replicate depth_limit 0)) ranges.at old)
+  pub constant-ok : accepts a ≡ is_some (their_constant s h mask (over words (replicate depth_limit 0)) ranges.at old)
   -- 5.47, 5.48
-  pub constant-result : (w : Staged) → stage_said a ≡ ok w → their_constant s h mask (over words (replicate depth_limit 0)) ranges.at old ≡ some (record { at = w.end; image = new })
+  pub constant-result : (w : Staged) → a ≡ ok w → their_constant s h mask (over words (replicate depth_limit 0)) ranges.at old ≡ some (record { at = w.end; image = new })
   -- 5.49
-  pub constant-end : (w : Staged) → stage_said a ≡ ok w → w.end ≡ ranges.at
+  pub constant-end : (w : Staged) → a ≡ ok w → w.end ≡ ranges.at
 
 pub record ImageClauses : Type 0 where
   -- 5.6
@@ -169,7 +165,7 @@ pub record ImageClauses : Type 0 where
   pub next-is : (p : Position) (h : Header) → next p h ≡ next_of (shape_of h) p
   pub position-clauses : (p : Position) (h : Header) → Shaped (shape_of h) → HasTile (shape_of h) p → PositionClauses p h
   pub tiles-cases : (s : List ℕ) → Bytes s → length s ≤ length_max → (h : Header) → Shaped (shape_of h) → (mask max : List ℕ) → TilesCases s h mask max
-  pub decode-tiles-clauses : (b : List ℕ) (h : Header) (mask maxima : List ℕ) (at : ℕ) (r : WalkAnswer) (list list' old new : List ℕ) → Tiled (tiles_says b h mask maxima at (length list) (length old)) h mask r list list' old new → DecodeTilesClauses b h mask maxima at r list old new
+  pub decode-tiles-clauses : (b : List ℕ) (h : Header) (mask maxima : List ℕ) (at : ℕ) (r : Res Walk) (list list' old new : List ℕ) → Tiled (tiles_says b h mask maxima at (length list) (length old)) h mask r list list' old new → DecodeTilesClauses b h mask maxima at r list old new
   pub linear-value-cases : (s : List ℕ) (h : Header) (at k : ℕ) (constants : List ℕ) → LinearValueCases s h at k constants
   pub linear-cases : (s : List ℕ) (h : Header) (mask constants : List ℕ) (raw : Bool) → LinearCases s h mask constants raw
   -- 5.39
@@ -180,7 +176,7 @@ pub record ImageClauses : Type 0 where
   pub raw-is : (s : List ℕ) (h : Header) → Shaped (shape_of h) → (mask image : List ℕ) → cells (shape_of h) ≤ length image → RawIs s h mask image
   -- 5.42
   pub raw-start : (s : List ℕ) (h : Header) (at : ℕ) → length s < at → raw_body s h at ≡ fail (placed at (refuse 1))
-  pub whole-read-clauses : (b : List ℕ) (reuse : Bool) (r : ReadAnswer) (old new : Lent) → WholeRead b reuse r old new → WholeReadClauses b r old
-  pub decode-linear-clauses : (m : Res Body) (h : Header) (force : MaskAnswer) (mask : List ℕ) (a : StageAnswer) (old new : List ℕ) → BodyRead m h force mask a old new → DecodeLinearClauses h old new
-  pub raw-body-clauses : (s : List ℕ) (h : Header) (at : ℕ) (force : MaskAnswer) (mask constants : List ℕ) (a : StageAnswer) (old new : List ℕ) → Ready s h mask → cells (shape_of h) ≤ length old → BodyRead (raw_body s h at) h force mask a old new → at ≤ length s → RawBodyClauses s h at mask constants a old new
-  pub constant-body-clauses : (s : List ℕ) (h : Header) (ranges : Ranges) (force : MaskAnswer) (mask words : List ℕ) (a : StageAnswer) (old new : List ℕ) → Ready s h mask → cells (shape_of h) ≤ length old → length ranges.min ≡ depth_limit → BodyRead (constant_body h ranges) h force mask a old new → constant_words h.depth h.kind ranges.min ≡ ok words → ConstantBodyClauses s h ranges mask words a old new
+  pub whole-read-clauses : (b : List ℕ) (reuse : Bool) (r : Res ReadTold) (old new : Lent) → WholeRead b reuse r old new → WholeReadClauses b r old
+  pub decode-linear-clauses : (m : Res Body) (h : Header) (force : Res MaskTold) (mask : List ℕ) (a : Res Staged) (old new : List ℕ) → BodyRead m h force mask a old new → DecodeLinearClauses h old new
+  pub raw-body-clauses : (s : List ℕ) (h : Header) (at : ℕ) (force : Res MaskTold) (mask constants : List ℕ) (a : Res Staged) (old new : List ℕ) → Ready s h mask → cells (shape_of h) ≤ length old → BodyRead (raw_body s h at) h force mask a old new → at ≤ length s → RawBodyClauses s h at mask constants a old new
+  pub constant-body-clauses : (s : List ℕ) (h : Header) (ranges : Ranges) (force : Res MaskTold) (mask words : List ℕ) (a : Res Staged) (old new : List ℕ) → Ready s h mask → cells (shape_of h) ≤ length old → length ranges.min ≡ depth_limit → BodyRead (constant_body h ranges) h force mask a old new → constant_words h.depth h.kind ranges.min ≡ ok words → ConstantBodyClauses s h ranges mask words a old new

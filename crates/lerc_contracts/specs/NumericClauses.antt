@@ -4,11 +4,10 @@ use Rattle.std.specs.Prelude.{◌≡◌, Bool, false, cond, ◌⊎◌, ℕ, ◌+
 use Rattle.std.proofs.Math.Option.{some}
 use Rattle.std.specs.Float.Ieee.{size}
 use Rattle.std.specs.Float.Ieee.Nearest.{closest}
-use Rattle.lerc_words.specs.Res.{ok, fail, refuse, accepts}
-use Rattle.lerc_numeric.specs.declared.IntegerAnswer.{IntegerAnswer}
+use Rattle.lerc_words.specs.Res.{Res, ok, fail, refuse, accepts}
 use Rattle.lerc_numeric.specs.Numeric.{finite, infinite, sig, exp, less, lesser, bits64, signed, scaled, sum, counted_sum}
 use Rattle.lerc_numeric.specs.Kinds as kinds
-use Rattle.lerc_numeric.specs.Kinds.{type_size, value_of, integer_said, cut, narrowed}
+use Rattle.lerc_numeric.specs.Kinds.{type_size, value_of, cut, narrowed}
 use Rattle.lerc_numeric.specs.Inside.{jam}
 use Rattle.lerc_contracts.specs.Outside.{said, is_some}
 use Rattle.lerc_contracts.specs.Numeric.{finite_of, mantissa, exponent, rounded, sticky, less_than, size_of, modulus_of, integer, round, jammed, highest64, highest, pack_normal, pack, power, scale_software, number_software, plus_software, narrow_software}
@@ -28,9 +27,9 @@ pub record ToIntegerClauses (v kind : ℕ) : Type 0 where
   -- 1.40, 1.41
   pub integer-is : integer v kind ≡ said (λ w. w) (cut kind v)
   -- 1.40
-  pub integer-ok : (r : IntegerAnswer) → integer_said r ≡ cut kind v → accepts (integer_said r) ≡ is_some (integer v kind)
+  pub integer-ok : (r : Res ℕ) → r ≡ cut kind v → accepts r ≡ is_some (integer v kind)
   -- 1.41
-  pub integer-word : (r : IntegerAnswer) → integer_said r ≡ cut kind v → (w : ℕ) → integer_said r ≡ ok w → integer v kind ≡ some w
+  pub integer-word : (r : Res ℕ) → r ≡ cut kind v → (w : ℕ) → r ≡ ok w → integer v kind ≡ some w
 
 pub record NumericClauses : Type 0 where
   -- section 0
@@ -93,5 +92,5 @@ pub record NumericClauses : Type 0 where
   -- 1.38, 1.44
   pub narrow-is : (v : ℕ) → v < 2 ^ 64 → narrow_software v ≡ narrowed v
   -- 1.39
-  pub integer-kind : (v kind : ℕ) (r : IntegerAnswer) → integer_said r ≡ cut kind v → 6 ≤ kind → integer_said r ≡ fail (refuse 9)
+  pub integer-kind : (v kind : ℕ) (r : Res ℕ) → r ≡ cut kind v → 6 ≤ kind → r ≡ fail (refuse 9)
   pub to-integer-clauses : (v kind : ℕ) → v < 2 ^ 64 → kind < 6 → ToIntegerClauses v kind

@@ -1,7 +1,7 @@
 -- lerc_planes.rs: a law for each clause, by the rows of docs/CONTRACTS.md (section 3); and what is refused of a header.
 -- Assumes nothing.
 use Rattle.std.specs.Prelude.{◌≡◌, true, false, Bool, cond, ◌&&◌, List, ℕ, ◌≤◌, ◌<◌, length, take, get_or, replicate, leb}
-use Rattle.lerc_words.specs.Res.{ok, fail, refuse, accepts}
+use Rattle.lerc_words.specs.Res.{Res, ok, fail, refuse, accepts}
 use Rattle.lerc_header.specs.declared.Header.{Header}
 use Rattle.lerc_header.specs.declared.Extent.{Extent}
 use Rattle.lerc_header.specs.Header.{fields_right, within_ceilings, held, shape_of}
@@ -12,15 +12,11 @@ use Rattle.lerc_words.specs.Lists.{over}
 use Rattle.lerc_numeric.specs.Numeric.{same}
 use Rattle.lerc_header.specs.Shape.{pixels, mask_length}
 use Rattle.lerc_mask.specs.Mask.{valid_below}
-use Rattle.lerc_validity.specs.declared.MaskAnswer.{MaskAnswer}
-use Rattle.lerc_ranges.specs.declared.RangesAnswer.TheVariants as ranges-answer
-use Rattle.lerc_ranges.specs.declared.RangesRead.{RangesRead}
-use Rattle.lerc_ranges.specs.declared.ConstantsAnswer.TheVariants as constants-answer
-use Rattle.lerc_ranges.specs.declared.Constants.{Constants}
-use Rattle.lerc_ranges.specs.Ranges.{ranges_end, uniform_ranges, ranges_says, coded_ranges, pairs_right, read_ranges_says, ranges_said, constant_words, constants_said}
-use Rattle.lerc_validity.specs.Validity.{MaskInForce, bytes_of, kept, unrolled, mask_says, prepare_says, mask_said, Prepared, in_force}
+use Rattle.lerc_ranges.specs.declared.Ranges.{Ranges}
+use Rattle.lerc_ranges.specs.Ranges.{ranges_end, uniform_ranges, ranges_says, coded_ranges, pairs_right, read_ranges_says, constant_words, constants_said}
+use Rattle.lerc_validity.specs.Validity.{MaskTold, MaskInForce, bytes_of, kept, unrolled, mask_says, prepare_says, Prepared, in_force}
 use Rattle.lerc_contracts.specs.Planes.{mask_size, count, validity, equal, ranges, constants}
-use Rattle.lerc_contracts.specs.Between.{Sectioned, model, ranges_ok, constants_ok}
+use Rattle.lerc_contracts.specs.Between.{Sectioned, model}
 
 -- what upstream asks of a header, refused
 pub record HeaderRefusals (h : Header) (n : ℕ) : Type 0 where
@@ -47,19 +43,19 @@ pub record ValidityCases (s : List ℕ) (h : Header) (old : List ℕ) (reuse : B
   pub validity-of : (f : MaskInForce) → mask_says s h reuse old ≡ ok f → validity s h old reuse ≡ some (bytes_of f)
 
 -- `prepare`, from the promises of `lerc_validity::prepare_mask` and `mask_in_force`
-pub record PrepareClauses (b : List ℕ) (h : Header) (reuse : Bool) (old : List ℕ) (r : MaskAnswer) (spare newer : List ℕ) : Type 0 where
+pub record PrepareClauses (b : List ℕ) (h : Header) (reuse : Bool) (old : List ℕ) (r : Res MaskTold) (spare newer : List ℕ) : Type 0 where
   -- 3.9, 3.10
-  pub prepare-held : (q : Refusal) → held h (length b) ≡ fail q → mask_said r ≡ fail q
+  pub prepare-held : (q : Refusal) → held h (length b) ≡ fail q → r ≡ fail q
   -- 3.11
-  pub prepare-room : (e : Extent) → held h (length b) ≡ ok e → (leb e.mask (length old) && leb e.mask (length spare)) ≡ false → mask_said r ≡ fail (refuse 5)
+  pub prepare-room : (e : Extent) → held h (length b) ≡ ok e → (leb e.mask (length old) && leb e.mask (length spare)) ≡ false → r ≡ fail (refuse 5)
   -- 3.12
   pub prepare-length : length newer ≡ length spare
   -- 3.15
   pub prepare-rest : (i : ℕ) → mask_size h ≤ i → get_or newer i 0 ≡ get_or spare i 0
   -- 3.13
-  pub prepare-ok : (e : Extent) → held h (length b) ≡ ok e → mask_size h ≤ length old → mask_size h ≤ length spare → Sectioned h → accepts (mask_said r) ≡ is_some (validity (take h.size b) h old reuse)
+  pub prepare-ok : (e : Extent) → held h (length b) ≡ ok e → mask_size h ≤ length old → mask_size h ≤ length spare → Sectioned h → accepts r ≡ is_some (validity (take h.size b) h old reuse)
   -- 3.14
-  pub prepare-mask : (e : Extent) → held h (length b) ≡ ok e → mask_size h ≤ length old → mask_size h ≤ length spare → accepts (mask_said r) ≡ true → validity (take h.size b) h old reuse ≡ some (in_force r old newer)
+  pub prepare-mask : (e : Extent) → held h (length b) ≡ ok e → mask_size h ≤ length old → mask_size h ≤ length spare → accepts r ≡ true → validity (take h.size b) h old reuse ≡ some (in_force r old newer)
 
 -- `ranges`: its cases
 pub record RangesCases (s : List ℕ) (h : Header) : Type 0 where
@@ -71,22 +67,22 @@ pub record RangesCases (s : List ℕ) (h : Header) : Type 0 where
   pub ranges-here : same h.min h.max ≡ false → ranges_end h ≤ length s → ranges s h ≡ cond (pairs_right h.depth (coded_ranges s h)) (some (model (coded_ranges s h))) none
 
 -- `read_ranges`, from the promise of `lerc_ranges::read_ranges`
-pub record ReadRangesClauses (b : List ℕ) (h : Header) (r : RangesRead) : Type 0 where
+pub record ReadRangesClauses (b : List ℕ) (h : Header) (r : Res Ranges) : Type 0 where
   -- 3.25, 3.26
-  pub read-ranges-held : (q : Refusal) → held h (length b) ≡ fail q → r.answer ≡ ranges-answer.Refused q
+  pub read-ranges-held : (q : Refusal) → held h (length b) ≡ fail q → r ≡ fail q
   -- 3.28
-  pub read-ranges-ok : (e : Extent) → held h (length b) ≡ ok e → ranges_ok r.answer ≡ is_some (ranges (take h.size b) h)
+  pub read-ranges-ok : (e : Extent) → held h (length b) ≡ ok e → accepts r ≡ is_some (ranges (take h.size b) h)
   -- 3.29
-  pub read-ranges-model : (e : Extent) → held h (length b) ≡ ok e → r.answer ≡ ranges-answer.Read → ranges (take h.size b) h ≡ some (model r.ranges)
+  pub read-ranges-model : (e : Extent) → held h (length b) ≡ ok e → (g : Ranges) → r ≡ ok g → ranges (take h.size b) h ≡ some (model g)
   -- 3.30
-  pub read-ranges-inside : (e : Extent) → held h (length b) ≡ ok e → r.answer ≡ ranges-answer.Read → (data_at h ≤ r.ranges.at) × (r.ranges.at ≤ length (take h.size b))
+  pub read-ranges-inside : (e : Extent) → held h (length b) ≡ ok e → (g : Ranges) → r ≡ ok g → (data_at h ≤ g.at) × (g.at ≤ length (take h.size b))
 
 -- `convert`, from the promise of `lerc_ranges::convert`
-pub record ConvertClauses (values : List ℕ) (depth kind : ℕ) (r : Constants) : Type 0 where
+pub record ConvertClauses (values : List ℕ) (depth kind : ℕ) (r : Res (List ℕ)) : Type 0 where
   -- 3.34
-  pub convert-ok : constants_ok r.answer ≡ is_some (constants values depth kind)
+  pub convert-ok : accepts r ≡ is_some (constants values depth kind)
   -- 3.35
-  pub convert-words : r.answer ≡ constants-answer.Stored → constants values depth kind ≡ some r.words
+  pub convert-words : (words : List ℕ) → r ≡ ok words → constants values depth kind ≡ some words
 
 pub record PlanesClauses : Type 0 where
   pub header-refusals : (h : Header) (n : ℕ) → HeaderRefusals h n
@@ -99,7 +95,7 @@ pub record PlanesClauses : Type 0 where
   -- 3.2
   pub count-is : (s : List ℕ) (n : ℕ) → count s n ≡ valid_below n s
   pub validity-cases : (s : List ℕ) (h : Header) (old : List ℕ) (reuse : Bool) → ValidityCases s h old reuse
-  pub prepare-clauses : (b : List ℕ) (h : Header) (reuse : Bool) (old : List ℕ) (r : MaskAnswer) (spare newer : List ℕ) → Prepared (prepare_says b h reuse old (length spare)) r spare newer → PrepareClauses b h reuse old r spare newer
+  pub prepare-clauses : (b : List ℕ) (h : Header) (reuse : Bool) (old : List ℕ) (r : Res MaskTold) (spare newer : List ℕ) → Prepared (prepare_says b h reuse old (length spare)) r spare newer → PrepareClauses b h reuse old r spare newer
   -- 3.16
   pub equal_is : (a b : ℕ) → equal a b ≡ same a b
   -- 3.17
@@ -107,7 +103,7 @@ pub record PlanesClauses : Type 0 where
   pub ranges-cases : (s : List ℕ) (h : Header) → RangesCases s h
   -- 3.24
   pub ranges-is : (s : List ℕ) (h : Header) → ranges s h ≡ said model (ranges_says s h)
-  pub read-ranges-clauses : (b : List ℕ) (h : Header) (r : RangesRead) → r ≡ ranges_said (read_ranges_says b h) → ReadRangesClauses b h r
+  pub read-ranges-clauses : (b : List ℕ) (h : Header) (r : Res Ranges) → r ≡ read_ranges_says b h → ReadRangesClauses b h r
   -- 3.31, 3.32
   pub constants-is : (values : List ℕ) (depth kind : ℕ) → depth ≤ 64 → depth ≤ length values → constants values depth kind ≡ said (λ ws. over ws (replicate 64 0)) (constant_words depth kind values)
-  pub convert-clauses : (values : List ℕ) (depth kind : ℕ) (r : Constants) → length values ≡ 64 → r ≡ constants_said (constant_words depth kind values) → depth ≤ 64 → ConvertClauses values depth kind r
+  pub convert-clauses : (values : List ℕ) (depth kind : ℕ) (r : Res (List ℕ)) → length values ≡ 64 → r ≡ constants_said (constant_words depth kind values) → depth ≤ 64 → ConvertClauses values depth kind r

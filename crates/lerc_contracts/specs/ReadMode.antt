@@ -3,16 +3,12 @@
 -- function gives, read off the two answers.
 -- Assumes nothing.
 use Rattle.std.specs.Prelude.{ℕ, ◌+◌, ◌≡◌, Bool, true, false, List}
-use Rattle.lerc_words.specs.Res.{accepts}
+use Rattle.lerc_words.specs.Res.{Res, ok, fail, accepts}
 use Rattle.lerc_numeric.specs.Kinds.{type_size}
-use Rattle.lerc_bits.specs.declared.CountsAnswer.{CountsAnswer}
-use Rattle.lerc_bits.specs.declared.CountsAnswer.TheVariants as counted
-use Rattle.lerc_bits.specs.Bits.{counts_by, counts_said, CountsDecoded}
+use Rattle.lerc_bits.specs.Bits.{Span, counts_by, CountsDecoded}
 use Rattle.lerc_block.specs.declared.plan.Form.{Form}
 use Rattle.lerc_block.specs.declared.plan.Form.TheVariants as coded
 use Rattle.lerc_block.specs.declared.plan.BlockPlan.{BlockPlan}
-use Rattle.lerc_block.specs.declared.plan.BlockPlanAnswer.{BlockPlanAnswer}
-use Rattle.lerc_block.specs.declared.plan.BlockPlanAnswer.TheVariants as inspected
 use Rattle.lerc_block.specs.Plan.{offset_value}
 use Rattle.lerc_contracts.specs.Block.{Mode}
 
@@ -29,34 +25,34 @@ abbrev pub mode_of : ℕ → BlockPlan → Mode
 mode_of at p = mode_of_form at p.next p.form
 
 -- the second call, for a form: the answer, and the array before and after; where there are no counts it is not made
-abbrev pub CountsCalled : List ℕ → Form → CountsAnswer → List ℕ → List ℕ → Type 0
+abbrev pub CountsCalled : List ℕ → Form → Res Span → List ℕ → List ℕ → Type 0
 CountsCalled s (coded.Raw place) a old new = new ≡ old
 CountsCalled s coded.Zero a old new = new ≡ old
 CountsCalled s (coded.Level o) a old new = new ≡ old
 CountsCalled s (coded.Stepped steps) a old new = CountsDecoded (counts_by s steps.counts) a old new
 
 -- and for the answer of the first
-abbrev pub SecondCall : List ℕ → BlockPlanAnswer → CountsAnswer → List ℕ → List ℕ → Type 0
-SecondCall s (inspected.Plan p) a old new = CountsCalled s p.form a old new
-SecondCall s (inspected.Refused r) a old new = new ≡ old
+abbrev pub SecondCall : List ℕ → Res BlockPlan → Res Span → List ℕ → List ℕ → Type 0
+SecondCall s (ok p) a old new = CountsCalled s p.form a old new
+SecondCall s (fail r) a old new = new ≡ old
 
 -- `r.is_ok()`: a plan was given, and its counts, if it has any, are accepted
-abbrev pub counts_taken : CountsAnswer → Form → Bool
+abbrev pub counts_taken : Res Span → Form → Bool
 counts_taken a (coded.Raw place) = true
 counts_taken a coded.Zero = true
 counts_taken a (coded.Level o) = true
-counts_taken a (coded.Stepped steps) = accepts (counts_said a)
+counts_taken a (coded.Stepped steps) = accepts a
 
-abbrev pub mode_taken : CountsAnswer → BlockPlanAnswer → Bool
-mode_taken a (inspected.Plan p) = counts_taken a p.form
-mode_taken a (inspected.Refused r) = false
+abbrev pub mode_taken : Res Span → Res BlockPlan → Bool
+mode_taken a (ok p) = counts_taken a p.form
+mode_taken a (fail r) = false
 
 -- `final(q).n`: what the second call answers; 0 where it is not made
-abbrev pub number_of : CountsAnswer → ℕ
-number_of (counted.Counts n next) = n
-number_of (counted.Refused r) = 0
+abbrev pub number_of : Res Span → ℕ
+number_of (ok read) = read.n
+number_of (fail r) = 0
 
-abbrev pub counts_number : CountsAnswer → Form → ℕ
+abbrev pub counts_number : Res Span → Form → ℕ
 counts_number a (coded.Raw place) = 0
 counts_number a coded.Zero = 0
 counts_number a (coded.Level o) = 0

@@ -5,17 +5,16 @@
 // that is wrong, and the line must say so.
 #![tactic(auto)]
 
-ghost use Rattle.std.specs.Str.{IsAscii};
 ghost use Rattle.std.specs.Prelude.{◌≤◌, ◌<◌, length, IfOk};
 
-use lerc_header::{Header, HeaderAnswer};
-use lerc_image::{FillAnswer, WalkAnswer};
-use lerc_ranges::{Ranges, RangesAnswer};
-use lerc_validity::MaskAnswer;
+use lerc_header::Header;
+use lerc_image::Walked;
+use lerc_ranges::Ranges;
+use lerc_validity::Mask;
 use lerc_words::{Refusal, bytes};
+use std::fmt::InlineText;
 use std::fs::File;
 use std::io;
-use std::io::Read;
 use std::rt::Files;
 
 const BLOBS: usize = 108;
@@ -32,7 +31,7 @@ const MARK: u64 = 0xFEED_FACE_CAFE;
 // a prime above every count of blocks: its multiples reach each number once
 const STRIDE: usize = 10007;
 
-#[derive(Drop)]
+#[derive(Clone, Copy, Default)]
 struct Tally {
     blocks: usize,
     words: usize,
@@ -40,41 +39,48 @@ struct Tally {
 }
 
 impl Tally {
-    fn none() -> Tally {
-        Tally {
-            blocks: 0,
-            words: 0,
-            same: 0,
-        }
-    }
-
     fn plus(self, t: Tally) -> Tally {
         Tally {
-            blocks: add(self.blocks, t.blocks),
-            words: add(self.words, t.words),
-            same: add(self.same, t.same),
+            blocks: self.blocks.saturating_add(t.blocks),
+            words: self.words.saturating_add(t.words),
+            same: self.same.saturating_add(t.same),
         }
     }
 }
 
 // What the fills said: words over all numbers once, and whether the numbers past the last were refused by 11.
-#[derive(Drop)]
+#[derive(Clone, Copy)]
 struct Said {
     words: usize,
     refused: bool,
 }
 
-fn add(a: usize, b: usize) -> usize {
-    a % 1_000_000_000 + b % 1_000_000_000
+// What every fill of a blob is lent.
+#[derive(Clone, Copy)]
+struct Body<'a> {
+    blob: &'a [u8],
+    header: Header,
+    ranges: Ranges,
+    mask: &'a [u8],
 }
 
-fn print(rt: &impl Print, label: &str, v: usize) -> io::Result<()> {
-    print!(rt; "{label}{v}")
+impl Body<'_> {
+    fn fill(&self, list: &[usize], number: usize, image: &mut [u64]) -> Result<usize, Refusal> {
+        lerc_image::fill(
+            self.blob,
+            self.header,
+            self.ranges,
+            self.mask,
+            list,
+            number,
+            image,
+        )
+    }
 }
 
 fn refuse(rt: &impl Print, step: &str, why: Refusal) -> io::Result<Tally> {
-    print(rt, step, why.number as usize)?;
-    Ok(Tally::none())
+    print!(rt; "{step}{}", why.number)?;
+    Ok(Tally::default())
 }
 
 // the two bytes of a field: no blob here is larger
@@ -87,13 +93,12 @@ fn field(expect: &[u8], at: usize) -> usize
 fn size_of(kind: usize) -> usize
     ensures { result ≤ 8 }
 {
-    if kind < 2 {
-        return 1;
+    match kind {
+        0 | 1 => 1,
+        2 | 3 => 2,
+        4..=6 => 4,
+        _ => 8,
     }
-    if kind < 4 {
-        return 2;
-    }
-    if kind < 7 { 4 } else { 8 }
 }
 
 fn times(a: usize, b: usize) -> usize
@@ -124,30 +129,28 @@ fn wanted(expect: &[u8], cell: usize) -> u64
     bytes(expect, 48 + (pixels + 7) / 8 + times(cell, size), size)
 }
 
-// the first cell that does not hold what it must, or ROOM
-fn first_other(expect: &[u8], image: &[u64; ROOM]) -> usize {
-    let mut cell = 0;
-    while cell < ROOM {
-        if image[cell] != wanted(expect, cell) {
-            return cell;
+// the first cell that does not hold what it must
+fn first_other(expect: &[u8], image: &[u64; ROOM]) -> Option<usize> {
+    for (cell, word) in image.iter().enumerate() {
+        if *word != wanted(expect, cell) {
+            return Some(cell);
         }
-        cell += 1;
     }
-    ROOM
+    None
 }
 
-fn is_refused(said: FillAnswer) -> bool {
+fn is_refused(said: Result<usize, Refusal>) -> bool {
     match said {
-        FillAnswer::Filled(_words) => false,
-        FillAnswer::Refused(why) => why.number == 11,
+        Ok(_words) => false,
+        Err(why) => why.number == 11,
     }
 }
 
 // a refusal counts as more words than a blob can have
-fn words_of(said: FillAnswer) -> usize {
+fn words_of(said: Result<usize, Refusal>) -> usize {
     match said {
-        FillAnswer::Filled(words) => words,
-        FillAnswer::Refused(why) => 1_000_000 * why.number as usize,
+        Ok(words) => words,
+        Err(why) => 1_000_000 * why.number as usize,
     }
 }
 
@@ -160,10 +163,7 @@ fn scattered(k: usize, count: usize) -> usize
 
 // The k-th number, between one that came before and two that Esri's count of blocks is to refuse.
 fn fill_step(
-    blob: &[u8],
-    h: Header,
-    ranges: Ranges,
-    mask: &[u8],
+    body: &Body<'_>,
     list: &[usize],
     expect: &[u8],
     k: usize,
@@ -173,160 +173,112 @@ fn fill_step(
     requires { (k < count) × (count ≤ 4096) }
 {
     let past = field(expect, 32);
-    let at = lerc_image::fill(blob, h, ranges, mask, list, past, &mut image[..]);
+    let at = body.fill(list, past, &mut image[..]);
     let number = scattered(k, count);
-    let said = lerc_image::fill(blob, h, ranges, mask, list, number, &mut image[..]);
+    let said = body.fill(list, number, &mut image[..]);
     let again = scattered(k / 2, count);
-    let _same = lerc_image::fill(blob, h, ranges, mask, list, again, &mut image[..]);
-    let later = lerc_image::fill(blob, h, ranges, mask, list, past + 5, &mut image[..]);
+    let _same = body.fill(list, again, &mut image[..]);
+    let later = body.fill(list, past + 5, &mut image[..]);
     Said {
         words: words_of(said),
         refused: is_refused(at) & is_refused(later),
     }
 }
 
-fn fill_all(
-    blob: &[u8],
-    h: Header,
-    ranges: Ranges,
-    mask: &[u8],
-    list: &[usize],
-    expect: &[u8],
-    count: usize,
-    image: &mut [u64],
-) -> Said
+fn fill_all(body: &Body<'_>, list: &[usize], expect: &[u8], count: usize, image: &mut [u64]) -> Said
     requires { count ≤ 4096 }
 {
-    let mut words = 0;
-    let mut refused = true;
-    let mut k = 0;
-    while k < count {
-        let said = fill_step(
-            blob,
-            h,
-            ranges,
-            mask,
-            list,
-            expect,
-            k,
-            count,
-            &mut image[..],
-        );
-        words = add(words, said.words);
-        refused = refused & said.refused;
-        k += 1;
+    let mut all = Said {
+        words: 0,
+        refused: true,
+    };
+    for k in 0..count {
+        let said = fill_step(body, list, expect, k, count, &mut image[..]);
+        all = Said {
+            words: all.words.saturating_add(said.words),
+            refused: all.refused & said.refused,
+        };
     }
-    Said { words, refused }
+    all
 }
 
-// how it ended: 1 if every cell is right and every number past the last was refused
-fn judge(rt: &impl Print, expect: &[u8], image: &[u64; ROOM], refused: bool) -> io::Result<usize> {
+// whether every cell is right and every number past the last was refused
+fn judge(rt: &impl Print, expect: &[u8], image: &[u64; ROOM], refused: bool) -> io::Result<bool> {
     if !refused {
         print!(rt; " a number past the last is not refused")?;
-        return Ok(0);
+        return Ok(false);
     }
-    let cell = first_other(expect, image);
-    if cell < ROOM {
-        print(rt, " differs at cell ", cell)?;
-        return Ok(0);
+    if let Some(cell) = first_other(expect, image) {
+        print!(rt; " differs at cell {cell}")?;
+        return Ok(false);
     }
     print!(rt; " same")?;
-    Ok(1)
+    Ok(true)
 }
 
-fn fill_masked(
-    rt: &impl Print,
-    blob: &[u8],
-    h: Header,
-    ranges: Ranges,
-    mask: &[u8],
-    expect: &[u8],
-) -> io::Result<Tally> {
+fn fill_masked(rt: &impl Print, body: &Body<'_>, expect: &[u8]) -> io::Result<Tally> {
     let mut list = [0usize; BLOCKS];
-    let walked = lerc_image::walk(blob, h, ranges, mask, &mut list[..]);
-    let WalkAnswer::Walked { blocks, end } = walked else {
-        return refuse(rt, " walk refused ", walked.refusal());
+    let walked = lerc_image::walk(
+        body.blob,
+        body.header,
+        body.ranges,
+        body.mask,
+        &mut list[..],
+    );
+    let Walked { blocks, end } = match walked {
+        Ok(walked) => walked,
+        Err(why) => return refuse(rt, " walk refused ", why),
     };
-    print(rt, " blocks ", blocks)?;
-    print(rt, " end ", end)?;
+    print!(rt; " blocks {blocks} end {end}")?;
     if BLOCKS < blocks {
-        return Ok(Tally::none());
+        return Ok(Tally::default());
     }
     let mut image = [MARK; ROOM];
-    let said = fill_all(blob, h, ranges, mask, &list, expect, blocks, &mut image[..]);
-    print(rt, " words ", said.words)?;
+    let said = fill_all(body, &list, expect, blocks, &mut image[..]);
+    let words = said.words;
+    print!(rt; " words {words}")?;
+    let is_same = judge(rt, expect, &image, said.refused)?;
     Ok(Tally {
         blocks,
-        words: said.words,
-        same: judge(rt, expect, &image, said.refused)?,
+        words,
+        same: usize::from(is_same),
     })
 }
 
 fn report(rt: &impl Print, blob: &[u8], expect: &[u8]) -> io::Result<Tally> {
-    let read = lerc_header::read_header(blob);
-    let HeaderAnswer::Read(h) = read else {
-        return refuse(rt, " header refused ", read.refusal());
+    let h = match lerc_header::read_header(blob) {
+        Ok(h) => h,
+        Err(why) => return refuse(rt, " header refused ", why),
     };
     let kept = [0u8; 512];
     let mut spare = [0u8; 512];
     let said = lerc_validity::prepare_mask(blob, h, false, &kept, &mut spare);
-    let MaskAnswer::Spare(_n) = said else {
-        return refuse(rt, " mask refused ", said.refusal());
+    let Ok(Mask::Spare(_n)) = said else {
+        return refuse(rt, " mask refused ", Refusal::of(&said));
     };
     let mask = lerc_validity::mask_in_force(&kept, &spare, said);
-    let got = lerc_ranges::read_ranges(blob, h);
-    let answer = got.answer;
-    let RangesAnswer::Read = answer else {
-        return refuse(rt, " ranges refused ", answer.refusal());
+    let ranges = match lerc_ranges::read_ranges(blob, h) {
+        Ok(ranges) => ranges,
+        Err(why) => return refuse(rt, " ranges refused ", why),
     };
-    fill_masked(rt, blob, h, got.ranges, mask, expect)
-}
-
-// reads until the buffer is full or the input ends; how many bytes came
-fn read_full(from: &mut impl Read, into: &mut [u8]) -> io::Result<usize>
-    ensures { IfOk result (λ n. n ≤ length into.new) }
-{
-    let mut done = 0;
-    while done < into.len() {
-        let n = from.read(&mut into[done..])?;
-        if n == 0 {
-            break;
-        }
-        done += n;
-    }
-    Ok(done)
-}
-
-// three digits, the name of a file
-fn digits(i: usize) -> [u8; 3]
-    ensures { IsAscii result }
-{
-    [
-        48 + (i / 100 % 10) as u8,
-        48 + (i / 10 % 10) as u8,
-        48 + (i % 10) as u8,
-    ]
-}
-
-fn text(name: &[u8]) -> &str
-    requires { IsAscii name.now }
-{
-    match str::from_utf8(name) {
-        Ok(text) => text,
-        Err(_) => unreachable!(),
-    }
+    let body = Body {
+        blob,
+        header: h,
+        ranges,
+        mask,
+    };
+    fill_masked(rt, &body, expect)
 }
 
 // the bytes of a file; none if it is missing
 fn load(rt: &impl Files, i: usize, into: &mut [u8; BYTES]) -> io::Result<usize>
     ensures { IfOk result (λ n. n ≤ length into.new) }
 {
-    let three = digits(i);
-    let name = text(&three);
-    let Ok(mut file) = File::open(rt, name) else {
+    let name = InlineText::<20>::of(format_args!("{i:03}"));
+    let Ok(mut file) = File::open(rt, name.as_str()) else {
         return Ok(0);
     };
-    read_full(&mut file, &mut into[..])
+    lerc_input::read_full(&mut file, &mut into[..])
 }
 
 fn one(rt: &(impl Files + Print), i: usize) -> io::Result<Tally>
@@ -343,15 +295,16 @@ fn one(rt: &(impl Files + Print), i: usize) -> io::Result<Tally>
 }
 
 fn print_total(rt: &impl Print, all: Tally) -> io::Result<()> {
-    print(rt, "blobs ", BLOBS)?;
-    print(rt, " blocks ", all.blocks)?;
-    print(rt, " words ", all.words)?;
-    print(rt, " same ", all.same)?;
-    println!(rt)
+    let Tally {
+        blocks,
+        words,
+        same,
+    } = all;
+    println!(rt; "blobs {BLOBS} blocks {blocks} words {words} same {same}")
 }
 
 fn main(rt: HostRuntime) -> io::Result<()> {
-    let mut all = Tally::none();
+    let mut all = Tally::default();
     for i in 0..BLOBS {
         all = all.plus(one(&rt, i)?);
     }

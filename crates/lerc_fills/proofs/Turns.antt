@@ -14,9 +14,8 @@ use Rattle.lerc_header.specs.declared.Header.{Header}
 use Rattle.lerc_header.specs.Header.{shape_of}
 use Rattle.lerc_ranges.specs.declared.Ranges.{Ranges}
 use Rattle.lerc_block.specs.Block.{Block}
-use Rattle.lerc_image.specs.declared.FillAnswer.{FillAnswer}
 use Rattle.lerc_image.specs.Paint.{scattered}
-use Rattle.lerc_image.specs.Fill.{fill_says, fill_said, fill_count, fill_image, Filled}
+use Rattle.lerc_image.specs.Fill.{fill_says, fill_count, fill_image, Filled}
 use Rattle.lerc_image.proofs.Painting.{length-painted}
 use Rattle.lerc_fills.specs.Each.{one, filled_of, fill_each, EachFilled}
 
@@ -40,7 +39,7 @@ module _ (b : List ℕ) (h : Header) (r : Ranges) (m list : List ℕ) where
   length-each (n ∷ ns) image = length-each ns (fill_image b h r m list n image) ∙ length-fill n image
 
   -- a filled block is counted
-  pub one-is : (n : ℕ) (image : List ℕ) {a : FillAnswer} {new : List ℕ} → Filled b h r m list n a image new → one b h r m list (length image) n ≡ cond (accepts (fill_said a)) 1 0
+  pub one-is : (n : ℕ) (image : List ℕ) {a : Res ℕ} {new : List ℕ} → Filled b h r m list n a image new → one b h r m list (length image) n ≡ cond (accepts a) 1 0
   one-is n image {a} f = sym (ap (λ (x : Res ℕ). cond (accepts x) 1 0) f.says ∙ go (fill_says b h r m list n (length image)))
     where
       go : (x : Res Block) → ◌≡◌ {A = ℕ} (cond (accepts (x >>= fill_count h m n)) 1 0) (cond (accepts x) 1 0)
@@ -67,12 +66,12 @@ module _ (b : List ℕ) (h : Header) (r : Ranges) (m list : List ℕ) where
   turn-none ns image = record { few = omega arith; least = omega arith; long = refl; count = rw (zero-add); rest = refl }
 
   module _ {ns old image : List ℕ} {k filled : ℕ} (t : Turn ns old image k filled) where
-    pub turn-next : {a : FillAnswer} {new : List ℕ} {v : ℕ} → k < length ns → Filled b h r m list (get_or ns k 0) a image new → v ≡ cond (accepts (fill_said a)) 1 0
+    pub turn-next : {a : Res ℕ} {new : List ℕ} {v : ℕ} → k < length ns → Filled b h r m list (get_or ns k 0) a image new → v ≡ cond (accepts a) 1 0
         → Turn ns old new (k + 1) (filled + v)
     turn-next {a} {new} {v} l f e =
         let cons = drop-cons ns k 0 l in
         let o : one b h r m list (length old) (get_or ns k 0) ≡ v = rw (← t.long) (one-is (get_or ns k 0) image f ∙ sym e) in
-        let p = one-le (accepts (fill_said a)) e in
+        let p = one-le (accepts a) e in
         let q : filled_of b h r m list (length old) (drop k ns) ≡ v + filled_of b h r m list (length old) (drop (suc k) ns) =
         rw (cons, filled_more, o) in
         record {

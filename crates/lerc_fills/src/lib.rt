@@ -3,20 +3,19 @@
 
 ghost use Rattle.std.specs.Prelude.{◌≡◌, cond};
 ghost use Rattle.lerc_words.specs.Res.{accepts};
-ghost use Rattle.lerc_image.specs.Fill.{fill_said};
 ghost use Rattle.lerc_fills.specs.Each.{EachFilled};
 
 use lerc_header::Header;
-use lerc_image::FillAnswer;
 use lerc_ranges::Ranges;
+use lerc_words::Refusal;
 
 // One for a block that was filled.
-fn one(answer: FillAnswer) -> usize
-    ensures { result ≡ cond (accepts (fill_said answer)) 1 0 }
+fn one(answer: Result<usize, Refusal>) -> usize
+    ensures { result ≡ cond (accepts answer) 1 0 }
 {
     match answer {
-        FillAnswer::Filled(_words) => 1,
-        FillAnswer::Refused(_why) => 0,
+        Ok(_words) => 1,
+        Err(_why) => 0,
     }
 }
 
@@ -32,13 +31,10 @@ pub fn fill_each(
 ) -> usize
     ensures { EachFilled blob.now h ranges mask.now list.now numbers.now result image.old image.new }
 {
-    let mut k: usize = 0;
     let mut filled: usize = 0;
-    while k < numbers.len() {
-        let number = numbers[k];
-        let answer = lerc_image::fill(blob, h, ranges, mask, list, number, &mut image[..]);
+    for number in numbers {
+        let answer = lerc_image::fill(blob, h, ranges, mask, list, *number, &mut image[..]);
         filled += one(answer);
-        k += 1;
     }
     filled
 }

@@ -1,19 +1,13 @@
 -- The header and its rules.
 -- Assumes nothing.
 use Rattle.std.specs.Prelude.{ℕ, ◌+◌, ◌-◌, ◌*◌, ◌^◌, Bool, not, ◌&&◌, List, length, take, drop, leb, ltb, eqb}
-use Rattle.lerc_words.specs.declared.Refusal.{Refusal}
-use Rattle.lerc_words.specs.Res.{Res, ok, fail, ◌>>=◌, refuse, require, accepts, little}
+use Rattle.lerc_words.specs.Res.{Res, ok, ◌>>=◌, require, accepts, little}
 use Rattle.lerc_checksum.specs.Checksum.{checksum}
 use Rattle.lerc_numeric.specs.Numeric.{negative, finite, mag, less}
 use Rattle.lerc_header.specs.declared.Header.{Header}
 use Rattle.lerc_header.specs.declared.Shape.{Shape}
 use Rattle.lerc_header.specs.declared.Extent.{Extent}
-use Rattle.lerc_header.specs.declared.HeaderAnswer.{HeaderAnswer}
-use Rattle.lerc_header.specs.declared.HeaderAnswer.TheVariants as header
-use Rattle.lerc_header.specs.declared.HeldAnswer.{HeldAnswer}
-use Rattle.lerc_header.specs.declared.HeldAnswer.TheVariants as held-answer
-use Rattle.lerc_header.specs.declared.OpenAnswer.{OpenAnswer}
-use Rattle.lerc_header.specs.declared.OpenAnswer.TheVariants as open-answer
+use Rattle.lerc_header.specs.declared.Opened.{Opened as Found}
 use Rattle.lerc_header.specs.Limits.{sideways, depth_limit, side_limit, cell_limit, size_limit}
 use Rattle.lerc_header.specs.Shape.{pixels, cells, mask_length, block_count}
 
@@ -113,37 +107,10 @@ unfoldable pub is_tile : List ℕ → ℕ → ℕ → Bool
 is_tile b kind depth = accepts (header_says b) && eqb kind (header_of b).kind && eqb depth (header_of b).depth && eqb (length b) (header_of b).size
 
 -- a header with the sizes that follow from it
-pub record Opened : Type 0 where
-  pub header : Header
-  pub extent : Extent
+abbrev pub Opened : Type 0
+Opened = Found
 
 unfoldable pub open_says : List ℕ → Res Opened
 open_says b = do
   h ← header_says b
   ok (record { header = h; extent = extent_of h })
-
--- ---- answers
-
-abbrev pub header_said : HeaderAnswer → Res Header
-header_said (header.Read h) = ok h
-header_said (header.Refused r) = fail r
-
-abbrev pub refusal_of_header : HeaderAnswer → Refusal
-refusal_of_header (header.Read h) = refuse 0
-refusal_of_header (header.Refused r) = r
-
-abbrev pub held_said : HeldAnswer → Res Extent
-held_said (held-answer.Held e) = ok e
-held_said (held-answer.Refused r) = fail r
-
-abbrev pub refusal_of_held : HeldAnswer → Refusal
-refusal_of_held (held-answer.Held e) = refuse 0
-refusal_of_held (held-answer.Refused r) = r
-
-abbrev pub open_said : OpenAnswer → Res Opened
-open_said (open-answer.Open h e) = ok (record { header = h; extent = e })
-open_said (open-answer.Refused r) = fail r
-
-abbrev pub refusal_of_open : OpenAnswer → Refusal
-refusal_of_open (open-answer.Open h e) = refuse 0
-refusal_of_open (open-answer.Refused r) = r

@@ -34,7 +34,7 @@ const SIGN: u64 = 0x8000_0000_0000_0000;
 
 const INFINITE: u64 = 0x7FF0_0000_0000_0000;
 
-#[derive(Clone, Copy)]
+#[derive(Clone, Copy, Debug, PartialEq, Eq)]
 pub struct Header {
     pub rows: u32,
     pub columns: u32,
@@ -50,7 +50,7 @@ pub struct Header {
 }
 
 // All that the geometry of an image depends on.
-#[derive(Clone, Copy)]
+#[derive(Clone, Copy, Debug, PartialEq, Eq)]
 pub struct Shape {
     pub rows: usize,
     pub columns: usize,
@@ -59,7 +59,7 @@ pub struct Shape {
 }
 
 // What follows from a header that keeps the rules.
-#[derive(Clone, Copy)]
+#[derive(Clone, Copy, Debug, PartialEq, Eq)]
 pub struct Extent {
     pub shape: Shape,
     pub pixels: usize,
@@ -70,61 +70,11 @@ pub struct Extent {
     pub size: usize,
 }
 
-#[derive(Clone, Copy)]
-pub enum HeaderAnswer {
-    Read(Header),
-    Refused(Refusal),
-}
-
-#[derive(Clone, Copy)]
-pub enum HeldAnswer {
-    Held(Extent),
-    Refused(Refusal),
-}
-
-#[derive(Clone, Copy)]
-pub enum OpenAnswer {
-    Open { header: Header, extent: Extent },
-    Refused(Refusal),
-}
-
-impl HeaderAnswer {
-    // why it was refused; number 0 where it was not
-    pub fn refusal(self) -> Refusal
-        ensures { result ≡ Rules.refusal_of_header self }
-    {
-        match self {
-            HeaderAnswer::Read(_h) => Refusal { number: 0, at: 0 },
-            HeaderAnswer::Refused(why) => why,
-        }
-    }
-}
-
-impl HeldAnswer {
-    // why it was refused; number 0 where it was not
-    pub fn refusal(self) -> Refusal
-        ensures { result ≡ Rules.refusal_of_held self }
-    {
-        match self {
-            HeldAnswer::Held(_e) => Refusal { number: 0, at: 0 },
-            HeldAnswer::Refused(why) => why,
-        }
-    }
-}
-
-impl OpenAnswer {
-    // why it was refused; number 0 where it was not
-    pub fn refusal(self) -> Refusal
-        ensures { result ≡ Rules.refusal_of_open self }
-    {
-        match self {
-            OpenAnswer::Open {
-                header: _h,
-                extent: _e,
-            } => Refusal { number: 0, at: 0 },
-            OpenAnswer::Refused(why) => why,
-        }
-    }
+// A header, and what follows from it.
+#[derive(Clone, Copy, Debug, PartialEq, Eq)]
+pub struct Opened {
+    pub header: Header,
+    pub extent: Extent,
 }
 
 // sign clear and below 2^1023, the binary64 0x7FE0_0000_0000_0000; -0.0 has the sign
@@ -221,19 +171,19 @@ fn measure(h: Header) -> Extent
 
 impl Header {
     // the sizes that follow, where the header keeps the rules and a slice of `len` bytes holds its blob
-    pub fn held(self, len: usize) -> HeldAnswer
-        ensures { Rules.held_said result ≡ Rules.held self len }
+    pub fn held(self, len: usize) -> Result<Extent, Refusal>
+        ensures { result ≡ Rules.held self len }
     {
         if !fields_right(self) {
-            return HeldAnswer::Refused(Refusal { number: 3, at: 0 });
+            return Err(Refusal { number: 3, at: 0 });
         }
         if !within_ceilings(self) {
-            return HeldAnswer::Refused(Refusal { number: 4, at: 0 });
+            return Err(Refusal { number: 4, at: 0 });
         }
         if len < self.size as usize {
-            return HeldAnswer::Refused(Refusal { number: 1, at: 0 });
+            return Err(Refusal { number: 1, at: 0 });
         }
-        HeldAnswer::Held(measure(self))
+        Ok(measure(self))
     }
 }
 
@@ -295,35 +245,29 @@ fn checksum_right(b: &[u8], size: usize) -> bool
 }
 
 // The header of a blob and the sizes that follow from it; what was accepted here need not be held to the rules again.
-pub fn open_blob(blob: &[u8]) -> OpenAnswer
-    ensures { Rules.open_said result ≡ Rules.open_says blob.now }
+pub fn open_blob(blob: &[u8]) -> Result<Opened, Refusal>
+    ensures { result ≡ Rules.open_says blob.now }
 {
     if blob.len() < HEADER {
-        return OpenAnswer::Refused(Refusal { number: 1, at: 0 });
+        return Err(Refusal { number: 1, at: 0 });
     }
     if !key_right(blob) {
-        return OpenAnswer::Refused(Refusal { number: 2, at: 0 });
+        return Err(Refusal { number: 2, at: 0 });
     }
     let header = fields(blob);
-    let answer = header.held(blob.len());
-    let HeldAnswer::Held(extent) = answer else {
-        return OpenAnswer::Refused(answer.refusal());
-    };
+    let extent = header.held(blob.len())?;
     if !checksum_right(blob, extent.size) {
-        return OpenAnswer::Refused(Refusal { number: 13, at: 0 });
+        return Err(Refusal { number: 13, at: 0 });
     }
-    OpenAnswer::Open { header, extent }
+    Ok(Opened { header, extent })
 }
 
 // the header alone
-pub fn read_header(blob: &[u8]) -> HeaderAnswer
-    ensures { Rules.header_said result ≡ Rules.header_says blob.now }
+pub fn read_header(blob: &[u8]) -> Result<Header, Refusal>
+    ensures { result ≡ Rules.header_says blob.now }
 {
-    let opened = open_blob(blob);
-    let OpenAnswer::Open { header, extent: _e } = opened else {
-        return HeaderAnswer::Refused(opened.refusal());
-    };
-    HeaderAnswer::Read(header)
+    let opened = open_blob(blob)?;
+    Ok(opened.header)
 }
 
 // Whether the header of a blob is accepted, says this kind and depth, and declares all of the bytes.

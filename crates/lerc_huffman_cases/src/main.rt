@@ -6,11 +6,12 @@
 // that are wrong, and their lines must say so.
 #![tactic(auto)]
 
-ghost use Rattle.std.specs.Prelude.{◌≤◌, ◌<◌, length, IfOk};
+ghost use Rattle.std.specs.Prelude.{◌≤◌, ◌<◌};
 
-use lerc::{PublishAnswer, ReadAnswer, StageAnswer};
-use lerc_header::Header;
-use lerc_image::{FillAnswer, WalkAnswer};
+use lerc::Staged;
+use lerc_fields::{fields, quad};
+use lerc_header::{DEPTHS, Header};
+use lerc_input::{read_full, read_next};
 use lerc_ranges::Ranges;
 use lerc_words::{Refusal, bytes, peek};
 use std::fs::File;
@@ -32,8 +33,6 @@ const BLOCKS: usize = 4200;
 
 const CELLS: usize = 262200;
 
-const DEPTHS: usize = 64;
-
 const KEPT: u8 = 0xA5;
 
 const SPARE: u8 = 0x3C;
@@ -45,16 +44,7 @@ const MARK: u64 = 0xFEED_FACE_CAFE;
 // a prime below 2^32
 const PRIME: u64 = 4294967291;
 
-// the operations; STAGE goes with publish
-const STAGE: usize = 0;
-
-const READ: usize = 1;
-
-const WALK: usize = 2;
-
-const FILL: usize = 3;
-
-#[derive(Clone, Copy)]
+#[derive(Clone, Copy, Default)]
 struct Tally {
     cases: usize,
     same: usize,
@@ -63,27 +53,39 @@ struct Tally {
 impl Tally {
     fn plus(self, t: Tally) -> Tally {
         Tally {
-            cases: add(self.cases, t.cases),
-            same: add(self.same, t.same),
+            cases: self.cases.saturating_add(t.cases),
+            same: self.same.saturating_add(t.same),
         }
     }
 }
 
-// an answer: number and place of a refusal, or 0 twice and what the operation reports
 #[derive(Clone, Copy)]
-struct Said {
-    number: usize,
-    place: usize,
-    blocks: usize,
-    end: usize,
-    words: usize,
+enum Operation {
+    // with publish
+    Stage,
+    Read,
+    Walk,
+    Fill,
 }
 
-impl Said {
-    fn is(self, other: Said) -> bool {
-        let why = (self.number == other.number) & (self.place == other.place);
-        let what = (self.blocks == other.blocks) & (self.end == other.end);
-        why & what & (self.words == other.words)
+// An answer: a refusal, or what the operation reports.
+#[derive(Clone, Copy, PartialEq, Eq)]
+enum Said {
+    Refused {
+        number: u32,
+        at: usize,
+    },
+    Accepted {
+        blocks: usize,
+        end: usize,
+        words: usize,
+    },
+}
+
+fn refused(why: Refusal) -> Said {
+    Said::Refused {
+        number: why.number,
+        at: why.at,
     }
 }
 
@@ -105,8 +107,8 @@ struct Case {
     cells: usize,
     depth: usize,
     body: usize,
-    number: usize,
-    place: usize,
+    // the refusal that is wanted, if one is
+    refusal: Option<Refusal>,
     blocks: usize,
     end: usize,
     words: usize,
@@ -132,60 +134,54 @@ impl Case {
 
     // where the parts of the expectation begin
     fn spare_at(self) -> usize {
-        add(self.before, self.kept)
+        self.before.saturating_add(self.kept)
     }
 
     fn starts_at(self) -> usize {
-        add(self.spare_at(), self.spare)
+        self.spare_at().saturating_add(self.spare)
     }
 
     fn words_at(self) -> usize {
-        add(self.starts_at(), quads(self.starts))
+        self.starts_at()
+            .saturating_add(self.starts.saturating_mul(4))
     }
 
     // the answer that is wanted; a whole read does not report words
-    fn wanted(self, operation: usize) -> Said {
-        Said {
-            number: self.number,
-            place: self.place,
+    fn wanted(self, operation: Operation) -> Said {
+        if let Some(why) = self.refusal {
+            return refused(why);
+        }
+        Said::Accepted {
             blocks: self.blocks,
             end: self.end,
-            words: if operation == READ { 0 } else { self.words },
+            words: match operation {
+                Operation::Read => 0,
+                _ => self.words,
+            },
         }
     }
 }
 
-// numbers here are far below the bounds
-fn add(a: usize, b: usize) -> usize {
-    a % 1_000_000_000 + b % 1_000_000_000
-}
-
-// the bytes of k entries of 4 bytes
-fn quads(k: usize) -> usize {
-    4 * (k % 1_000_000_000)
-}
-
+// `min` by itself leaves open that the image has room for so many (`slice_bounds-call_lent-end-5` of `run`)
 fn lesser(a: usize, b: usize) -> usize
     ensures { (result ≤ a) × (result ≤ b) }
 {
-    if a < b { a } else { b }
-}
-
-fn print_text(rt: &impl Print, text: &str) -> io::Result<()> {
-    print!(rt; "{text}")
-}
-
-fn print(rt: &impl Print, label: &str, v: usize) -> io::Result<()> {
-    print!(rt; "{label}{v}")
-}
-
-// the four bytes at `at`, zeros past the end
-fn quad(s: &[u8], at: usize) -> u32 {
-    (peek(s, at) % 0x1_0000_0000) as u32
+    a.min(b)
 }
 
 fn field(head: &[u8; HEAD], at: usize) -> usize {
     quad(head, at) as usize
+}
+
+// the number of a refusal is 0 where none is wanted
+fn refusal_in(head: &[u8; HEAD]) -> Option<Refusal> {
+    match quad(head, 56) {
+        0 => None,
+        number => Some(Refusal {
+            number,
+            at: field(head, 60),
+        }),
+    }
 }
 
 fn case_of(head: &[u8; HEAD]) -> Case {
@@ -204,29 +200,11 @@ fn case_of(head: &[u8; HEAD]) -> Case {
         cells: field(head, 44),
         depth: field(head, 48),
         body: field(head, 52),
-        number: field(head, 56),
-        place: field(head, 60),
+        refusal: refusal_in(head),
         blocks: field(head, 64),
         end: field(head, 68),
         words: field(head, 72),
         sum: field(head, 76),
-    }
-}
-
-// the fields as they stand
-fn fields(blob: &[u8]) -> Header {
-    Header {
-        rows: quad(blob, 14),
-        columns: quad(blob, 18),
-        depth: quad(blob, 22),
-        valid: quad(blob, 26),
-        side: quad(blob, 30),
-        size: quad(blob, 34),
-        kind: quad(blob, 38),
-        error: peek(blob, 42),
-        min: peek(blob, 50),
-        max: peek(blob, 58),
-        mask: quad(blob, 66),
     }
 }
 
@@ -245,14 +223,14 @@ fn wanted_byte(expect: &[u8], from: usize, n: usize, k: usize, mark: u8) -> u8 {
     if n <= k {
         return mark;
     }
-    (peek(expect, add(from, k)) % 256) as u8
+    (peek(expect, from.saturating_add(k)) % 256) as u8
 }
 
 fn wanted_start(expect: &[u8], c: Case, k: usize) -> usize {
     if c.starts <= k {
         return NOWHERE;
     }
-    (peek(expect, add(c.starts_at(), quads(k))) % 4294967296) as usize
+    quad(expect, c.starts_at().saturating_add(k.saturating_mul(4))) as usize
 }
 
 // the byte where the cell's pixel is valid, elsewhere the mark
@@ -264,45 +242,30 @@ fn wanted_word(expect: &[u8], c: Case, cell: usize) -> u64 {
         return MARK;
     }
     let pixel = cell / c.depth;
-    let mask = peek(expect, add(c.before, pixel / 8)) % 256;
+    let mask = peek(expect, c.before.saturating_add(pixel / 8)) % 256;
     if (mask >> (7 - pixel % 8)) % 2 == 0 {
         return MARK;
     }
-    bytes(expect, add(c.words_at(), cell), 1)
+    bytes(expect, c.words_at().saturating_add(cell), 1)
 }
 
-// the first byte that is not as wanted, or how many there are
-fn other_byte(have: &[u8], expect: &[u8], from: usize, n: usize, mark: u8) -> usize {
-    let mut k = 0;
-    while k < have.len() {
-        if have[k] != wanted_byte(expect, from, n, k, mark) {
-            return k;
-        }
-        k += 1;
-    }
-    have.len()
+// the first byte that is not as wanted
+fn other_byte(have: &[u8], expect: &[u8], from: usize, n: usize, mark: u8) -> Option<usize> {
+    have.iter()
+        .enumerate()
+        .position(|(k, b)| *b != wanted_byte(expect, from, n, k, mark))
 }
 
-fn other_start(have: &[usize], expect: &[u8], c: Case) -> usize {
-    let mut k = 0;
-    while k < have.len() {
-        if have[k] != wanted_start(expect, c, k) {
-            return k;
-        }
-        k += 1;
-    }
-    have.len()
+fn other_start(have: &[usize], expect: &[u8], c: Case) -> Option<usize> {
+    have.iter()
+        .enumerate()
+        .position(|(k, start)| *start != wanted_start(expect, c, k))
 }
 
-fn other_word(have: &[u64], expect: &[u8], c: Case) -> usize {
-    let mut k = 0;
-    while k < have.len() {
-        if have[k] != wanted_word(expect, c, k) {
-            return k;
-        }
-        k += 1;
-    }
-    have.len()
+fn other_word(have: &[u64], expect: &[u8], c: Case) -> Option<usize> {
+    have.iter()
+        .enumerate()
+        .position(|(k, word)| *word != wanted_word(expect, c, k))
 }
 
 fn with_piece(sum: u64, piece: u64) -> u64
@@ -325,21 +288,18 @@ fn with_word(sum: u64, w: u64) -> u64
 // of a large image, whose words are not stored
 fn sum_of(have: &[u64]) -> u64 {
     let mut sum = 0;
-    let mut k = 0;
-    while k < have.len() {
-        sum = with_word(sum, have[k]);
-        k += 1;
+    for word in have {
+        sum = with_word(sum, *word);
     }
     sum
 }
 
 // whether all entries are as wanted; if not, the first that differs is told
-fn told(rt: &impl Print, label: &str, other: usize, n: usize) -> io::Result<bool> {
-    if other < n {
-        print(rt, label, other)?;
-        return Ok(false);
+fn told(rt: &impl Print, label: &str, other: Option<usize>) -> io::Result<bool> {
+    if let Some(k) = other {
+        print!(rt; "{label}{k}")?;
     }
-    Ok(true)
+    Ok(other.is_none())
 }
 
 fn is_same_image(rt: &impl Print, have: &[u64], expect: &[u8], c: Case) -> io::Result<bool> {
@@ -350,121 +310,84 @@ fn is_same_image(rt: &impl Print, have: &[u64], expect: &[u8], c: Case) -> io::R
         }
         return Ok(is_same);
     }
-    told(
-        rt,
-        " differs at cell ",
-        other_word(have, expect, c),
-        have.len(),
-    )
+    told(rt, " differs at cell ", other_word(have, expect, c))
 }
 
-fn print_said(rt: &impl Print, said: Said, operation: usize) -> io::Result<()> {
-    if 0 < said.number {
-        print(rt, " refused ", said.number)?;
-        return print(rt, " at ", said.place);
+fn print_said(rt: &impl Print, said: Said, operation: Operation) -> io::Result<()> {
+    match said {
+        Said::Refused { number, at } => print!(rt; " refused {number} at {at}"),
+        Said::Accepted { blocks, end, words } => match operation {
+            Operation::Fill => print!(rt; " words {words}"),
+            Operation::Stage => print!(rt; " blocks {blocks} end {end} words {words}"),
+            _ => print!(rt; " blocks {blocks} end {end}"),
+        },
     }
-    if operation == FILL {
-        return print(rt, " words ", said.words);
-    }
-    print(rt, " blocks ", said.blocks)?;
-    print(rt, " end ", said.end)?;
-    if operation == STAGE {
-        print(rt, " words ", said.words)?;
-    }
-    Ok(())
 }
 
-fn print_name(rt: &impl Print, operation: usize) -> io::Result<()> {
+fn name_of(operation: Operation) -> &'static str {
     match operation {
-        0 => print_text(rt, " staged"),
-        1 => print_text(rt, " read"),
-        2 => print_text(rt, " walked"),
-        _ => print_text(rt, " filled"),
+        Operation::Stage => "staged",
+        Operation::Read => "read",
+        Operation::Walk => "walked",
+        Operation::Fill => "filled",
     }
 }
 
-// 1 if nothing differs
+// whether nothing differs
 fn judge(
     rt: &impl Print,
     c: Case,
-    operation: usize,
+    operation: Operation,
     said: Said,
     expect: &[u8],
     kept: &[u8],
     spare: &[u8],
     list: &[usize],
     image: &[u64],
-) -> io::Result<usize> {
-    print_name(rt, operation)?;
+) -> io::Result<bool> {
+    print!(rt; " {}", name_of(operation))?;
     print_said(rt, said, operation)?;
     let wanted = c.wanted(operation);
-    let answered = said.is(wanted);
+    let answered = said == wanted;
     if !answered {
-        print_text(rt, " and not")?;
+        print!(rt; " and not")?;
         print_said(rt, wanted, operation)?;
     }
-    let a = other_byte(kept, expect, c.before, c.kept, KEPT);
-    let b = other_byte(spare, expect, c.spare_at(), c.spare, SPARE);
-    let masks = told(rt, " differs at kept ", a, kept.len())?
-        & told(rt, " differs at spare ", b, spare.len())?;
-    let starts = told(
-        rt,
-        " differs at start ",
-        other_start(list, expect, c),
-        list.len(),
-    )?;
+    let kept = other_byte(kept, expect, c.before, c.kept, KEPT);
+    let spare = other_byte(spare, expect, c.spare_at(), c.spare, SPARE);
+    let masks = told(rt, " differs at kept ", kept)? & told(rt, " differs at spare ", spare)?;
+    let starts = told(rt, " differs at start ", other_start(list, expect, c))?;
     let words = is_same_image(rt, image, expect, c)?;
-    if answered & masks & starts & words {
+    let is_same = answered & masks & starts & words;
+    if is_same {
         print!(rt; " same")?;
-        return Ok(1);
     }
-    Ok(0)
+    Ok(is_same)
 }
 
 // the case's bytes, then marks
 fn mark(kept: &mut [u8], expect: &[u8], n: usize) {
-    let room = kept.len();
-    let mut k = 0;
-    while k < room {
-        kept[k] = wanted_byte(expect, 0, n, k, KEPT);
-        k += 1;
-    }
-}
-
-fn refused(why: Refusal) -> Said {
-    Said {
-        number: why.number as usize,
-        place: why.at,
-        blocks: 0,
-        end: 0,
-        words: 0,
-    }
-}
-
-fn accepted(blocks: usize, end: usize, words: usize) -> Said {
-    Said {
-        number: 0,
-        place: 0,
-        blocks,
-        end,
-        words,
+    for (k, b) in kept.iter_mut().enumerate() {
+        *b = wanted_byte(expect, 0, n, k, KEPT);
     }
 }
 
 // What was staged, published, with both answers as one. First comes an answer that staging did not give, which must be 3.
+// The slices stay apart through the calls: to lend fields of one record behind a `&mut` side by side gets no proof.
 fn finish(
     blob: &[u8],
     reuse: bool,
-    given: StageAnswer,
+    given: Result<Staged, Refusal>,
     kept: &mut [u8],
     spare: &[u8],
     list: &[usize],
     image: &mut [u64],
 ) -> Said {
-    let StageAnswer::Staged(found) = given else {
-        return refused(given.refusal());
+    let found = match given {
+        Ok(found) => found,
+        Err(why) => return refused(why),
     };
-    let none = StageAnswer::Refused(Refusal { number: 0, at: 0 });
+    let none = Err(Refusal { number: 0, at: 0 });
     let forged = lerc::publish(
         blob,
         reuse,
@@ -474,24 +397,19 @@ fn finish(
         list,
         &mut image[..],
     );
-    let why = forged.refusal();
+    let why = Refusal::of(&forged);
     let is_refused = (why.number == 3) & (why.at == 0);
     if !is_refused {
         return refused(why);
     }
-    let done = lerc::publish(
-        blob,
-        reuse,
-        given,
-        &mut kept[..],
-        spare,
-        list,
-        &mut image[..],
-    );
-    let PublishAnswer::Published { end, words } = done else {
-        return refused(done.refusal());
-    };
-    accepted(found.blocks, end, words)
+    match lerc::publish(blob, reuse, given, kept, spare, list, image) {
+        Ok(done) => Said::Accepted {
+            blocks: found.blocks,
+            end: done.end,
+            words: done.words,
+        },
+        Err(why) => refused(why),
+    }
 }
 
 fn stage(
@@ -503,23 +421,8 @@ fn stage(
     image: &mut [u64],
 ) -> Said {
     let reuse = c.reuses();
-    let given = lerc::stage(
-        blob,
-        reuse,
-        &kept[..],
-        &mut spare[..],
-        &mut list[..],
-        &image[..],
-    );
-    finish(
-        blob,
-        reuse,
-        given,
-        &mut kept[..],
-        &spare[..],
-        &list[..],
-        &mut image[..],
-    )
+    let given = lerc::stage(blob, reuse, kept, &mut spare[..], &mut list[..], image);
+    finish(blob, reuse, given, kept, spare, list, image)
 }
 
 fn read(
@@ -530,46 +433,44 @@ fn read(
     list: &mut [usize],
     image: &mut [u64],
 ) -> Said {
-    let answer = lerc::read(
-        blob,
-        c.reuses(),
-        &mut kept[..],
-        &mut spare[..],
-        &mut list[..],
-        &mut image[..],
-    );
-    match answer {
-        ReadAnswer::Whole {
-            header: _h,
-            blocks,
-            end,
-        } => accepted(blocks, end, 0),
-        ReadAnswer::Refused(why) => refused(why),
+    match lerc::read(blob, c.reuses(), kept, spare, list, image) {
+        Ok(found) => Said::Accepted {
+            blocks: found.blocks,
+            end: found.end,
+            words: 0,
+        },
+        Err(why) => refused(why),
     }
 }
 
 fn walk(c: Case, blob: &[u8], mask: &[u8], list: &mut [usize]) -> Said {
     let h = fields(blob);
-    let answer = lerc_image::walk(blob, h, ranges(c, h), mask, &mut list[..]);
-    match answer {
-        WalkAnswer::Walked { blocks, end } => accepted(blocks, end, 0),
-        WalkAnswer::Refused(why) => refused(why),
+    match lerc_image::walk(blob, h, ranges(c, h), mask, list) {
+        Ok(found) => Said::Accepted {
+            blocks: found.blocks,
+            end: found.end,
+            words: 0,
+        },
+        Err(why) => refused(why),
     }
 }
 
 // block 0
 fn fill(c: Case, blob: &[u8], mask: &[u8], list: &[usize], image: &mut [u64]) -> Said {
     let h = fields(blob);
-    let answer = lerc_image::fill(blob, h, ranges(c, h), mask, list, 0, &mut image[..]);
-    match answer {
-        FillAnswer::Filled(words) => accepted(0, 0, words),
-        FillAnswer::Refused(why) => refused(why),
+    match lerc_image::fill(blob, h, ranges(c, h), mask, list, 0, image) {
+        Ok(words) => Said::Accepted {
+            blocks: 0,
+            end: 0,
+            words,
+        },
+        Err(why) => refused(why),
     }
 }
 
 fn call(
     c: Case,
-    operation: usize,
+    operation: Operation,
     blob: &[u8],
     kept: &mut [u8],
     spare: &mut [u8],
@@ -577,38 +478,24 @@ fn call(
     image: &mut [u64],
 ) -> Said {
     match operation {
-        0 => stage(
-            c,
-            blob,
-            &mut kept[..],
-            &mut spare[..],
-            &mut list[..],
-            &mut image[..],
-        ),
-        1 => read(
-            c,
-            blob,
-            &mut kept[..],
-            &mut spare[..],
-            &mut list[..],
-            &mut image[..],
-        ),
-        2 => walk(c, blob, &kept[..], &mut list[..]),
-        _ => fill(c, blob, &kept[..], &list[..], &mut image[..]),
+        Operation::Stage => stage(c, blob, kept, spare, list, image),
+        Operation::Read => read(c, blob, kept, spare, list, image),
+        Operation::Walk => walk(c, blob, kept, list),
+        Operation::Fill => fill(c, blob, kept, list, image),
     }
 }
 
 fn call_lent(
     rt: &impl Print,
     c: Case,
-    operation: usize,
+    operation: Operation,
     blob: &[u8],
     expect: &[u8],
     kept: &mut [u8],
     spare: &mut [u8],
     list: &mut [usize],
     image: &mut [u64],
-) -> io::Result<usize> {
+) -> io::Result<bool> {
     mark(&mut kept[..], expect, c.before);
     let said = call(
         c,
@@ -619,23 +506,13 @@ fn call_lent(
         &mut list[..],
         &mut image[..],
     );
-    judge(
-        rt,
-        c,
-        operation,
-        said,
-        expect,
-        &kept[..],
-        &spare[..],
-        &list[..],
-        &image[..],
-    )
+    judge(rt, c, operation, said, expect, kept, spare, list, image)
 }
 
 // the list before the call: a fill is given the start of block 0
-fn starts(c: Case, operation: usize, expect: &[u8]) -> [usize; BLOCKS] {
+fn starts(c: Case, operation: Operation, expect: &[u8]) -> [usize; BLOCKS] {
     let mut out = [NOWHERE; BLOCKS];
-    if operation == FILL {
+    if let Operation::Fill = operation {
         out[0] = wanted_start(expect, c, 0);
     }
     out
@@ -644,17 +521,17 @@ fn starts(c: Case, operation: usize, expect: &[u8]) -> [usize; BLOCKS] {
 fn run(
     rt: &impl Print,
     c: Case,
-    operation: usize,
+    operation: Operation,
     blob: &[u8],
     expect: &[u8],
-) -> io::Result<usize> {
+) -> io::Result<bool> {
     let mut kept = [KEPT; MASKS];
     let mut spare = [SPARE; MASKS];
     let mut list = starts(c, operation, expect);
     let mut image = [MARK; CELLS];
-    let k = lesser(c.lent_kept, MASKS);
-    let s = lesser(c.lent_spare, MASKS);
-    let l = lesser(c.lent_list, BLOCKS);
+    let k = c.lent_kept.min(MASKS);
+    let s = c.lent_spare.min(MASKS);
+    let l = c.lent_list.min(BLOCKS);
     let i = lesser(c.lent_image, CELLS);
     call_lent(
         rt,
@@ -669,73 +546,50 @@ fn run(
     )
 }
 
-// 1 if nothing differs
-fn run_all(rt: &impl Print, c: Case, blob: &[u8], expect: &[u8]) -> io::Result<usize> {
+// whether nothing differs
+fn run_all(rt: &impl Print, c: Case, blob: &[u8], expect: &[u8]) -> io::Result<bool> {
     if c.walks() {
-        return run(rt, c, WALK, blob, expect);
+        return run(rt, c, Operation::Walk, blob, expect);
     }
     if c.fills() {
-        return run(rt, c, FILL, blob, expect);
+        return run(rt, c, Operation::Fill, blob, expect);
     }
-    let staged = run(rt, c, STAGE, blob, expect)?;
-    Ok(lesser(staged, run(rt, c, READ, blob, expect)?))
+    let staged = run(rt, c, Operation::Stage, blob, expect)?;
+    let read = run(rt, c, Operation::Read, blob, expect)?;
+    Ok(staged & read)
 }
 
-// reads until the buffer is full or the input ends; how many bytes came
-fn read_full(from: &mut impl Read, into: &mut [u8]) -> io::Result<usize>
-    ensures { IfOk result (λ n. n ≤ length into.new) }
-{
-    let mut done = 0;
-    while done < into.len() {
-        let n = from.read(&mut into[done..])?;
-        if n == 0 {
-            break;
-        }
-        done += n;
-    }
-    Ok(done)
-}
-
-// the next bytes of a file
-fn load(from: &mut impl Read, n: usize, into: &mut [u8]) -> io::Result<usize>
-    ensures { IfOk result (λ n. n ≤ length into.new) }
-{
-    let m = lesser(n, into.len());
-    read_full(from, &mut into[..m])
-}
-
-fn one(rt: &impl Print, from: &mut impl Read) -> io::Result<usize> {
+fn one(rt: &impl Print, from: &mut impl Read) -> io::Result<bool> {
     let mut head = [0u8; HEAD];
     read_full(from, &mut head[..])?;
     let c = case_of(&head);
     let mut blob = [0u8; BYTES];
-    let n = load(from, c.blob, &mut blob[..])?;
+    let n = read_next(from, c.blob, &mut blob[..])?;
     let mut expect = [0u8; REST];
-    let m = load(from, c.rest, &mut expect[..])?;
+    let m = read_next(from, c.rest, &mut expect[..])?;
     run_all(rt, c, &blob[..n], &expect[..m])
 }
 
-fn line(rt: &impl Print, from: &mut impl Read, name: &str, i: usize) -> io::Result<usize> {
-    print!(rt; "{name}")?;
-    print(rt, " ", i)?;
-    let same = one(rt, from)?;
+fn line(rt: &impl Print, from: &mut impl Read, name: &str, i: usize) -> io::Result<bool> {
+    print!(rt; "{name} {i}")?;
+    let is_same = one(rt, from)?;
     println!(rt)?;
-    Ok(same)
+    Ok(is_same)
 }
 
+// how many are as wanted
 fn lines(rt: &impl Print, from: &mut impl Read, name: &str, cases: usize) -> io::Result<usize> {
     let mut same = 0;
     for i in 0..cases {
-        same = add(same, line(rt, from, name, i)?);
+        if line(rt, from, name, i)? {
+            same += 1;
+        }
     }
     Ok(same)
 }
 
 fn print_tally(rt: &impl Print, name: &str, t: Tally) -> io::Result<()> {
-    print!(rt; "{name}")?;
-    print(rt, " cases ", t.cases)?;
-    print(rt, " same ", t.same)?;
-    println!(rt)
+    println!(rt; "{name} cases {} same {}", t.cases, t.same)
 }
 
 fn file(rt: &(impl Files + Print), name: &str, cases: usize) -> io::Result<Tally> {
@@ -749,7 +603,7 @@ fn file(rt: &(impl Files + Print), name: &str, cases: usize) -> io::Result<Tally
 }
 
 fn main(rt: HostRuntime) -> io::Result<()> {
-    let mut all = Tally { cases: 0, same: 0 };
+    let mut all = Tally::default();
     all = all.plus(file(&rt, "esri", 39)?);
     all = all.plus(file(&rt, "probes", 19)?);
     all = all.plus(file(&rt, "accepted", 206)?);

@@ -1,14 +1,15 @@
 -- What a header that is held gives, and what the tests for room leave.
 -- Assumes nothing.
-use mathlib.Core.Path.{◌≡◌}
-use mathlib.Core.Bool.{true, ◌&&◌}
+use mathlib.Core.Path.{◌≡◌, ap, refl}
+use mathlib.Core.Bool.{Bool, true, ◌&&◌}
 use mathlib.Core.List.{List}
 use Prim.Native.Nat.{ℕ, ◌≤◌, min}
 use native.Mathlib.Omega.{arith}
 use lib.ListN.{length}
 use lib.Dec.{leb}
 use borrow.Author.Tests.{leb-true}
-use Rattle.lerc_words.specs.Res.{ok, require}
+use Rattle.lerc_words.specs.declared.Refusal.{Refusal}
+use Rattle.lerc_words.specs.Res.{Res, ok, fail, require}
 use Rattle.lerc_words.proofs.Binding.{and_is}
 use Rattle.lerc_header.specs.declared.Header.{Header}
 use Rattle.lerc_header.specs.declared.Extent.{Extent}
@@ -16,7 +17,7 @@ use Rattle.lerc_header.specs.Limits.{depth_limit}
 use Rattle.lerc_header.specs.Header.{held}
 use Rattle.lerc_header.proofs.Kept.{held-is, held-shaped, held-size}
 use Rattle.lerc_ranges.specs.declared.Ranges.{Ranges}
-use Rattle.lerc_ranges.specs.Ranges.{pairs_right, pairs_says}
+use Rattle.lerc_ranges.specs.Ranges.{pairs_right, pairs_says, pairs_said}
 use Rattle.lerc_image.specs.Parts.{BodyAsked, has_room}
 
 module _ (b : List ℕ) (h : Header) {e : Extent} (p : held h (length b) ≡ ok e) where
@@ -64,3 +65,13 @@ module _ {b : List ℕ} {h : Header} {m list image : List ℕ} {e : Extent} (p :
 
   pub fillable-room : e.cells ≤ length image
   fillable-room = leb-true _ _ both.1
+
+-- ---- what an answer of `pairs` says
+
+pub pairs-no : (m : Res Bool) {why : Refusal} → fail why ≡ pairs_said m → m ≡ fail why
+pairs-no (ok t) e = absurd (let z : ◌≡◌ {A = ℕ} 0 1 = cc in omega arith)
+pairs-no (fail w) {why} e = let z : w ≡ why = cc in ap fail z
+
+pub pairs-ok : (m : Res Bool) → ok tt ≡ pairs_said m → (t : Bool) × (m ≡ ok t)
+pairs-ok (ok t) e = (t, refl)
+pairs-ok (fail w) e = absurd (let z : ◌≡◌ {A = ℕ} 0 1 = cc in omega arith)

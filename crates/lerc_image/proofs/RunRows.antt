@@ -19,7 +19,7 @@ use Rattle.lerc_header.specs.Shape.{pixels, mask_length}
 use Rattle.lerc_mask.specs.declared.seek.RunPlace.{RunPlace}
 use Rattle.lerc_mask.specs.declared.seek.RunFound.{RunFound}
 use Rattle.lerc_mask.specs.Mask.{valid_below, valid_from}
-use Rattle.lerc_mask.specs.Seek.{given, OnWay}
+use Rattle.lerc_mask.specs.Seek.{given, front, OnWay}
 use Rattle.lerc_mask.proofs.Pixels.{from_suc, valid-uniform-255}
 use Rattle.lerc_mask.proofs.Given.{Finds, way-front}
 use Rattle.lerc_image.specs.declared.Tile.{Tile}
@@ -32,37 +32,27 @@ use Rattle.lerc_image.proofs.Standing.{Standing, standing-count}
 
 -- ---- the places
 
-zeros : (n i : ℕ) → ◌≡◌ {A = ℕ} (get_or (replicate n 0) i 0) 0
-zeros n i = go (dec_lt i n)
+fronts : (n i : ℕ) → get_or (replicate n front) i front ≡ front
+fronts n i = go (dec_lt i n)
   where
-    go : Dec (i < n) → ◌≡◌ {A = ℕ} (get_or (replicate n 0) i 0) 0
-    go (yes l) = get_or-replicate {A = ℕ} n i 0 0 l
+    go : Dec (i < n) → get_or (replicate n front) i front ≡ front
+    go (yes l) = get_or-replicate n i front front l
     go (no l) =
-        let k : length (replicate {A = ℕ} n 0) ≤ i = rw (length-replicate) (omega arith) in
-        get_or-eq_default (replicate n 0) 0 k
+        let k : length (replicate n front) ≤ i = rw (length-replicate) (omega arith) in
+        get_or-eq_default (replicate n front) front k
 
 -- all rows begin at the front
-pub rows-front : (want : ℕ) (section : List ℕ) → RowsOnWay want section (replicate side_limit 0) (replicate side_limit 0)
-rows-front want section = record { at_long = refl; made-long = refl; way = λ row. rw (zeros side_limit row) (way-front want section) }
+pub rows-front : (want : ℕ) (section : List ℕ) → RowsOnWay want section (replicate side_limit front)
+rows-front want section = record { long = refl; way = λ row. rw (fronts side_limit row) (way-front want section) }
 
 -- one row's place is replaced by another on the way
-module _ {want : ℕ} {section at made : List ℕ} (w : RowsOnWay want section at made) (row : ℕ) (l : row < side_limit) (p : RunPlace) (o : OnWay want section p) where
-  set-way : (j : ℕ) (b : Bool) → eqb j row ≡ b → OnWay want section (record { at = get_or (set at row p.at) j 0; made = get_or (set made row p.made) j 0 })
-  set-way j true e =
-      let a = get_or-set_same at row p.at 0 (rw w.at_long l) in
-      let m = get_or-set_same made row p.made 0 (rw w.made-long l) in
-      rw (eqb-true j row e, a, m) o
-  set-way j false e =
-      let d = eqb-false j row e in
-      rw (get_or-set_other at row j p.at 0 d, get_or-set_other made row j p.made 0 d) (w.way j)
+module _ {want : ℕ} {section : List ℕ} {places : List RunPlace} (w : RowsOnWay want section places) (row : ℕ) (l : row < side_limit) (p : RunPlace) (o : OnWay want section p) where
+  set-way : (j : ℕ) (b : Bool) → eqb j row ≡ b → OnWay want section (get_or (set places row p) j front)
+  set-way j true e = rw (eqb-true j row e, get_or-set_same places row p front (rw w.long l)) o
+  set-way j false e = rw (get_or-set_other places row j p front (eqb-false j row e)) (w.way j)
 
-  pub rows-set : RowsOnWay want section (set at row p.at) (set made row p.made)
-  rows-set =
-      record {
-        at_long = length-set at row p.at ∙ w.at_long;
-        made-long = length-set made row p.made ∙ w.made-long;
-        way = λ j. set-way j (eqb j row) refl;
-      }
+  pub rows-set : RowsOnWay want section (set places row p)
+  rows-set = record { long = length-set places row p ∙ w.long; way = λ j. set-way j (eqb j row) refl }
 
 -- ---- one row
 
@@ -101,8 +91,8 @@ mask-all h e a full section z =
 
 module _ {h : Header} {e : Extent} {p : Position} {n : ℕ} (w : Standing h e p n) (l : n < e.blocks) where
   -- its valid pixels can be asked for
-  pub own-asked : {t : Tile} → t ≡ tile_here e.shape p → {full : Bool} {section at made : List ℕ} {before : ℕ}
-      → Carried e.shape (mask_by full e.mask section) n before → RowsOnWay e.mask section at made → OwnAsked e.shape t e.mask section full before at made
+  pub own-asked : {t : Tile} → t ≡ tile_here e.shape p → {full : Bool} {section : List ℕ} {places : List RunPlace} {before : ℕ}
+      → Carried e.shape (mask_by full e.mask section) n before → RowsOnWay e.mask section places → OwnAsked e.shape t e.mask section full before places
   own-asked q {full} {section} c r =
       let a = standing-count w l q refl c in
       record {

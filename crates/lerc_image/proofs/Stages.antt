@@ -20,10 +20,9 @@ use Rattle.lerc_header.specs.declared.Header.{Header}
 use Rattle.lerc_header.specs.Header.{shape_of, held}
 use Rattle.lerc_header.proofs.Kept.{held-is, held-shaped}
 use Rattle.lerc_header.specs.Shape.{block_count, cells, Shaped}
-use Rattle.lerc_image.specs.declared.WalkAnswer.TheVariants as answer
 use Rattle.lerc_image.specs.Geometry.{block_of, is_valid_cell}
 use Rattle.lerc_image.specs.Blocks.{Chain, all_blocks}
-use Rattle.lerc_image.specs.Walk.{walk_said, walk_of}
+use Rattle.lerc_image.specs.Walk.{Walk, walk_of}
 use Rattle.lerc_image.specs.Tiles.{checked_tiles, head_starts, room_to_list, listed_tiles, tiles_listed, listed_block, listed_image, room_to_fill, filled_tiles, starts_from, image_from, written_list, written_image, tiles_says, tiles_image, Tiled}
 use Rattle.lerc_image.specs.Parts.{BodyAsked, BodyListed}
 use Rattle.lerc_image.proofs.Partition.{block-lt}
@@ -176,33 +175,33 @@ module _ (b : List ℕ) (h : Header) (m maxima : List ℕ) (at : ℕ) {c : Chain
 -- ---- what the stages together leave
 
 -- a check that refuses leaves list and image
-refused-is : (h : Header) (x : Res Chain) {why : Refusal} → walk_said (answer.Refused why) ≡ walk_of h x → x ≡ fail why
+refused-is : (h : Header) (x : Res Chain) {why : Refusal} → fail why ≡ walk_of h x → x ≡ fail why
 refused-is h x e = bind-fail x _ (sym e)
 
-pub listed-refused : {h : Header} {x : Res Chain} {why : Refusal} {list : List ℕ} → x ≡ fail why → BodyListed h x (answer.Refused why) list list
+pub listed-refused : {h : Header} {x : Res Chain} {why : Refusal} {list : List ℕ} → x ≡ fail why → BodyListed h x (fail why) list list
 listed-refused e = rw (e) (record { says = refl; list = refl })
 
-pub listed-no : (h : Header) (x : Res Chain) {why : Refusal} {list : List ℕ} → walk_said (answer.Refused why) ≡ walk_of h x → BodyListed h x (answer.Refused why) list list
+pub listed-no : (h : Header) (x : Res Chain) {why : Refusal} {list : List ℕ} → fail why ≡ walk_of h x → BodyListed h x (fail why) list list
 listed-no h x e = listed-refused (refused-is h x e)
 
-pub tiled-refused : {h : Header} {x : Res Chain} {m : List ℕ} {why : Refusal} {list image : List ℕ} → x ≡ fail why → Tiled x h m (answer.Refused why) list list image image
+pub tiled-refused : {h : Header} {x : Res Chain} {m : List ℕ} {why : Refusal} {list image : List ℕ} → x ≡ fail why → Tiled x h m (fail why) list list image image
 tiled-refused e = rw (e) (record { says = refl; list = refl; image = refl })
 
-pub tiled-no : (h : Header) (x : Res Chain) {m : List ℕ} {why : Refusal} {list image : List ℕ} → walk_said (answer.Refused why) ≡ walk_of h x
-    → Tiled x h m (answer.Refused why) list list image image
+pub tiled-no : (h : Header) (x : Res Chain) {m : List ℕ} {why : Refusal} {list image : List ℕ} → fail why ≡ walk_of h x
+    → Tiled x h m (fail why) list list image image
 tiled-no h x e = tiled-refused (refused-is h x e)
 
 -- one that accepts, then the list
-module _ (s : List ℕ) {h : Header} {e : Extent} (a : BodyAsked h e) (maxima m : List ℕ) (at : ℕ) {n end : ℕ}
-    (p : walk_said (answer.Walked n end) ≡ walk_of h (all_blocks s h maxima m at)) {list list' : List ℕ} where
-  pub listed_ok : list' ≡ over (head_starts s h m e.blocks 0 at) list → BodyListed h (all_blocks s h maxima m at) (answer.Walked n end) list list'
+module _ (s : List ℕ) {h : Header} {e : Extent} (a : BodyAsked h e) (maxima m : List ℕ) (at : ℕ) {w : Walk}
+    (p : ok w ≡ walk_of h (all_blocks s h maxima m at)) {list list' : List ℕ} where
+  pub listed_ok : list' ≡ over (head_starts s h m e.blocks 0 at) list → BodyListed h (all_blocks s h maxima m at) (ok w) list list'
   listed_ok l =
       let (c, q, _) = bind_is (all_blocks s h maxima m at) _ (sym p) in
       record { says = p; list = rw (q) (l ∙ rw (count-is a, starts-are s h maxima m at q)) }
 
   -- and the image
   pub tiled-ok : list' ≡ over (starts_from s h maxima m e.blocks 0 at) list → {image image' : List ℕ} → image' ≡ image_from s h maxima m e.blocks 0 at image
-      → Tiled (all_blocks s h maxima m at) h m (answer.Walked n end) list list' image image'
+      → Tiled (all_blocks s h maxima m at) h m (ok w) list list' image image'
   tiled-ok l {image} f =
       let (c, q, _) = bind_is (all_blocks s h maxima m at) _ (sym p) in
       record {

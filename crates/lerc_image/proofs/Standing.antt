@@ -16,7 +16,6 @@ use Rattle.lerc_header.specs.Shape.{Shaped, pixels, block_count, cells}
 use Rattle.lerc_header.specs.Header.{shape_of}
 use Rattle.lerc_header.proofs.Sizes.{blocks-le}
 use Rattle.lerc_block.specs.Block.{Block, block_says, read_block_says, BlockRead}
-use Rattle.lerc_block.specs.declared.BlockAnswer.{BlockAnswer}
 use Rattle.lerc_block.specs.declared.plan.BlockPlan.{BlockPlan}
 use Rattle.lerc_block.specs.Plan.{plan_at, plan_end}
 use Rattle.lerc_block.proofs.Accepted.{block_words}
@@ -66,7 +65,7 @@ module _ {h : Header} {shape : Shape} {n : ℕ} {t : Tile} (b : BlockTile h shap
       → marked at (read_block_says s at h.kind h.error (get_or maxima t.d 0) t.x valid) ≡ block_at s h maxima m n at
   here-read s at maxima m q = rw (q) (ap (marked at) (read-block _ _ _ _ _ _ _ (valid-small shape t here_in m)) ∙ here-block s at maxima m)
 
-  pub here-told : (s : List ℕ) (at : ℕ) (maxima m : List ℕ) {valid : ℕ} → valid ≡ valid_in_tile shape m t → {got : BlockAnswer} {old new : List ℕ}
+  pub here-told : (s : List ℕ) (at : ℕ) (maxima m : List ℕ) {valid : ℕ} → valid ≡ valid_in_tile shape m t → {got : Res ℕ} {old new : List ℕ}
       → BlockRead (marked at (read_block_says s at h.kind h.error (get_or maxima t.d 0) t.x valid)) got old new → BlockRead (block_at s h maxima m n at) got old new
   here-told s at maxima m q e = rw (here-read s at maxima m q) at e
 

@@ -1,15 +1,12 @@
 -- Fill: one block by number.
 -- Assumes nothing.
 use Rattle.std.specs.Prelude.{ℕ, ◌≡◌, ◌&&◌, List, length, get_or, take, leb, ltb}
-use Rattle.lerc_words.specs.declared.Refusal.{Refusal}
-use Rattle.lerc_words.specs.Res.{Res, ok, fail, ◌>>=◌, refuse, require, after}
+use Rattle.lerc_words.specs.Res.{Res, ok, ◌>>=◌, require, after}
 use Rattle.lerc_header.specs.declared.Header.{Header}
 use Rattle.lerc_header.specs.Header.{shape_of, held}
 use Rattle.lerc_ranges.specs.declared.Ranges.{Ranges}
 use Rattle.lerc_ranges.specs.Ranges.{pairs_right}
 use Rattle.lerc_block.specs.Block.{Block}
-use Rattle.lerc_image.specs.declared.FillAnswer.{FillAnswer}
-use Rattle.lerc_image.specs.declared.FillAnswer.TheVariants as answer
 use Rattle.lerc_image.specs.Geometry.{tile_of, valid_in_tile}
 use Rattle.lerc_image.specs.Blocks.{block_at}
 use Rattle.lerc_image.specs.Paint.{scattered}
@@ -27,18 +24,10 @@ fill_says b h r m list n room = do
 abbrev pub fill_count : Header → List ℕ → ℕ → Block → Res ℕ
 fill_count h m n b = ok (valid_in_tile (shape_of h) m (tile_of (shape_of h) n))
 
-abbrev pub fill_said : FillAnswer → Res ℕ
-fill_said (answer.Filled n) = ok n
-fill_said (answer.Refused r) = fail r
-
-abbrev pub refusal_of_fill : FillAnswer → Refusal
-refusal_of_fill (answer.Filled n) = refuse 0
-refusal_of_fill (answer.Refused r) = r
-
 -- the image afterwards
 unfoldable pub fill_image : List ℕ → Header → Ranges → List ℕ → List ℕ → ℕ → List ℕ → List ℕ
 fill_image b h r m list n image = after (fill_says b h r m list n (length image)) image (λ k. scattered (shape_of h) m n k.words image)
 
-pub record Filled (b : List ℕ) (h : Header) (ranges : Ranges) (m list : List ℕ) (n : ℕ) (r : FillAnswer) (old new : List ℕ) : Type 0 where
-  pub says : fill_said r ≡ (fill_says b h ranges m list n (length old) >>= fill_count h m n)
+pub record Filled (b : List ℕ) (h : Header) (ranges : Ranges) (m list : List ℕ) (n : ℕ) (r : Res ℕ) (old new : List ℕ) : Type 0 where
+  pub says : r ≡ (fill_says b h ranges m list n (length old) >>= fill_count h m n)
   pub image : new ≡ fill_image b h ranges m list n old

@@ -8,7 +8,8 @@ use Rattle.lerc_header.specs.Limits.{side_limit}
 use Rattle.lerc_header.specs.Shape.{pixels, mask_length}
 use Rattle.lerc_header.specs.Header.{header_bytes, shape_of, held}
 use Rattle.lerc_mask.specs.Mask.{valid_from}
-use Rattle.lerc_mask.specs.Seek.{given, OnWay}
+use Rattle.lerc_mask.specs.declared.seek.RunPlace.{RunPlace}
+use Rattle.lerc_mask.specs.Seek.{given, front, OnWay}
 use Rattle.lerc_image.specs.declared.Tile.{Tile}
 use Rattle.lerc_image.specs.declared.own.RowFound.{RowFound}
 use Rattle.lerc_image.specs.Blocks.{Chain, all_blocks}
@@ -31,10 +32,9 @@ own_tiles b h maxima at = do
 -- ---- what private functions ask and promise; not part of the rules
 
 -- each row of a tile has a place of its own on the way through the runs
-pub record RowsOnWay (want : ℕ) (section at made : List ℕ) : Type 0 where
-  pub at_long : length at ≡ side_limit
-  pub made-long : length made ≡ side_limit
-  pub way : (row : ℕ) → OnWay want section (record { at = get_or at row 0; made = get_or made row 0 })
+pub record RowsOnWay (want : ℕ) (section : List ℕ) (places : List RunPlace) : Type 0 where
+  pub long : length places ≡ side_limit
+  pub way : (row : ℕ) → OnWay want section (get_or places row front)
 
 -- how many of the n pixels from `first` on are valid by the runs, and a place on the way to go on from
 pub record RowCounted (want : ℕ) (section : List ℕ) (first n : ℕ) (r : RowFound) : Type 0 where
@@ -42,7 +42,7 @@ pub record RowCounted (want : ℕ) (section : List ℕ) (first n : ℕ) (r : Row
   pub way : OnWay want section r.place
 
 -- a tile whose valid pixels are asked for, and the places of its rows
-pub record OwnAsked (h : Shape) (t : Tile) (want : ℕ) (section : List ℕ) (full : Bool) (before : ℕ) (at made : List ℕ) : Type 0 where
+pub record OwnAsked (h : Shape) (t : Tile) (want : ℕ) (section : List ℕ) (full : Bool) (before : ℕ) (places : List RunPlace) : Type 0 where
   pub asked : CountAsked h t (mask_by full want section) full before
   pub side : t.h ≤ side_limit
-  pub rows : RowsOnWay want section at made
+  pub rows : RowsOnWay want section places

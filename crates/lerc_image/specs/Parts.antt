@@ -10,17 +10,13 @@ use Rattle.lerc_header.specs.declared.Extent.{Extent}
 use Rattle.lerc_header.specs.Header.{shape_of, extent_of}
 use Rattle.lerc_header.specs.Shape.{Shaped, pixels, cells, block_count}
 use Rattle.lerc_mask.specs.Mask.{valid_below}
-use Rattle.lerc_block.specs.declared.BlockAnswer.{BlockAnswer}
-use Rattle.lerc_block.specs.Block.{Block, tile_limit, block_said, next_block}
+use Rattle.lerc_block.specs.Block.{Block, tile_limit, next_block}
 use Rattle.lerc_image.specs.declared.Tile.{Tile}
 use Rattle.lerc_image.specs.declared.Cursor.{Cursor}
-use Rattle.lerc_image.specs.declared.FillAnswer.{FillAnswer}
-use Rattle.lerc_image.specs.declared.WalkAnswer.{WalkAnswer}
 use Rattle.lerc_image.specs.Geometry.{tile_of, tile_size, pixel_of, valid_in_tile}
 use Rattle.lerc_image.specs.Paint.{scattered}
 use Rattle.lerc_image.specs.Blocks.{Chain}
-use Rattle.lerc_image.specs.Fill.{fill_said}
-use Rattle.lerc_image.specs.Walk.{walk_said, walk_count}
+use Rattle.lerc_image.specs.Walk.{Walk, walk_count}
 
 -- ---- what they ask: a header that keeps the rules, and what follows from it
 
@@ -122,16 +118,16 @@ pub record BlockScattered (h : Shape) (n : ℕ) (m words start : List ℕ) (r : 
   pub image : now ≡ scattered h m n words start
 
 -- what a block does to the image: its words at the valid cells of its tile, or nothing where it is refused; told by where the next begins
-pub record BlockPut (h : Shape) (m : List ℕ) (n : ℕ) (b : Res Block) (r : BlockAnswer) (old new : List ℕ) : Type 0 where
-  pub says : block_said r ≡ next_block b
+pub record BlockPut (h : Shape) (m : List ℕ) (n : ℕ) (b : Res Block) (r : Res ℕ) (old new : List ℕ) : Type 0 where
+  pub says : r ≡ next_block b
   pub image : new ≡ after b old (λ k. scattered h m n k.words old)
 
 -- the same, told by how many words were put
-pub record BlockFilled (h : Shape) (m : List ℕ) (n : ℕ) (b : Res Block) (r : FillAnswer) (old new : List ℕ) : Type 0 where
-  pub says : fill_said r ≡ (b >>= λ k. ok (valid_in_tile h m (tile_of h n)))
+pub record BlockFilled (h : Shape) (m : List ℕ) (n : ℕ) (b : Res Block) (r : Res ℕ) (old new : List ℕ) : Type 0 where
+  pub says : r ≡ (b >>= λ k. ok (valid_in_tile h m (tile_of h n)))
   pub image : new ≡ after b old (λ k. scattered h m n k.words old)
 
 -- what a chain, accepted or not, does to the list
-pub record BodyListed (h : Header) (m : Res Chain) (r : WalkAnswer) (old new : List ℕ) : Type 0 where
-  pub says : walk_said r ≡ (m >>= walk_count h)
+pub record BodyListed (h : Header) (m : Res Chain) (r : Res Walk) (old new : List ℕ) : Type 0 where
+  pub says : r ≡ (m >>= walk_count h)
   pub list : new ≡ after m old (λ c. over c.starts old)

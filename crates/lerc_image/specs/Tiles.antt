@@ -9,11 +9,10 @@ use Rattle.lerc_header.specs.Header.{shape_of, held}
 use Rattle.lerc_header.specs.Shape.{block_count}
 use Rattle.lerc_block.specs.Block.{Block}
 use Rattle.lerc_block.specs.Plan.{plan_at, plan_end}
-use Rattle.lerc_image.specs.declared.WalkAnswer.{WalkAnswer}
 use Rattle.lerc_image.specs.Geometry.{tile_of, valid_in_tile, block_of, is_valid_cell}
 use Rattle.lerc_image.specs.Paint.{painted, word_of, scattered}
 use Rattle.lerc_image.specs.Blocks.{block_at, Chain, all_blocks}
-use Rattle.lerc_image.specs.Walk.{walk_said, walk_count}
+use Rattle.lerc_image.specs.Walk.{Walk, walk_count}
 
 -- ---- check: nothing is written
 
@@ -117,7 +116,7 @@ tiles_says b h m maxima at entries room = do
 abbrev pub tiles_image : Header → List ℕ → List ℕ → Chain → List ℕ
 tiles_image h m image c = painted image (is_valid_cell (shape_of h) m) (word_of (shape_of h) m (λ n. get_or c.words n []))
 
-pub record Tiled (tiles : Res Chain) (h : Header) (m : List ℕ) (r : WalkAnswer) (old-list new-list old-image new-image : List ℕ) : Type 0 where
-  pub says : walk_said r ≡ (tiles >>= walk_count h)
+pub record Tiled (tiles : Res Chain) (h : Header) (m : List ℕ) (r : Res Walk) (old-list new-list old-image new-image : List ℕ) : Type 0 where
+  pub says : r ≡ (tiles >>= walk_count h)
   pub list : new-list ≡ after tiles old-list (λ c. over c.starts old-list)
   pub image : new-image ≡ after tiles old-image (tiles_image h m old-image)

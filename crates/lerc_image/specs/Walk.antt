@@ -1,7 +1,6 @@
 -- Walk: every block checked, then the list of their starts.
 -- Assumes nothing.
 use Rattle.std.specs.Prelude.{ℕ, ◌≡◌, not, ◌&&◌, List, length, take, leb, ltb}
-use Rattle.lerc_words.specs.declared.Refusal.{Refusal}
 use Rattle.lerc_words.specs.Res.{Res, ok, fail, ◌>>=◌, refuse, marked, require, after}
 use Rattle.lerc_words.specs.Lists.{over}
 use Rattle.lerc_header.specs.declared.Header.{Header}
@@ -9,8 +8,7 @@ use Rattle.lerc_header.specs.Header.{shape_of, held}
 use Rattle.lerc_header.specs.Shape.{block_count}
 use Rattle.lerc_ranges.specs.declared.Ranges.{Ranges}
 use Rattle.lerc_ranges.specs.Ranges.{pairs_right}
-use Rattle.lerc_image.specs.declared.WalkAnswer.{WalkAnswer}
-use Rattle.lerc_image.specs.declared.WalkAnswer.TheVariants as answer
+use Rattle.lerc_image.specs.declared.Walked.{Walked}
 use Rattle.lerc_sweep.specs.Sweep.{Way, raw_from, blocks_from, huffman_from, swept}
 use Rattle.lerc_image.specs.Blocks.{Chain, all_blocks}
 
@@ -36,17 +34,8 @@ walk_says b h r m room = do
   body_walked (take h.size b) h r.max m r.at
 
 -- the count of blocks and where the last one ends
-pub record Walk : Type 0 where
-  pub blocks : ℕ
-  pub end : ℕ
-
-abbrev pub walk_said : WalkAnswer → Res Walk
-walk_said (answer.Walked blocks end) = ok (record { blocks = blocks; end = end })
-walk_said (answer.Refused r) = fail r
-
-abbrev pub refusal_of_walk : WalkAnswer → Refusal
-refusal_of_walk (answer.Walked blocks end) = refuse 0
-refusal_of_walk (answer.Refused r) = r
+abbrev pub Walk : Type 0
+Walk = Walked
 
 abbrev pub walk_count : Header → Chain → Res Walk
 walk_count h c = ok (record { blocks = block_count (shape_of h); end = c.end })
@@ -59,6 +48,6 @@ walk_of h c = c >>= walk_count h
 unfoldable pub walk_list : List ℕ → Header → Ranges → List ℕ → List ℕ → List ℕ
 walk_list b h r m list = after (walk_says b h r m (length list)) list (λ c. over c.starts list)
 
-pub record BlocksWalked (b : List ℕ) (h : Header) (ranges : Ranges) (m : List ℕ) (r : WalkAnswer) (old new : List ℕ) : Type 0 where
-  pub says : walk_said r ≡ (walk_says b h ranges m (length old) >>= walk_count h)
+pub record BlocksWalked (b : List ℕ) (h : Header) (ranges : Ranges) (m : List ℕ) (r : Res Walk) (old new : List ℕ) : Type 0 where
+  pub says : r ≡ (walk_says b h ranges m (length old) >>= walk_count h)
   pub list : new ≡ walk_list b h ranges m old

@@ -3,16 +3,14 @@ ghost use Rattle.std.specs.Prelude.{◌≡◌, ℕ, ◌≤◌, length};
 ghost use Rattle.lerc_words.specs.Lists.{over};
 ghost use Rattle.lerc_slices.specs.Slices.{begins_with};
 ghost use Rattle.lerc_image.specs.Blocks.{all_blocks};
-ghost use Rattle.lerc_image.specs.Walk.{walk_said, walk_of};
+ghost use Rattle.lerc_image.specs.Walk.{walk_of};
 ghost use Rattle.lerc_image.specs.Tiles.{checked_tiles, head_starts, listed_tiles, tiles_listed, listed_image, filled_tiles, starts_from, image_from, written_list, written_image, Tiled, tiles_says};
 ghost use Rattle.lerc_image.specs.Parts.{BodyAsked};
 
 use super::{
-    Position, WalkAnswer, all_valid, check_blocks, end_at, has_room, list_starts, put_at,
-    valid_here,
+    Position, Walked, all_valid, check_blocks, end_at, has_room, list_starts, put_at, valid_here,
 };
-use lerc_block::BlockAnswer;
-use lerc_header::{DEPTHS, Extent, Header, HeldAnswer};
+use lerc_header::{DEPTHS, Extent, Header};
 use lerc_words::Refusal;
 
 // Every block at its listed start to the image; one that is refused leaves it.
@@ -30,17 +28,15 @@ fn fill_listed(
 {
     let shape = e.shape;
     let mut p = Position::start();
-    let mut n: usize = 0;
     let full = all_valid(h.valid, e.pixels, mask);
     let mut valid: usize = 0;
     let words = &mut [0u64; 256];
-    while n < e.blocks {
+    for n in 0..e.blocks {
         let t = p.current(shape);
         valid = valid_here(shape, t, mask, full, valid);
         let at = list[n];
         let _put = put_at(s, at, h, shape, n, t, valid, maxima, mask, words, image);
         p = p.advance(shape);
-        n += 1;
     }
 }
 
@@ -61,22 +57,20 @@ fn write_blocks(
 {
     let shape = e.shape;
     let mut p = Position::start();
-    let mut n: usize = 0;
     let mut next = at;
     let full = all_valid(h.valid, e.pixels, mask);
     let mut valid: usize = 0;
     let words = &mut [0u64; 256];
-    while n < e.blocks {
+    for n in 0..e.blocks {
         list[n] = next;
         let t = p.current(shape);
         valid = valid_here(shape, t, mask, full, valid);
         let got = put_at(s, next, h, shape, n, t, valid, maxima, mask, words, image);
-        let BlockAnswer::Block(end) = got else {
+        let Ok(end) = got else {
             return;
         };
         next = end;
         p = p.advance(shape);
-        n += 1;
     }
 }
 
@@ -90,20 +84,13 @@ fn decode_blocks(
     mask: &[u8],
     list: &mut [usize],
     image: &mut [u64],
-) -> WalkAnswer
+) -> Result<Walked, Refusal>
     requires { (BodyAsked h e) × (e.blocks ≤ length list.old) × (e.cells ≤ length image.old) }
     ensures { Tiled (all_blocks s.now h maxima.now mask.now at) h mask.now result list.old list.new image.old image.new }
 {
-    let checked = check_blocks(s, at, h, e, maxima, mask);
-    let WalkAnswer::Walked {
-        blocks: _n,
-        end: _end,
-    } = checked
-    else {
-        return checked;
-    };
+    let checked = check_blocks(s, at, h, e, maxima, mask)?;
     write_blocks(s, at, h, e, maxima, mask, &mut list[..], &mut image[..]);
-    checked
+    Ok(checked)
 }
 
 // Whether the list begins with the start of each block, as the heads give them; none behind a head that cannot be read.
@@ -113,20 +100,17 @@ fn starts_listed(s: &[u8], at: usize, h: Header, e: Extent, mask: &[u8], list: &
 {
     let shape = e.shape;
     let mut p = Position::start();
-    let mut k: usize = 0;
     let mut start = at;
-    while k < e.blocks {
+    for k in 0..e.blocks {
         if list[k] != start {
             return false;
         }
         let t = p.current(shape);
-        let got = end_at(s, start, h.kind, shape, t, mask);
-        let BlockAnswer::Block(end) = got else {
+        let Ok(end) = end_at(s, start, h.kind, shape, t, mask) else {
             return true;
         };
         start = end;
         p = p.advance(shape);
-        k += 1;
     }
     true
 }
@@ -138,15 +122,12 @@ pub fn check_tiles(
     mask: &[u8],
     maxima: &[u64; DEPTHS],
     at: usize,
-) -> WalkAnswer
-    ensures { walk_said result ≡ walk_of h (checked_tiles blob.now h mask.now maxima.now at) }
+) -> Result<Walked, Refusal>
+    ensures { result ≡ walk_of h (checked_tiles blob.now h mask.now maxima.now at) }
 {
-    let held = h.held(blob.len());
-    let HeldAnswer::Held(e) = held else {
-        return WalkAnswer::Refused(held.refusal());
-    };
+    let e = h.held(blob.len())?;
     if mask.len() < e.mask {
-        return WalkAnswer::Refused(Refusal { number: 5, at: 0 });
+        return Err(Refusal { number: 5, at: 0 });
     }
     let size = e.size;
     check_blocks(&blob[..size], at, h, e, maxima, mask)
@@ -156,8 +137,7 @@ pub fn check_tiles(
 pub fn list_tiles(blob: &[u8], h: Header, mask: &[u8], at: usize, list: &mut [usize])
     ensures { list.new ≡ listed_tiles blob.now h mask.now at list.old }
 {
-    let held = h.held(blob.len());
-    let HeldAnswer::Held(e) = held else {
+    let Ok(e) = h.held(blob.len()) else {
         return;
     };
     let room = (e.mask <= mask.len()) & (e.blocks <= list.len());
@@ -172,8 +152,7 @@ pub fn list_tiles(blob: &[u8], h: Header, mask: &[u8], at: usize, list: &mut [us
 pub fn are_listed(blob: &[u8], h: Header, mask: &[u8], at: usize, list: &[usize]) -> bool
     ensures { result ≡ tiles_listed blob.now h mask.now at list.now }
 {
-    let held = h.held(blob.len());
-    let HeldAnswer::Held(e) = held else {
+    let Ok(e) = h.held(blob.len()) else {
         return false;
     };
     let fits = (e.mask <= mask.len()) & (e.blocks <= list.len());
@@ -195,8 +174,7 @@ pub fn fill_tiles(
 )
     ensures { image.new ≡ filled_tiles blob.now h mask.now maxima.now list.now image.old }
 {
-    let held = h.held(blob.len());
-    let HeldAnswer::Held(e) = held else {
+    let Ok(e) = h.held(blob.len()) else {
         return;
     };
     if !has_room(e, mask.len(), list.len(), image.len()) {
@@ -220,8 +198,7 @@ pub fn write_tiles(
     ensures list_after { list.new ≡ written_list blob.now h mask.now maxima.now at list.old (length image.old) }
     ensures image_after { image.new ≡ written_image blob.now h mask.now maxima.now at (length list.old) image.old }
 {
-    let held = h.held(blob.len());
-    let HeldAnswer::Held(e) = held else {
+    let Ok(e) = h.held(blob.len()) else {
         return;
     };
     if !has_room(e, mask.len(), list.len(), image.len()) {
@@ -241,15 +218,12 @@ pub fn decode_tiles(
     at: usize,
     list: &mut [usize],
     image: &mut [u64],
-) -> WalkAnswer
+) -> Result<Walked, Refusal>
     ensures { Tiled (tiles_says blob.now h mask.now maxima.now at (length list.old) (length image.old)) h mask.now result list.old list.new image.old image.new }
 {
-    let held = h.held(blob.len());
-    let HeldAnswer::Held(e) = held else {
-        return WalkAnswer::Refused(held.refusal());
-    };
+    let e = h.held(blob.len())?;
     if !has_room(e, mask.len(), list.len(), image.len()) {
-        return WalkAnswer::Refused(Refusal { number: 5, at: 0 });
+        return Err(Refusal { number: 5, at: 0 });
     }
     let size = e.size;
     decode_blocks(

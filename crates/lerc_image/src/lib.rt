@@ -6,20 +6,19 @@ ghost use Rattle.std.specs.Int.Count.{ones};
 ghost use Rattle.lerc_words.specs.Lists.{over, total};
 ghost use Rattle.lerc_header.specs.Shape.{Shaped, block_count, cells};
 ghost use Rattle.lerc_image.specs.Geometry.{HasTile, tile_here, next_of, position_of, valid_in_tile};
-ghost use Rattle.lerc_image.specs.Fill.{Filled, refusal_of_fill};
+ghost use Rattle.lerc_image.specs.Fill.{Filled};
 ghost use Rattle.lerc_image.specs.Blocks.{block_at, all_blocks};
 ghost use Rattle.lerc_header.specs.Limits.{depth_limit};
-ghost use Rattle.lerc_image.specs.Walk.{BlocksWalked, body_walked, walk_said, walk_of, refusal_of_walk};
+ghost use Rattle.lerc_image.specs.Walk.{BlocksWalked, body_walked, walk_of};
 ghost use Rattle.lerc_image.specs.Tiles.{head_starts};
 ghost use Rattle.lerc_image.specs.Parts.{TileIn, BodyAsked, Asked, has_room, ones_apart, is_square, all_valid, CountAsked, BlockTile, FillAsked, cursor_of, cursor_next, BlockScattered, BlockPut, BlockFilled, BodyListed};
-ghost use Rattle.lerc_block.specs.Block.{block_said, read_block_says, next_block};
+ghost use Rattle.lerc_block.specs.Block.{read_block_says, next_block};
 ghost use Rattle.lerc_words.specs.Res.{marked};
 ghost use Rattle.lerc_block.specs.Plan.{plan_at, plan_end};
 
-use lerc_block::BlockAnswer;
-use lerc_header::{DEPTHS, Extent, Header, HeldAnswer, Shape};
-use lerc_ranges::{PairsAnswer, Ranges};
-use lerc_sweep::WayAnswer;
+use lerc_header::{DEPTHS, Extent, Header, Shape};
+use lerc_ranges::Ranges;
+use lerc_sweep::Way;
 use lerc_words::Refusal;
 
 mod decode;
@@ -52,44 +51,11 @@ struct Cursor {
     column: usize,
 }
 
-#[derive(Clone, Copy)]
-pub enum WalkAnswer {
-    Walked { blocks: usize, end: usize },
-    Refused(Refusal),
-}
-
-// How many words were written.
-#[derive(Clone, Copy)]
-pub enum FillAnswer {
-    Filled(usize),
-    Refused(Refusal),
-}
-
-impl WalkAnswer {
-    // why it was refused; number 0 where it was not
-    pub fn refusal(self) -> Refusal
-        ensures { result ≡ refusal_of_walk self }
-    {
-        match self {
-            WalkAnswer::Walked {
-                blocks: _blocks,
-                end: _end,
-            } => Refusal { number: 0, at: 0 },
-            WalkAnswer::Refused(why) => why,
-        }
-    }
-}
-
-impl FillAnswer {
-    // why it was refused; number 0 where it was not
-    pub fn refusal(self) -> Refusal
-        ensures { result ≡ refusal_of_fill self }
-    {
-        match self {
-            FillAnswer::Filled(_words) => Refusal { number: 0, at: 0 },
-            FillAnswer::Refused(why) => why,
-        }
-    }
+// How many blocks, and where the last one ends.
+#[derive(Clone, Copy, Debug, PartialEq, Eq)]
+pub struct Walked {
+    pub blocks: usize,
+    pub end: usize,
 }
 
 fn lesser(a: usize, b: usize) -> usize
@@ -207,11 +173,9 @@ fn side_by_side(mask: &[u8], at: usize, step: usize) -> u64
 {
     let mut bits: u64 = 0;
     let mut k = at;
-    let mut row: usize = 0;
-    while row < 8 {
+    for _ in 0..8usize {
         bits = bits * 256 + wide(mask[k]);
         k += step;
-        row += 1;
     }
     bits
 }
@@ -229,12 +193,10 @@ fn count_rows(h: Shape, t: Tile, mask: &[u8]) -> usize
     ensures { result ≡ valid_in_tile h mask.now t }
 {
     let mut first = t.y * h.columns + t.x;
-    let mut row: usize = 0;
     let mut found: usize = 0;
-    while row < t.h {
+    for _ in 0..t.h {
         found += lerc_mask::count_from(mask, first, t.w);
         first += h.columns;
-        row += 1;
     }
     found
 }
@@ -291,15 +253,13 @@ fn scatter(
 {
     let size = t.h * t.w;
     let mut at = Cursor::first(h, t);
-    let mut k: usize = 0;
     let mut used: usize = 0;
-    while k < size {
+    for _ in 0..size {
         if lerc_mask::is_valid(mask, at.pixel) {
             image[at.pixel * h.depth + t.d] = words[used];
             used += 1;
         }
         at = at.step(t.w, h.columns);
-        k += 1;
     }
     used
 }
@@ -317,18 +277,15 @@ fn put_at(
     mask: &[u8],
     words: &mut [u64; 256],
     image: &mut [u64],
-) -> BlockAnswer
+) -> Result<usize, Refusal>
     requires { (BlockTile h shape n t) × (valid ≡ valid_in_tile shape mask.now t) × (cells shape ≤ length image.old) }
     ensures { BlockPut shape mask.now n (block_at s.now h maxima.now mask.now n at) result image.old image.new }
 {
     let depth = t.d;
     let top = maxima[depth];
-    let got = lerc_block::read_block(s, at, h.kind, h.error, top, t.x, valid, words);
-    let BlockAnswer::Block(_next) = got else {
-        return got;
-    };
+    let next = lerc_block::read_block(s, at, h.kind, h.error, top, t.x, valid, words)?;
     put::put_tile(shape, t, n, valid, mask, words, &mut image[..]);
-    got
+    Ok(next)
 }
 
 // Block n at its listed start, of a blob whose header is held.
@@ -341,7 +298,7 @@ fn fill_number(
     list: &[usize],
     n: usize,
     image: &mut [u64],
-) -> FillAnswer
+) -> Result<usize, Refusal>
     requires { FillAsked h e n blob.now list.now image.old }
     ensures { BlockFilled e.shape mask.now n (block_at (take e.size blob.now) h maxima.now mask.now n (get_or list.now n 0)) result image.old image.new }
 {
@@ -353,11 +310,8 @@ fn fill_number(
     let t = p.current(shape);
     let valid = count_valid(shape, t, mask);
     let words = &mut [0u64; 256];
-    let got = put_at(s, at, h, shape, n, t, valid, maxima, mask, words, image);
-    let BlockAnswer::Block(_next) = got else {
-        return FillAnswer::Refused(got.refusal());
-    };
-    FillAnswer::Filled(valid)
+    put_at(s, at, h, shape, n, t, valid, maxima, mask, words, image)?;
+    Ok(valid)
 }
 
 // A mask, a list and an image of such lengths are long enough.
@@ -376,23 +330,17 @@ pub fn fill(
     list: &[usize],
     number: usize,
     image: &mut [u64],
-) -> FillAnswer
+) -> Result<usize, Refusal>
     ensures { Filled blob.now h ranges mask.now list.now number result image.old image.new }
 {
-    let held = h.held(blob.len());
-    let HeldAnswer::Held(e) = held else {
-        return FillAnswer::Refused(held.refusal());
-    };
+    let e = h.held(blob.len())?;
     if e.blocks <= number {
-        return FillAnswer::Refused(Refusal { number: 11, at: 0 });
+        return Err(Refusal { number: 11, at: 0 });
     }
     if !has_room(e, mask.len(), list.len(), image.len()) {
-        return FillAnswer::Refused(Refusal { number: 5, at: 0 });
+        return Err(Refusal { number: 5, at: 0 });
     }
-    let right = lerc_ranges::pairs(h.depth, ranges);
-    let PairsAnswer::Right = right else {
-        return FillAnswer::Refused(right.refusal());
-    };
+    lerc_ranges::pairs(h.depth, ranges)?;
     fill_number(blob, h, e, &ranges.max, mask, list, number, &mut image[..])
 }
 
@@ -404,9 +352,9 @@ fn check_at(
     t: Tile,
     valid: usize,
     maxima: &[u64; DEPTHS],
-) -> BlockAnswer
+) -> Result<usize, Refusal>
     requires { t.d < depth_limit }
-    ensures { block_said result ≡ next_block (marked at (read_block_says s.now at h.kind h.error (get_or maxima.now t.d 0) t.x valid)) }
+    ensures { result ≡ next_block (marked at (read_block_says s.now at h.kind h.error (get_or maxima.now t.d 0) t.x valid)) }
 {
     let plane = t.d;
     let top = maxima[plane];
@@ -421,37 +369,31 @@ fn check_blocks(
     e: Extent,
     maxima: &[u64; DEPTHS],
     mask: &[u8],
-) -> WalkAnswer
+) -> Result<Walked, Refusal>
     requires { BodyAsked h e }
-    ensures { walk_said result ≡ walk_of h (all_blocks s.now h maxima.now mask.now at) }
+    ensures { result ≡ walk_of h (all_blocks s.now h maxima.now mask.now at) }
 {
     let shape = e.shape;
     let mut p = Position::start();
-    let mut n: usize = 0;
     let mut next = at;
     let full = all_valid(h.valid, e.pixels, mask);
     let mut valid: usize = 0;
-    while n < e.blocks {
+    for _ in 0..e.blocks {
         let t = p.current(shape);
         valid = valid_here(shape, t, mask, full, valid);
-        let got = check_at(s, next, h, t, valid, maxima);
-        let BlockAnswer::Block(end) = got else {
-            return WalkAnswer::Refused(got.refusal());
-        };
-        next = end;
+        next = check_at(s, next, h, t, valid, maxima)?;
         p = p.advance(shape);
-        n += 1;
     }
-    WalkAnswer::Walked {
+    Ok(Walked {
         blocks: e.blocks,
         end: next,
-    }
+    })
 }
 
 // Where the block of tile `t` at a place ends. Only a raw block is as long as its tile has valid pixels, so only for one are they counted.
-fn end_at(s: &[u8], at: usize, kind: u32, h: Shape, t: Tile, mask: &[u8]) -> BlockAnswer
+fn end_at(s: &[u8], at: usize, kind: u32, h: Shape, t: Tile, mask: &[u8]) -> Result<usize, Refusal>
     requires { TileIn h t }
-    ensures { block_said result ≡ plan_end (marked at (plan_at s.now at kind t.x (valid_in_tile h mask.now t))) }
+    ensures { result ≡ plan_end (marked at (plan_at s.now at kind t.x (valid_in_tile h mask.now t))) }
 {
     if lerc_words::bytes(s, at, 1) % 4 != 0 {
         return lerc_block::block_end(s, at, kind, t.x, 0);
@@ -467,18 +409,15 @@ fn list_starts(s: &[u8], at: usize, h: Header, e: Extent, mask: &[u8], list: &mu
 {
     let shape = e.shape;
     let mut p = Position::start();
-    let mut k: usize = 0;
     let mut start = at;
-    while k < e.blocks {
+    for k in 0..e.blocks {
         list[k] = start;
         let t = p.current(shape);
-        let got = end_at(s, start, h.kind, shape, t, mask);
-        let BlockAnswer::Block(end) = got else {
+        let Ok(end) = end_at(s, start, h.kind, shape, t, mask) else {
             return;
         };
         start = end;
         p = p.advance(shape);
-        k += 1;
     }
 }
 
@@ -491,20 +430,13 @@ fn walk_blocks(
     maxima: &[u64; DEPTHS],
     mask: &[u8],
     list: &mut [usize],
-) -> WalkAnswer
+) -> Result<Walked, Refusal>
     requires { (BodyAsked h e) × (e.blocks ≤ length list.old) }
     ensures { BodyListed h (all_blocks s.now h maxima.now mask.now at) result list.old list.new }
 {
-    let checked = check_blocks(s, at, h, e, maxima, mask);
-    let WalkAnswer::Walked {
-        blocks: _n,
-        end: _end,
-    } = checked
-    else {
-        return checked;
-    };
+    let checked = check_blocks(s, at, h, e, maxima, mask)?;
     list_starts(s, at, h, e, mask, &mut list[..]);
-    checked
+    Ok(checked)
 }
 
 // A body that is neither empty nor constant.
@@ -516,44 +448,43 @@ fn walk_body(
     maxima: &[u64; DEPTHS],
     mask: &[u8],
     list: &mut [usize],
-) -> WalkAnswer
+) -> Result<Walked, Refusal>
     requires { (BodyAsked h e) × (e.blocks ≤ length list.old) }
     ensures { BodyListed h (body_walked s.now h maxima.now mask.now at) result list.old list.new }
 {
-    let way = lerc_sweep::read_sweep(s, at, h.kind, h.error);
+    let way = lerc_sweep::read_sweep(s, at, h.kind, h.error)?;
     match way {
-        WayAnswer::Raw(_start) => WalkAnswer::Refused(Refusal { number: 10, at }),
-        WayAnswer::Blocks(start) => walk_blocks(s, start, h, e, maxima, mask, &mut list[..]),
-        WayAnswer::Huffman {
+        Way::Raw(_start) => Err(Refusal { number: 10, at }),
+        Way::Blocks(start) => walk_blocks(s, start, h, e, maxima, mask, &mut list[..]),
+        Way::Huffman {
             delta: _delta,
             mode,
-        } => WalkAnswer::Refused(Refusal {
+        } => Err(Refusal {
             number: 10,
             at: mode,
         }),
-        WayAnswer::Refused(why) => WalkAnswer::Refused(why),
     }
 }
 
 // Every block of a blob checked, then the list of their starts.
-pub fn walk(blob: &[u8], h: Header, ranges: Ranges, mask: &[u8], list: &mut [usize]) -> WalkAnswer
+pub fn walk(
+    blob: &[u8],
+    h: Header,
+    ranges: Ranges,
+    mask: &[u8],
+    list: &mut [usize],
+) -> Result<Walked, Refusal>
     ensures { BlocksWalked blob.now h ranges mask.now result list.old list.new }
 {
-    let held = h.held(blob.len());
-    let HeldAnswer::Held(e) = held else {
-        return WalkAnswer::Refused(held.refusal());
-    };
+    let e = h.held(blob.len())?;
     let room = (e.mask <= mask.len()) & (e.blocks <= list.len());
     if !room {
-        return WalkAnswer::Refused(Refusal { number: 5, at: 0 });
+        return Err(Refusal { number: 5, at: 0 });
     }
-    let right = lerc_ranges::pairs(h.depth, ranges);
-    let PairsAnswer::Right = right else {
-        return WalkAnswer::Refused(right.refusal());
-    };
+    lerc_ranges::pairs(h.depth, ranges)?;
     let coded = (0 < h.valid) & !ranges.constant;
     if !coded {
-        return WalkAnswer::Refused(Refusal { number: 10, at: 0 });
+        return Err(Refusal { number: 10, at: 0 });
     }
     let size = e.size;
     let at = ranges.at;

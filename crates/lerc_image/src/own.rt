@@ -2,18 +2,18 @@
 ghost use Rattle.std.specs.Prelude.{◌≡◌, ℕ, ◌+◌, ◌-◌, ◌/◌, ◌%◌, ◌^◌, ◌≤◌, ◌<◌, eqb, get_or};
 ghost use Rattle.lerc_words.specs.Res.{marked};
 ghost use Rattle.lerc_header.specs.Limits.{depth_limit, side_limit};
-ghost use Rattle.lerc_block.specs.Block.{block_said, read_block_says, next_block};
+ghost use Rattle.lerc_block.specs.Block.{read_block_says, next_block};
 ghost use Rattle.lerc_mask.specs.Seek.{given, OnWay};
 ghost use Rattle.lerc_image.specs.Geometry.{valid_in_tile};
 ghost use Rattle.lerc_image.specs.Blocks.{all_blocks};
-ghost use Rattle.lerc_image.specs.Walk.{walk_said, walk_of};
+ghost use Rattle.lerc_image.specs.Walk.{walk_of};
 ghost use Rattle.lerc_image.specs.Parts.{TileIn, BodyAsked};
 ghost use Rattle.lerc_image.specs.Own.{own_tiles, mask_by, RowsOnWay, RowCounted, OwnAsked};
 
-use super::{Position, Tile, WalkAnswer};
-use lerc_block::BlockAnswer;
-use lerc_header::{DEPTHS, Extent, HEADER, Header, HeldAnswer, Shape};
+use super::{Position, Tile, Walked};
+use lerc_header::{DEPTHS, Extent, HEADER, Header, Shape};
 use lerc_mask::RunPlace;
+use lerc_words::Refusal;
 
 // The rows of a tile at most.
 const ROWS: usize = 16;
@@ -39,14 +39,12 @@ fn count_row(section: &[u8], want: usize, first: usize, n: usize, from: RunPlace
     ensures { RowCounted want section.now first n result }
 {
     let mut place = from;
-    let mut k: usize = 0;
     let mut found: usize = 0;
-    while k < n {
+    for k in 0..n {
         let pixel = first + k;
         let got = lerc_mask::byte_from(section, want, place, pixel / 8);
         found += bit_of(got.byte, pixel % 8);
         place = got.place;
-        k += 1;
     }
     RowFound { place, found }
 }
@@ -57,27 +55,18 @@ fn count_tile(
     t: Tile,
     section: &[u8],
     want: usize,
-    at: &mut [usize; ROWS],
-    made: &mut [usize; ROWS],
+    places: &mut [RunPlace; ROWS],
 ) -> usize
-    requires { TileIn h t × (t.h ≤ side_limit) × RowsOnWay want section.now at.old made.old }
-    ensures { (result ≡ valid_in_tile h (given want section.now) t) × RowsOnWay want section.now at.new made.new }
+    requires { TileIn h t × (t.h ≤ side_limit) × RowsOnWay want section.now places.old }
+    ensures { (result ≡ valid_in_tile h (given want section.now) t) × RowsOnWay want section.now places.new }
 {
     let mut first = t.y * h.columns + t.x;
-    let mut row: usize = 0;
     let mut found: usize = 0;
-    while row < t.h {
-        let from = RunPlace {
-            at: at[row],
-            made: made[row],
-        };
-        let got = count_row(section, want, first, t.w, from);
-        let place = got.place;
-        at[row] = place.at;
-        made[row] = place.made;
+    for row in 0..t.h {
+        let got = count_row(section, want, first, t.w, places[row]);
+        places[row] = got.place;
         found += got.found;
         first += h.columns;
-        row += 1;
     }
     found
 }
@@ -91,11 +80,10 @@ fn valid_own(
     want: usize,
     full: bool,
     before: usize,
-    at: &mut [usize; ROWS],
-    made: &mut [usize; ROWS],
+    places: &mut [RunPlace; ROWS],
 ) -> usize
-    requires { OwnAsked h t want section.now full before at.old made.old }
-    ensures { (result ≡ valid_in_tile h (mask_by full want section.now) t) × RowsOnWay want section.now at.new made.new }
+    requires { OwnAsked h t want section.now full before places.old }
+    ensures { (result ≡ valid_in_tile h (mask_by full want section.now) t) × RowsOnWay want section.now places.new }
 {
     if 0 < t.d {
         return before;
@@ -103,7 +91,7 @@ fn valid_own(
     if full {
         return t.h * t.w;
     }
-    count_tile(h, t, section, want, at, made)
+    count_tile(h, t, section, want, places)
 }
 
 // The block of a tile with `valid` valid pixels at a place, as it is judged. `check_at` says the same: with one caller each the
@@ -115,9 +103,9 @@ fn judge_at(
     t: Tile,
     valid: usize,
     maxima: &[u64; DEPTHS],
-) -> BlockAnswer
+) -> Result<usize, Refusal>
     requires { t.d < depth_limit }
-    ensures { block_said result ≡ next_block (marked at (read_block_says s.now at h.kind h.error (get_or maxima.now t.d 0) t.x valid)) }
+    ensures { result ≡ next_block (marked at (read_block_says s.now at h.kind h.error (get_or maxima.now t.d 0) t.x valid)) }
 {
     let depth = t.d;
     let most = maxima[depth];
@@ -132,44 +120,39 @@ fn check_own(
     e: Extent,
     maxima: &[u64; DEPTHS],
     section: &[u8],
-) -> WalkAnswer
+) -> Result<Walked, Refusal>
     requires { BodyAsked h e }
-    ensures { walk_said result ≡ walk_of h (all_blocks s.now h maxima.now (mask_by (eqb h.valid e.pixels) e.mask section.now) at) }
+    ensures { result ≡ walk_of h (all_blocks s.now h maxima.now (mask_by (eqb h.valid e.pixels) e.mask section.now) at) }
 {
     let shape = e.shape;
     let want = e.mask;
     let full = h.valid as usize == e.pixels;
     let mut p = Position::start();
-    let mut n: usize = 0;
     let mut next = at;
     let mut valid: usize = 0;
-    let places = &mut [0usize; ROWS];
-    let made = &mut [0usize; ROWS];
-    while n < e.blocks {
+    let places = &mut [RunPlace { at: 0, made: 0 }; ROWS];
+    for _ in 0..e.blocks {
         let t = p.current(shape);
-        valid = valid_own(shape, t, section, want, full, valid, places, made);
-        let got = judge_at(s, next, h, t, valid, maxima);
-        let BlockAnswer::Block(end) = got else {
-            return WalkAnswer::Refused(got.refusal());
-        };
-        next = end;
+        valid = valid_own(shape, t, section, want, full, valid, places);
+        next = judge_at(s, next, h, t, valid, maxima)?;
         p = p.advance(shape);
-        n += 1;
     }
-    WalkAnswer::Walked {
+    Ok(Walked {
         blocks: e.blocks,
         end: next,
-    }
+    })
 }
 
 // Every block from `at` on, judged with its values by the blob's own mask: 3, 4, 1, then block by block 1, 8, 9. Nothing is written.
-pub fn check_own_tiles(blob: &[u8], h: Header, maxima: &[u64; DEPTHS], at: usize) -> WalkAnswer
-    ensures { walk_said result ≡ walk_of h (own_tiles blob.now h maxima.now at) }
+pub fn check_own_tiles(
+    blob: &[u8],
+    h: Header,
+    maxima: &[u64; DEPTHS],
+    at: usize,
+) -> Result<Walked, Refusal>
+    ensures { result ≡ walk_of h (own_tiles blob.now h maxima.now at) }
 {
-    let held = h.held(blob.len());
-    let HeldAnswer::Held(e) = held else {
-        return WalkAnswer::Refused(held.refusal());
-    };
+    let e = h.held(blob.len())?;
     let size = e.size;
     let end = e.ranges;
     let s = &blob[..size];

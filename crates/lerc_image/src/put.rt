@@ -35,12 +35,10 @@ fn copy_row(
     requires { RowIn from w depth start image.old }
     ensures { image.new ≡ rowed every_one words.now from depth start w image.old }
 {
-    let mut c: usize = 0;
     let mut at = start;
-    while c < w {
+    for c in 0..w {
         image[at] = words[from + c];
         at += depth;
-        c += 1;
     }
 }
 
@@ -50,29 +48,25 @@ fn copy_rows(h: Shape, t: Tile, number: usize, words: &[u64; 256], image: &mut [
     ensures { FullScattered h t number words.now image.old image.new }
 {
     let mut start = (t.y * h.columns + t.x) * h.depth + t.d;
-    let mut row: usize = 0;
     let mut used: usize = 0;
-    while row < t.h {
+    for _row in 0..t.h {
         copy_row(words, used, t.w, h.depth, start, &mut image[..]);
         start += h.columns * h.depth;
         used += t.w;
-        row += 1;
     }
 }
 
-// The same where a row is eight words beside each other. Its rows are counted by another name, so that an edit can name the line.
+// The same where a row is eight words beside each other.
 fn copy_eights(h: Shape, t: Tile, number: usize, words: &[u64; 256], image: &mut [u64])
     requires { Asked h t number image.old × (t.w ≡ 8) × (h.depth ≡ 1) }
     ensures { FullScattered h t number words.now image.old image.new }
 {
     let mut start = t.y * h.columns + t.x;
-    let mut done: usize = 0;
     let mut used: usize = 0;
-    while done < t.h {
+    for _ in 0..t.h {
         copy_eight(words, used, start, &mut image[..]);
         start += h.columns;
         used += 8;
-        done += 1;
     }
 }
 
@@ -90,17 +84,15 @@ fn scatter_byte(
     ensures { (result ≡ from + count 8 (bit_set byte)) × (image.new ≡ rowed (bit_set byte) words.now from depth start 8 image.old) }
 {
     let bits = byte as usize;
-    let mut c: usize = 0;
     let mut at = start;
     let mut used = from;
-    while c < 8 {
+    for c in 0..8usize {
         let bit = (bits << c) / 128 % 2;
         let old = image[at];
         let new = words[used];
         image[at] = if bit == 1 { new } else { old };
         used += bit;
         at += depth;
-        c += 1;
     }
     used
 }
@@ -120,13 +112,11 @@ fn scatter_square(
     let step = h.columns / 8;
     let mut k = t.y * step + t.x / 8;
     let mut first = (t.y * h.columns + t.x) * h.depth + t.d;
-    let mut row: usize = 0;
     let mut used: usize = 0;
-    while row < 8 {
+    for _ in 0..8usize {
         used = scatter_byte(mask[k], words, used, h.depth, first, &mut image[..]);
         k += step;
         first += h.columns * h.depth;
-        row += 1;
     }
 }
 

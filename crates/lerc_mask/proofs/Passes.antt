@@ -3,6 +3,7 @@
 use mathlib.Core.Path.{◌≡◌, refl, sym, ◌∙◌}
 use mathlib.Core.Bool.{Bool, true, false}
 use mathlib.Core.List.{List, [], ◌++◌}
+use Rattle.std.proofs.Common.{Option, None, Some}
 use Prim.Native.Nat.{ℕ, zero, suc, ◌+◌, ◌-◌, ◌^◌, ◌≤◌, ◌<◌}
 use native.Mathlib.Omega.{arith}
 use lib.Dec.{eqb}
@@ -13,17 +14,12 @@ use Rattle.lerc_words.specs.Lists.{over}
 use Rattle.lerc_words.specs.Res.{Res, ok, fail, ◌>>=◌, require, refuse, accepts}
 use Rattle.lerc_words.specs.declared.Refusal.{Refusal}
 use Rattle.lerc_words.proofs.Little.{Bytes}
-use Rattle.lerc_mask.specs.declared.RunsAnswer.{RunsAnswer}
-use Rattle.lerc_mask.specs.declared.RunsAnswer.TheVariants as answer
 use Rattle.lerc_mask.specs.declared.Step.{Step}
 use Rattle.lerc_mask.specs.declared.Step.TheVariants.{Copy, Repeat, End, Wrong}
 use Rattle.lerc_mask.specs.declared.Walk.{Walk}
-use Rattle.lerc_mask.specs.declared.Went.{Went}
-use Rattle.lerc_mask.specs.declared.Went.TheVariants as went
-use Rattle.lerc_mask.specs.declared.Put.{Put}
-use Rattle.lerc_mask.specs.declared.Put.TheVariants as put
-use Rattle.lerc_mask.specs.Mask.{valid_below, mask_bytes, step_at, on_step, runs, mask_runs, coded, RunsUnrolled, runs_said}
-use Rattle.lerc_mask.specs.Passes.{ones_all, Countable, walked, go_on, put_on, put_out}
+use Rattle.lerc_mask.specs.declared.seek.RunPlace.{RunPlace}
+use Rattle.lerc_mask.specs.Mask.{valid_below, mask_bytes, step_at, on_step, runs, mask_runs, coded, RunsUnrolled}
+use Rattle.lerc_mask.specs.Passes.{ones_all, Countable, walked, Went, on_with, ended, go_on, put_on, put_out}
 use Rattle.lerc_mask.proofs.Tally.{all_append, all-last, all-le}
 use Rattle.lerc_mask.proofs.Steps.{bytes-append}
 use Rattle.lerc_mask.proofs.Runs.{RunsGive, Means, step-means}
@@ -66,9 +62,9 @@ last-append xs ys h =
 
 -- what an answer means, where `made` came before it
 abbrev pub Told : List ℕ → ℕ → ℕ → List ℕ → Went → Type 0
-Told s want at made (went.On n) = Going s want n × (at < n.at)
-Told s want at made went.Ended = (mask_runs want s ≡ ok made) × (length made ≡ want)
-Told s want at made went.Wrong = mask_runs want s ≡ fail (refuse 6)
+Told s want at made (on_with n) = Going s want n × (at < n.at)
+Told s want at made (ended true) = (mask_runs want s ≡ ok made) × (length made ≡ want)
+Told s want at made (ended false) = mask_runs want s ≡ fail (refuse 6)
 
 module _ (s : List ℕ) (want : ℕ) (w : Walk) (i : Going s want w) where
   going_on : (next : ℕ) (out : List ℕ) → RunsGive s want w.at i.made next out → Going s want (walked w next out) × (w.at < next)
@@ -88,7 +84,7 @@ module _ (s : List ℕ) (want : ℕ) (w : Walk) (i : Going s want w) where
         same = i.same ∙ rw (e) (g.onward f);
       }
 
-  going-by : (t : Step) → Means s want w.at i.made t → Told s want w.at i.made (on_step s w.at t went.Ended went.Wrong (λ next out. went.On (walked w next out)))
+  going-by : (t : Step) → Means s want w.at i.made t → Told s want w.at i.made (on_step s w.at t (ended true) (ended false) (λ next out. on_with (walked w next out)))
   going-by (Copy n) g = going_on _ _ g
   going-by (Repeat n) g = going_on _ _ g
   going-by End g = (i.same ∙ g.0 i.steps i.enough, let q = g.1 in let r = i.room in omega arith)
@@ -145,9 +141,9 @@ pasted made old out n e =
     rw (take_at made (drop n old) n e, take_all (length out) out (omega arith), d)
 
 -- what an answer means, where `newer` is the mask behind it
-abbrev pub Wrote : List ℕ → ℕ → List ℕ → ℕ → List ℕ → Put → Type 0
-Wrote s want old at newer (put.On next more) = Putting s want old next more newer × (at < next)
-Wrote s want old at newer put.Done = (m : List ℕ) → mask_runs want s ≡ ok m → newer ≡ over m old
+abbrev pub Wrote : List ℕ → ℕ → List ℕ → ℕ → List ℕ → Option RunPlace → Type 0
+Wrote s want old at newer (Some p) = Putting s want old p.at p.made newer × (at < p.at)
+Wrote s want old at newer None = (m : List ℕ) → mask_runs want s ≡ ok m → newer ≡ over m old
 
 module _ (s : List ℕ) (want : ℕ) (old : List ℕ) (at n : ℕ) (new : List ℕ) (i : Putting s want old at n new) where
   putting-on : (next : ℕ) (out : List ℕ) → RunsGive s want at i.made next out → Putting s want old next (n + length out) (paste new n out (length out)) × (at < next)
@@ -168,7 +164,7 @@ module _ (s : List ℕ) (want : ℕ) (old : List ℕ) (at n : ℕ) (new : List �
           }
 
   putting-by : (t : Step) → Means s want at i.made t
-      → Wrote s want old at (on_step s at t new new (λ next out. paste new n out (length out))) (on_step s at t put.Done put.Done (λ next out. put.On next (n + length out)))
+      → Wrote s want old at (on_step s at t new new (λ next out. paste new n out (length out))) (on_step s at t None None (λ next out. Some (record { at = next; made = n + length out })))
   putting-by (Copy k) g = putting-on _ _ g
   putting-by (Repeat k) g = putting-on _ _ g
   putting-by End g = λ m r.
@@ -201,19 +197,13 @@ accepts-wrong s pixels valid e = rw (e)
 
 -- ---- the whole
 
-pub unrolled-no : {m : Res (List ℕ)} {r : Refusal} {old : List ℕ} → m ≡ fail r → RunsUnrolled m (answer.Refused r) old old
+pub unrolled-no : {m : Res (List ℕ)} {r : Refusal} {old : List ℕ} → m ≡ fail r → RunsUnrolled m (fail r) old old
 unrolled-no e = rw e (record { says = refl; left = refl })
 
-pub unrolled : {m : Res (List ℕ)} (bytes : List ℕ) (n : ℕ) {old new : List ℕ} → m ≡ ok bytes → length bytes ≡ n → new ≡ over bytes old → RunsUnrolled m (answer.Mask n) old new
+pub unrolled : {m : Res (List ℕ)} (bytes : List ℕ) (n : ℕ) {old new : List ℕ} → m ≡ ok bytes → length bytes ≡ n → new ≡ over bytes old → RunsUnrolled m (ok n) old new
 unrolled bytes n e l d = rw (e, d) (record { says = rw (l); left = refl })
 
 -- ---- the promise leaves no room
 
-pub said_same : (a b : RunsAnswer) → runs_said a ≡ runs_said b → a ≡ b
-said_same (answer.Mask n) (answer.Mask m) e = let z : n ≡ m = cc in rw (z)
-said_same (answer.Mask n) (answer.Refused r) e = absurd (let z : ◌≡◌ {A = ℕ} 0 1 = cc in omega arith)
-said_same (answer.Refused r) (answer.Mask m) e = absurd (let z : ◌≡◌ {A = ℕ} 0 1 = cc in omega arith)
-said_same (answer.Refused r) (answer.Refused q) e = let z : r ≡ q = cc in rw (z)
-
-pub unrolled-same : {m : Res (List ℕ)} {a b : RunsAnswer} {old x y : List ℕ} → RunsUnrolled m a old x → RunsUnrolled m b old y → (a ≡ b) × (x ≡ y)
-unrolled-same {m} {a} {b} p q = (said_same a b (p.says ∙ sym q.says), p.left ∙ sym q.left)
+pub unrolled-same : {m : Res (List ℕ)} {a b : Res ℕ} {old x y : List ℕ} → RunsUnrolled m a old x → RunsUnrolled m b old y → (a ≡ b) × (x ≡ y)
+unrolled-same p q = (p.says ∙ sym q.says, p.left ∙ sym q.left)

@@ -1,14 +1,11 @@
 -- The validity mask and its runs: the rules, "Mask".
 -- Assumes nothing.
 use Rattle.std.specs.Prelude.{ℕ, zero, suc, ◌+◌, ◌-◌, ◌/◌, ◌%◌, ◌^◌, ◌≡◌, Bool, cond, ◌&&◌, List, [], ◌++◌, length, get_or, take, drop, replicate, leb, ltb, eqb}
-use Rattle.lerc_words.specs.declared.Refusal.{Refusal}
 use Rattle.lerc_words.specs.Res.{Res, ok, fail, ◌>>=◌, refuse, marked, require, little, after}
 use Rattle.lerc_words.specs.Lists.{count, over}
-use Rattle.lerc_slices.specs.Slices.{begins_with, accepts_with}
+use Rattle.lerc_slices.specs.Slices.{begins_with}
 use Rattle.lerc_mask.specs.declared.Step.{Step}
 use Rattle.lerc_mask.specs.declared.Step.TheVariants.{Copy, Repeat, End, Wrong}
-use Rattle.lerc_mask.specs.declared.RunsAnswer.{RunsAnswer}
-use Rattle.lerc_mask.specs.declared.RunsAnswer.TheVariants as answer
 use Rattle.lerc_mask.specs.declared.compared.RunsFound.{RunsFound}
 
 -- ---- pixels
@@ -92,20 +89,11 @@ decoded s pixels valid room = do
   _ ← require (leb (mask_bytes pixels) room) 5
   marked mask_field (coded s pixels valid)
 
-abbrev pub runs_said : RunsAnswer → Res ℕ
-runs_said (answer.Mask n) = ok n
-runs_said (answer.Refused r) = fail r
-
-abbrev pub refusal_of_runs : RunsAnswer → Refusal
-refusal_of_runs (answer.Mask n) = refuse 0
-refusal_of_runs (answer.Refused r) = r
-
 -- how long the mask is, and "the spare's first (pixels+7)/8 bytes hold the new mask"
-pub record RunsUnrolled (m : Res (List ℕ)) (r : RunsAnswer) (old new : List ℕ) : Type 0 where
-  pub says : runs_said r ≡ (m >>= λ bytes. ok (length bytes))
+pub record RunsUnrolled (m : Res (List ℕ)) (r : Res ℕ) (old new : List ℕ) : Type 0 where
+  pub says : r ≡ (m >>= λ bytes. ok (length bytes))
   pub left : new ≡ after m old (λ bytes. over bytes old)
 
--- the same answer, and whether a slice begins with the mask; after a refusal it does not
-pub record RunsCompared (m : Res (List ℕ)) (r : RunsFound) (held : List ℕ) : Type 0 where
-  pub says : runs_said r.answer ≡ (m >>= λ bytes. ok (length bytes))
-  pub same : r.same ≡ accepts_with m (λ bytes. begins_with bytes held)
+-- the same answer, and beside the length whether a slice begins with the mask
+pub record RunsCompared (m : Res (List ℕ)) (r : Res RunsFound) (held : List ℕ) : Type 0 where
+  pub says : r ≡ (m >>= λ bytes. ok (record { length = length bytes; same = begins_with bytes held }))

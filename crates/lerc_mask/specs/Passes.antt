@@ -2,19 +2,16 @@
 -- Bits of bytes, and the two passes over the runs of a section, run by run.
 -- Assumes nothing.
 use Prim.{Unit}
-use Rattle.std.specs.Prelude.{ℕ, ◌+◌, ◌-◌, ◌*◌, ◌/◌, ◌%◌, ◌^◌, ◌≤◌, ◌<◌, ◌≡◌, true, false, cond, List, [], ◌∷◌, length, get_or, take, drop}
+use Rattle.std.specs.Prelude.{ℕ, ◌+◌, ◌-◌, ◌*◌, ◌/◌, ◌%◌, ◌^◌, ◌≤◌, ◌<◌, ◌≡◌, Bool, true, false, cond, Option, None, Some, List, [], ◌∷◌, length, get_or, take, drop}
+use Rattle.std.specs.declared.ops.ControlFlow.{ControlFlow}
+use Rattle.std.specs.declared.ops.ControlFlow.TheVariants.{Continue, Break}
 use Rattle.std.specs.Int.Count.{ones}
 use Rattle.std.proofs.Math.Seq.{paste}
 use Rattle.lerc_slices.specs.Slices.{begins_with}
 use Rattle.lerc_mask.specs.declared.Step.{Step}
 use Rattle.lerc_mask.specs.declared.Step.TheVariants.{Copy, Repeat, End, Wrong}
 use Rattle.lerc_mask.specs.declared.Walk.{Walk}
-use Rattle.lerc_mask.specs.declared.Went.{Went}
-use Rattle.lerc_mask.specs.declared.Went.TheVariants as went
-use Rattle.lerc_mask.specs.declared.Put.{Put}
-use Rattle.lerc_mask.specs.declared.Put.TheVariants as put
-use Rattle.lerc_mask.specs.declared.compared.Met.{Met}
-use Rattle.lerc_mask.specs.declared.compared.Met.TheVariants as met
+use Rattle.lerc_mask.specs.declared.seek.RunPlace.{RunPlace}
 use Rattle.lerc_mask.specs.Mask.{step_at, on_step}
 
 -- n bits of a byte as a number, those behind its first `skip`
@@ -46,18 +43,37 @@ walked w next out = record {
   last = get_or out (length out - 1) 0;
 }
 
+-- go on, or end: as the runs must, or not
+abbrev pub Went : Type 0
+Went = ControlFlow Bool Walk
+
+pattern abbrev pub on_with : Walk → Went
+on_with w = Continue w
+
+pattern abbrev pub ended : Bool → Went
+ended right = Break right
+
 unfoldable pub go_on : List ℕ → Walk → Went
-go_on s w = on_step s w.at (step_at s w.at w.left) went.Ended went.Wrong (λ next out. went.On (walked w next out))
+go_on s w = on_step s w.at (step_at s w.at w.left) (ended true) (ended false) (λ next out. on_with (walked w next out))
 
 -- second pass: the bytes go to the mask, behind the `made` that are there
-unfoldable pub put_on : List ℕ → ℕ → ℕ → ℕ → Put
-put_on s at made left = on_step s at (step_at s at left) put.Done put.Done (λ next out. put.On next (made + length out))
+unfoldable pub put_on : List ℕ → ℕ → ℕ → ℕ → Option RunPlace
+put_on s at made left = on_step s at (step_at s at left) None None (λ next out. Some (record { at = next; made = made + length out }))
 
 unfoldable pub put_out : List ℕ → ℕ → ℕ → ℕ → List ℕ → List ℕ
 put_out s at made left old = on_step s at (step_at s at left) old old (λ next out. paste old made out (length out))
 
 -- the same pass where the bytes are compared with those that are held: one run that differs decides
+abbrev pub Met : Type 0
+Met = ControlFlow Bool RunPlace
+
+pattern abbrev pub met_on : RunPlace → Met
+met_on p = Continue p
+
+pattern abbrev pub met_all : Bool → Met
+met_all same = Break same
+
 unfoldable pub meet_on : List ℕ → ℕ → ℕ → ℕ → List ℕ → Met
 meet_on s at made left held =
-    on_step s at (step_at s at left) (met.Done true) (met.Done false)
-    (λ next out. cond (begins_with out (drop made held)) (met.On next (made + length out)) (met.Done false))
+    on_step s at (step_at s at left) (met_all true) (met_all false)
+    (λ next out. cond (begins_with out (drop made held)) (met_on (record { at = next; made = made + length out })) (met_all false))

@@ -5,25 +5,25 @@ ghost use Rattle.lerc_slices.specs.Slices.{begins_with};
 ghost use Rattle.lerc_mask.specs.Mask.{mask_runs, decoded, RunsCompared};
 ghost use Rattle.lerc_mask.specs.Passes.{meet_on};
 
-use super::{MASK_FIELD, RunsAnswer, Step, bytes_for, check, read_step};
+use super::{MASK_FIELD, RunPlace, Step, bytes_for, check, read_step};
 use lerc_words::Refusal;
+use std::ops::ControlFlow;
 
-// Whether a slice begins with the mask that a section of runs gives, beside how long that is.
-#[derive(Clone, Copy)]
+// How long the mask is that a section of runs gives, and whether a slice begins with it.
+#[derive(Clone, Copy, Debug, PartialEq, Eq)]
 pub struct RunsFound {
-    pub answer: RunsAnswer,
+    pub length: usize,
     pub same: bool,
 }
 
-// The second pass between two runs that are held: the place in the section, and in the mask; or whether all are.
-#[derive(Clone, Copy)]
-enum Met {
-    On(usize, usize),
-    Done(bool),
-}
-
-// second pass, one run: its bytes are held at `made`
-fn meet_run(s: &[u8], at: usize, made: usize, left: usize, held: &[u8]) -> Met
+// second pass, one run: whether its bytes are held at `made`; the place behind it, or whether all are held
+fn meet_run(
+    s: &[u8],
+    at: usize,
+    made: usize,
+    left: usize,
+    held: &[u8],
+) -> ControlFlow<bool, RunPlace>
     requires { made + left ≤ length held.now }
     ensures { result ≡ meet_on s.now at made left held.now }
 {
@@ -34,19 +34,25 @@ fn meet_run(s: &[u8], at: usize, made: usize, left: usize, held: &[u8]) -> Met
             let next = from + n;
             let end = made + n;
             if !lerc_slices::begins_with(&held[made..end], &s[from..next]) {
-                return Met::Done(false);
+                return ControlFlow::Break(false);
             }
-            Met::On(next, end)
+            ControlFlow::Continue(RunPlace {
+                at: next,
+                made: end,
+            })
         }
         Step::Repeat(n) => {
             let end = made + n;
             if !lerc_slices::all_bytes(s[at + 2], &held[made..end]) {
-                return Met::Done(false);
+                return ControlFlow::Break(false);
             }
-            Met::On(at + 3, end)
+            ControlFlow::Continue(RunPlace {
+                at: at + 3,
+                made: end,
+            })
         }
-        Step::End => Met::Done(true),
-        Step::Wrong => Met::Done(false),
+        Step::End => ControlFlow::Break(true),
+        Step::Wrong => ControlFlow::Break(false),
     }
 }
 
@@ -55,42 +61,38 @@ fn is_held(s: &[u8], want: usize, held: &[u8]) -> bool
     requires { want ≤ length held.now }
     ensures { (m : List ℕ) → mask_runs want s.now ≡ ok m → result ≡ begins_with m held.now }
 {
-    let mut at = 0;
-    let mut made = 0;
+    let mut place = RunPlace { at: 0, made: 0 };
     loop {
-        let run = meet_run(s, at, made, want - made, held);
-        match run {
-            Met::On(next, more) => {
-                at = next;
-                made = more;
+        match meet_run(s, place.at, place.made, want - place.made, held) {
+            ControlFlow::Continue(next) => {
+                place = next;
             }
-            Met::Done(same) => return same,
+            ControlFlow::Break(same) => return same,
         }
     }
 }
 
 // as `decode`, but the mask is compared with what is held, and nothing is written
-pub fn compare(section: &[u8], pixels: usize, valid: usize, held: &[u8]) -> RunsFound
+pub fn compare(
+    section: &[u8],
+    pixels: usize,
+    valid: usize,
+    held: &[u8],
+) -> Result<RunsFound, Refusal>
     ensures { RunsCompared (decoded section.now pixels valid (length held.now)) result held.now }
 {
     let want = bytes_for(pixels);
     if held.len() < want {
-        return RunsFound {
-            answer: RunsAnswer::Refused(Refusal { number: 5, at: 0 }),
-            same: false,
-        };
+        return Err(Refusal { number: 5, at: 0 });
     }
     if check(section, pixels, valid) {
-        return RunsFound {
-            answer: RunsAnswer::Mask(want),
+        return Ok(RunsFound {
+            length: want,
             same: is_held(section, want, held),
-        };
+        });
     }
-    RunsFound {
-        answer: RunsAnswer::Refused(Refusal {
-            number: 6,
-            at: MASK_FIELD,
-        }),
-        same: false,
-    }
+    Err(Refusal {
+        number: 6,
+        at: MASK_FIELD,
+    })
 }

@@ -1,11 +1,8 @@
 -- "Kinds 0 to 7: i8, u8, i16, u16, i32, u32, f32, f64." A kind above 7 counts as 7: no header has one.
 -- Assumes nothing.
 use Rattle.std.specs.Prelude.{Bool, ◌&&◌, cond, [], ◌∷◌, ℕ, ◌+◌, ◌-◌, ◌*◌, ◌/◌, ◌%◌, ◌^◌, min, get_or, leb, ltb, eqb}
-use Rattle.lerc_words.specs.Res.{Res, ok, fail, ◌>>=◌, refuse, require}
-use Rattle.lerc_words.specs.declared.Refusal.{Refusal}
+use Rattle.lerc_words.specs.Res.{Res, ok, ◌>>=◌, require}
 use Rattle.lerc_numeric.specs.Numeric.{negative, field, finite, mag, signed, bits64, bits32}
-use Rattle.lerc_numeric.specs.declared.IntegerAnswer.{IntegerAnswer}
-use Rattle.lerc_numeric.specs.declared.IntegerAnswer.TheVariants.{Word, Refused}
 
 -- ---- sizes
 
@@ -65,13 +62,3 @@ unfoldable pub cut : ℕ → ℕ → Res ℕ
 cut kind w = do
   _ ← require (ltb kind 6 && finite w && ltb (whole w) (bound kind (negative w))) 9
   ok (cond (negative w) ((modulus kind - whole w) % modulus kind) (whole w))
-
--- ---- the answer of `to_integer`
-
-abbrev pub integer_said : IntegerAnswer → Res ℕ
-integer_said (Word v) = ok v
-integer_said (Refused r) = fail r
-
-abbrev pub refusal_of_integer : IntegerAnswer → Refusal
-refusal_of_integer (Word v) = refuse 0
-refusal_of_integer (Refused r) = r

@@ -6,7 +6,6 @@ ghost use Rattle.lerc_numeric.specs.Kinds.{narrowed};
 ghost use Rattle.lerc_numeric.specs.Steps.{step_of, mapped};
 
 use super::clamp::{step, step_words};
-use super::lengths::shorter;
 use super::machine;
 use super::single::{is_normal, narrow_alike, narrow_words};
 
@@ -24,11 +23,8 @@ fn largest(bits: usize) -> u32
 fn all_words(offset: u64, error: u64, top: u64, low: u32, counts: &[u32], out: &mut [u64])
     ensures { out.new ≡ mapped (λ c. step_of offset error top (bit_and c low)) counts.now out.old }
 {
-    let n = shorter(counts.len(), out.len());
-    let mut k = 0;
-    while k < n {
+    for k in 0..out.len().min(counts.len()) {
         out[k] = step_words(offset, error, top, counts[k] & low);
-        k += 1;
     }
 }
 
@@ -65,7 +61,7 @@ pub fn single_steps(offset: u64, error: u64, top: u64, bits: usize, counts: &[u3
     ensures { out.new ≡ mapped (λ c. narrowed (step_of offset error top (c % 2 ^ bits))) counts.now out.old }
 {
     steps(offset, error, top, bits, counts, &mut out[..]);
-    let n = shorter(counts.len(), out.len());
+    let n = out.len().min(counts.len());
     let sign = normal_sign(offset, error, top, largest(bits));
     if sign < 2 {
         narrow_alike(sign, &mut out[..n]);

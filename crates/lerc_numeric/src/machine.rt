@@ -7,7 +7,6 @@ ghost use Rattle.lerc_numeric.specs.Inside.{error_end};
 ghost use Rattle.lerc_numeric.specs.Numeric.{field, sum, scaled, lesser};
 ghost use Rattle.lerc_numeric.specs.Steps.{step_of, mapped};
 
-use super::lengths::shorter;
 use super::order::is_finite;
 
 // `false` where the float unit is not to be trusted: then all is computed over whole numbers. No promise tells which it is,
@@ -76,11 +75,8 @@ fn steps_free(offset: u64, error: u64, low: u32, counts: &[u32], out: &mut [u64]
     requires { (field offset < 2047) × (error < error_end) }
     ensures { out.new ≡ mapped (λ c. sum offset (scaled error (bit_and c low))) counts.now out.old }
 {
-    let n = shorter(counts.len(), out.len());
-    let mut k = 0;
-    while k < n {
+    for k in 0..out.len().min(counts.len()) {
         out[k] = f64::to_bits(moved(offset, error, counts[k] & low));
-        k += 1;
     }
 }
 
@@ -88,11 +84,8 @@ fn steps_clamped(offset: u64, error: u64, top: u64, low: u32, counts: &[u32], ou
     requires { (field offset < 2047) × (error < error_end) × (field top < 2047) }
     ensures { out.new ≡ mapped (λ c. step_of offset error top (bit_and c low)) counts.now out.old }
 {
-    let n = shorter(counts.len(), out.len());
-    let mut k = 0;
-    while k < n {
+    for k in 0..out.len().min(counts.len()) {
         out[k] = step(offset, error, top, counts[k] & low);
-        k += 1;
     }
 }
 

@@ -57,13 +57,8 @@ fn agrees(offset: u64, error: u64, top: u64, q: u32) -> bool
 pub fn float_ready(mix: u64) -> bool
     ensures { result ≡ true }
 {
-    let mut all = true;
-    let mut k = 0;
-    while k < ROWS {
-        let row = TELLING[k];
+    TELLING.iter().all(|row| {
         let q = (row[3] ^ mix) % 0x1_0000_0000;
-        all = all & agrees(row[0] ^ mix, row[1] ^ mix, row[2] ^ mix, q as u32);
-        k += 1;
-    }
-    all
+        agrees(row[0] ^ mix, row[1] ^ mix, row[2] ^ mix, q as u32)
+    })
 }

@@ -75,28 +75,24 @@ pub fn narrow(v: u64) -> u32
     }
 }
 
-// normal words of one sign, which is known: no word's own is read
+// normal words of one sign, which is known
 pub(crate) fn narrow_alike(sign: u64, words: &mut [u64])
     requires { (k : ℕ) → k < length words.old → (Inside.normal32 (get_or words.old k 0) ≡ true) × (sign ≡ Inside.sign_of (get_or words.old k 0)) }
     ensures { words.new ≡ mapped narrowed words.old words.old }
 {
-    let n = words.len();
-    let mut k = 0;
-    while k < n {
-        words[k] = round_normal(words[k], sign);
-        k += 1;
+    // no word's own sign is read
+    for word in words.iter_mut() {
+        *word = round_normal(*word, sign);
     }
 }
 
 fn each_normal(words: &[u64]) -> bool
     ensures { result ≡ true → (k : ℕ) → k < length words.now → Inside.normal32 (get_or words.now k 0) ≡ true }
 {
-    let n = words.len();
+    // each is asked, so that the loop can be made wide: `Iterator::all` stops at the first that is not
     let mut all = true;
-    let mut k = 0;
-    while k < n {
-        all = all & is_normal(words[k]);
-        k += 1;
+    for word in words {
+        all &= is_normal(*word);
     }
     all
 }
@@ -106,27 +102,22 @@ fn narrow_normal(words: &mut [u64])
     requires { (k : ℕ) → k < length words.old → Inside.normal32 (get_or words.old k 0) ≡ true }
     ensures { words.new ≡ mapped narrowed words.old words.old }
 {
-    let n = words.len();
-    let mut k = 0;
-    while k < n {
-        words[k] = round_signed(words[k]);
-        k += 1;
+    // no word is asked whether it is normal
+    for word in words.iter_mut() {
+        *word = round_signed(*word);
     }
 }
 
 fn narrow_each(words: &mut [u64])
     ensures { words.new ≡ mapped narrowed words.old words.old }
 {
-    let n = words.len();
-    let mut k = 0;
-    while k < n {
-        let word = words[k];
-        words[k] = if is_normal(word) {
-            round_signed(word)
+    // each word is asked, and has the quick branch where it is normal
+    for word in words.iter_mut() {
+        *word = if is_normal(*word) {
+            round_signed(*word)
         } else {
-            narrow_any(word) as u64
+            narrow_any(*word) as u64
         };
-        k += 1;
     }
 }
 

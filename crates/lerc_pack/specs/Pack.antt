@@ -1,14 +1,9 @@
 -- The pack reader: which bytes are a pack, and what its tiles are. "A breach is new refusal 12."
 -- Assumes nothing.
 use Rattle.std.specs.Prelude.{ℕ, suc, ◌+◌, Bool, ◌&&◌, ◌||◌, List, [], length, take, drop, leb, ltb, eqb}
-use Rattle.lerc_words.specs.declared.Refusal.{Refusal}
-use Rattle.lerc_words.specs.Res.{Res, ok, fail, ◌>>=◌, require, refuse, little}
+use Rattle.lerc_words.specs.Res.{Res, ok, fail, ◌>>=◌, require, little}
 use Rattle.lerc_words.specs.Lists.{all_to, tabulate}
 use Rattle.lerc_pack.specs.declared.Entry.{Entry}
-use Rattle.lerc_pack.specs.declared.EntryAnswer.{EntryAnswer}
-use Rattle.lerc_pack.specs.declared.EntryAnswer.TheVariants as entry-answer
-use Rattle.lerc_pack.specs.declared.PackAnswer.{PackAnswer}
-use Rattle.lerc_pack.specs.declared.PackAnswer.TheVariants as pack-answer
 use Rattle.lerc_pack.specs.Contents.{Tile, version, tile_limit, entry_place, body_end, body_place, tiles_right}
 
 -- "a 4-byte count .., little-endian", behind version and zeros
@@ -99,21 +94,3 @@ start_says b n i = start_said (entry_says b n i)
 -- so many bytes behind a place in memory, which is a block and an offset in it
 abbrev pub behind : ℕ × ℕ → ℕ → ℕ × ℕ
 behind (block, offset) n = (block, n + offset)
-
--- ---- answers
-
-abbrev pub pack_said : PackAnswer → Res ℕ
-pack_said (pack-answer.Opened n) = ok n
-pack_said (pack-answer.Refused r) = fail r
-
-abbrev pub refusal_of_pack : PackAnswer → Refusal
-refusal_of_pack (pack-answer.Opened n) = refuse 0
-refusal_of_pack (pack-answer.Refused r) = r
-
-abbrev pub entry_said : EntryAnswer → Res Entry
-entry_said (entry-answer.Read e) = ok e
-entry_said (entry-answer.Refused r) = fail r
-
-abbrev pub refusal_of_entry : EntryAnswer → Refusal
-refusal_of_entry (entry-answer.Read e) = refuse 0
-refusal_of_entry (entry-answer.Refused r) = r

@@ -18,7 +18,7 @@ pub const HEAD: usize = 8;
 // The bytes of an entry.
 pub const ENTRY: usize = 16;
 
-#[derive(Clone, Copy)]
+#[derive(Clone, Copy, Debug, PartialEq, Eq)]
 pub struct Entry {
     pub row: u16,
     pub column: u16,
@@ -28,105 +28,64 @@ pub struct Entry {
     pub length: usize,
 }
 
-#[derive(Clone, Copy)]
-pub enum PackAnswer {
-    Opened(usize),
-    Refused(Refusal),
-}
-
-#[derive(Clone, Copy)]
-pub enum EntryAnswer {
-    Read(Entry),
-    Refused(Refusal),
-}
-
-impl PackAnswer {
-    // why it was refused; number 0 where it was not
-    pub fn refusal(self) -> Refusal
-        ensures { result ≡ Reading.refusal_of_pack self }
-    {
-        match self {
-            PackAnswer::Opened(_n) => Refusal { number: 0, at: 0 },
-            PackAnswer::Refused(why) => why,
-        }
-    }
-}
-
-impl EntryAnswer {
-    // why it was refused; number 0 where it was not
-    pub fn refusal(self) -> Refusal
-        ensures { result ≡ Reading.refusal_of_entry self }
-    {
-        match self {
-            EntryAnswer::Read(_e) => Refusal { number: 0, at: 0 },
-            EntryAnswer::Refused(why) => why,
-        }
-    }
-}
-
 // ---- plain functions, on slice and number
 
 // The whole pack is judged, every header and checksum included: how many tiles it has.
-pub fn open_pack(pack: &[u8]) -> PackAnswer
-    ensures { Reading.pack_said result ≡ Reading.pack_says pack.now }
+pub fn open_pack(pack: &[u8]) -> Result<usize, Refusal>
+    ensures { result ≡ Reading.pack_says pack.now }
 {
     if !table::head_right(pack) {
-        return PackAnswer::Refused(Refusal { number: 12, at: 0 });
+        return Err(Refusal { number: 12, at: 0 });
     }
     let count = table::count_of(pack);
     if !table::entries_right(pack, count) {
-        return PackAnswer::Refused(Refusal { number: 12, at: 0 });
+        return Err(Refusal { number: 12, at: 0 });
     }
-    PackAnswer::Opened(count)
+    Ok(count)
 }
 
 // the count of an accepted pack, 0 of a refused one
 pub fn count_tiles(pack: &[u8]) -> usize
     ensures { result ≡ Reading.count_in pack.now }
 {
-    let said = open_pack(pack);
-    let PackAnswer::Opened(count) = said else {
-        return 0;
-    };
-    count
+    open_pack(pack).unwrap_or(0)
 }
 
 // What opening said, by the count that it left; the tiles are not judged again.
-pub fn pack_answer(pack: &[u8], count: usize) -> PackAnswer
-    ensures { Reading.pack_said result ≡ Reading.opened_says pack.now count }
+pub fn pack_answer(pack: &[u8], count: usize) -> Result<usize, Refusal>
+    ensures { result ≡ Reading.opened_says pack.now count }
 {
     let right = table::head_right(pack)
         & (count == table::count_of(pack))
         & ((0 < count) | (pack.len() == HEAD));
     if !right {
-        return PackAnswer::Refused(Refusal { number: 12, at: 0 });
+        return Err(Refusal { number: 12, at: 0 });
     }
-    PackAnswer::Opened(count)
+    Ok(count)
 }
 
 // The i-th entry of a pack that has `count`: its own bytes, where they and its body lie in the slice.
-pub fn entry_in(pack: &[u8], count: usize, i: usize) -> EntryAnswer
-    ensures { Reading.entry_said result ≡ Reading.entry_says pack.now count i }
+pub fn entry_in(pack: &[u8], count: usize, i: usize) -> Result<Entry, Refusal>
+    ensures { result ≡ Reading.entry_says pack.now count i }
 {
     if count <= i {
-        return EntryAnswer::Refused(Refusal { number: 12, at: 0 });
+        return Err(Refusal { number: 12, at: 0 });
     }
     if !table::holds_entry(pack.len(), i) {
-        return EntryAnswer::Refused(Refusal { number: 12, at: 0 });
+        return Err(Refusal { number: 12, at: 0 });
     }
     let entry = table::entry_at(pack, i);
     if pack.len() < entry.start + entry.length {
-        return EntryAnswer::Refused(Refusal { number: 12, at: 0 });
+        return Err(Refusal { number: 12, at: 0 });
     }
-    EntryAnswer::Read(entry)
+    Ok(entry)
 }
 
 // the blob of the i-th entry: the part of the pack that its start and length say, and an empty one where the entry is refused
 pub fn body_in<'a>(pack: &'a [u8], count: usize, i: usize) -> &'a [u8]
     ensures { (result.now ≡ Reading.body_says pack.now count i) × (result.ref_ptr ≡ Reading.behind pack.entry.ref_ptr (Reading.start_says pack.now count i)) }
 {
-    let said = entry_in(pack, count, i);
-    let EntryAnswer::Read(entry) = said else {
+    let Ok(entry) = entry_in(pack, count, i) else {
         return &pack[..0];
     };
     let start = entry.start;
@@ -154,8 +113,8 @@ impl<'a> Pack<'a> {
     }
 
     // what opening said
-    pub fn answer(self) -> PackAnswer
-        ensures { Reading.pack_said result ≡ Reading.opened_says self.entry.bytes.now self.entry.count }
+    pub fn answer(self) -> Result<usize, Refusal>
+        ensures { result ≡ Reading.opened_says self.entry.bytes.now self.entry.count }
     {
         pack_answer(self.bytes, self.count)
     }
@@ -166,8 +125,8 @@ impl<'a> Pack<'a> {
         self.count
     }
 
-    pub fn entry(self, i: usize) -> EntryAnswer
-        ensures { Reading.entry_said result ≡ Reading.entry_says self.entry.bytes.now self.entry.count i }
+    pub fn entry(self, i: usize) -> Result<Entry, Refusal>
+        ensures { result ≡ Reading.entry_says self.entry.bytes.now self.entry.count i }
     {
         entry_in(self.bytes, self.count, i)
     }

@@ -105,8 +105,7 @@ pub(crate) fn entries_right(pack: &[u8], count: usize) -> bool
 {
     let mut at = HEAD + ENTRY * count;
     let mut least = 0;
-    let mut i = 0;
-    while i < count {
+    for i in 0..count {
         let e = entry_at(pack, i);
         let right = zeros_right(pack, i)
             & (e.depth <= DEPTHS)
@@ -121,7 +120,6 @@ pub(crate) fn entries_right(pack: &[u8], count: usize) -> bool
         }
         at = e.start + e.length;
         least = key(e.row, e.column) + 1;
-        i += 1;
     }
     at == pack.len()
 }

@@ -17,12 +17,10 @@ use Rattle.lerc_words.proofs.Tables.{get_d_tabulate, length-tabulate}
 use Rattle.lerc_header.specs.Header.{header_of}
 use Rattle.lerc_image.specs.Paint.{among}
 use Rattle.lerc_pack.specs.Contents.{entry_place, body_place, tiles_right}
-use Rattle.lerc_pack.specs.Pack.{count_of, head_right, entry_at, body_of, tile_of, contents, pack_says, pack_said, count_said, opened_says, entry_says, entry_said, body_says, body_said}
+use Rattle.lerc_pack.specs.Pack.{count_of, head_right, entry_at, body_of, tile_of, contents, pack_says, count_said, opened_says, entry_says, body_says, body_said}
 use Rattle.lerc_pack.proofs.Joined.{joined_same}
-use Rattle.lerc_pack_writer.specs.declared.WriteAnswer.TheVariants as write-answer
-use Rattle.lerc_pack_writer.specs.declared.WriteAnswer.{WriteAnswer}
 use Rattle.lerc_pack_theorems.specs.Calls.{WriteCall}
-use Rattle.lerc_pack_writer.specs.Writing.{Given, tile_given, given_right, adds_up, pack_length, pack_given, write_says, write_said}
+use Rattle.lerc_pack_writer.specs.Writing.{Given, tile_given, given_right, adds_up, pack_length, pack_given, write_says}
 use Rattle.lerc_theorems.specs.Table.{HeaderRefused, WholeRefused, whole-header, whole_room, whole-mask, whole-body}
 use Rattle.lerc_theorems.specs.Writes.{AlikeFrom}
 use Rattle.lerc_theorems.proofs.Headers.{header-exactly}
@@ -31,7 +29,7 @@ use Rattle.lerc_staged.proofs.InTwo.{stage-refuses}
 use Rattle.lerc_pack_theorems.specs.Table.{EntryRefused, number_past, entry_past, body-past}
 use Rattle.lerc_pack_theorems.specs.Packs as claimed
 use Rattle.lerc_pack_theorems.specs.Packs.{PackClaims}
-use Rattle.lerc_pack_theorems.proofs.Calls.{open-call, entry-call, body_call, write-call, pack-same, entry-same, write_same}
+use Rattle.lerc_pack_theorems.proofs.Calls.{open-call, entry-call, body_call, write-call}
 use Rattle.lerc_pack_theorems.proofs.Opened.{Opened, pack-opened, pack-refused, body-inside}
 use Rattle.lerc_pack_theorems.proofs.OneToOne as one
 use Rattle.lerc_pack_theorems.proofs.Writer.{given-says, given-contents, given-length, write-taken, write_again}
@@ -42,15 +40,12 @@ no-room-left : claimed.PacksNoRoom
 no-room-left =
     record {
       is-tile = record { asks_nothing = λ k a. tt; same = λ k a r q x y p s. (p ∙ sym s, refl) };
-      pack-refusal = record { asks_nothing = λ k a. tt; same = λ k a r q x y p s. (p ∙ sym s, refl) };
-      entry-refusal = record { asks_nothing = λ k a. tt; same = λ k a r q x y p s. (p ∙ sym s, refl) };
-      open-pack = record { asks_nothing = λ k a. tt; same = λ k a r q x y p s. (pack-same r q (p ∙ sym s), refl) };
+      open-pack = record { asks_nothing = λ k a. tt; same = λ k a r q x y p s. ((p ∙ sym s), refl) };
       count-tiles = record { asks_nothing = λ k a. tt; same = λ k a r q x y p s. (p ∙ sym s, refl) };
-      pack-answer = record { asks_nothing = λ k a. tt; same = λ k a r q x y p s. (pack-same r q (p ∙ sym s), refl) };
-      entry_in = record { asks_nothing = λ k a. tt; same = λ k a r q x y p s. (entry-same r q (p ∙ sym s), refl) };
+      pack-answer = record { asks_nothing = λ k a. tt; same = λ k a r q x y p s. ((p ∙ sym s), refl) };
+      entry_in = record { asks_nothing = λ k a. tt; same = λ k a r q x y p s. ((p ∙ sym s), refl) };
       body-in = record { asks_nothing = λ k a. tt; same = λ k a r q x y p s. (pair (p.0 ∙ sym s.0) (p.1 ∙ sym s.1), refl) };
-      write-refusal = record { asks_nothing = λ k a. tt; same = λ k a r q x y p s. (p ∙ sym s, refl) };
-      write-pack = record { asks_nothing = λ k a. tt; same = λ k a r q x y p s. (write_same r q (p.says ∙ sym s.says), p.out ∙ sym s.out) };
+      write-pack = record { asks_nothing = λ k a. tt; same = λ k a r q x y p s. ((p.says ∙ sym s.says), p.out ∙ sym s.out) };
     }
   where
     pair : {A B : Type 0} {a b : A} {x y : B} → a ≡ b → x ≡ y → ◌≡◌ {A = A × B} (a, x) (b, y)
@@ -61,17 +56,17 @@ no-room-left =
 open-refuses : claimed.OpenRefuses
 open-refuses b said why bytes c =
     let (to, from) = pack-exactly b bytes why in
-    (λ e. to (sym (open-call c) ∙ ap pack_said e), λ w. pack-same said _ (open-call c ∙ from w))
+    (λ e. to (sym (open-call c) ∙ e), λ w. (open-call c ∙ from w))
 
 entry-refuses : claimed.EntryRefuses
 entry-refuses b n i said why c =
     let (to, from) = entry-exactly b n i why in
-    (λ e. to (sym (entry-call c) ∙ ap entry_said e), λ w. entry-same said _ (entry-call c ∙ from w))
+    (λ e. to (sym (entry-call c) ∙ e), λ w. (entry-call c ∙ from w))
 
 write-refuses : claimed.WriteRefuses
 write-refuses g said why old new twos c =
     let (to, from) = write-exactly g twos (length old) why in
-    (λ e. to (sym (write-call c).says ∙ ap write_said e), λ w. write_same said _ ((write-call c).says ∙ from w))
+    (λ e. to (sym (write-call c).says ∙ e), λ w. ((write-call c).says ∙ from w))
 
 write_keeps : claimed.WriteKeeps
 write_keeps g why old new c = let p = write-call c in p.out ∙ rw (sym p.says)
@@ -107,7 +102,7 @@ same_bytes : claimed.SameBytes
 same_bytes = one.same_bytes
 
 pack-holds : claimed.PackHolds
-pack-holds ts said h c = let (says, is) = one.read-written ts h in (pack-same said _ (open-call c ∙ says), is)
+pack-holds ts said h c = let (says, is) = one.read-written ts h in ((open-call c ∙ says), is)
 
 contents-hold : claimed.ContentsHold
 unfolding contents
@@ -119,12 +114,12 @@ contents-hold b n bytes c =
 empty-pack : claimed.EmptyPack
 empty-pack b said bytes c =
     let (to, from) = one.empty-alone b bytes in
-    (λ e. to (sym (open-call c) ∙ ap pack_said e), λ e. pack-same said _ (open-call c ∙ from e))
+    (λ e. to (sym (open-call c) ∙ e), λ e. (open-call c ∙ from e))
 
 -- ---- reader and writer
 
 -- what was written is in front of the buffer
-module _ {g : Given} {n : ℕ} {old new : List ℕ} (c : WriteCall g (write-answer.Written n) old new) where
+module _ {g : Given} {n : ℕ} {old new : List ℕ} (c : WriteCall g (ok n) old new) where
   says : write_says g (length old) ≡ ok n
   says = sym (write-call c).says
 
@@ -140,13 +135,13 @@ module _ {g : Given} {n : ℕ} {old new : List ℕ} (c : WriteCall g (write-answ
 read-written : claimed.ReadWritten
 read-written g n old new said w c =
     let e = front w in
-    (pack-same said _ (open-call c ∙ ap pack_says e ∙ given-says g (length old) n (says w)), ap contents e ∙ given-contents g (length old) n (says w))
+    ((open-call c ∙ ap pack_says e ∙ given-says g (length old) n (says w)), ap contents e ∙ given-contents g (length old) n (says w))
 
 written_read : claimed.WrittenRead
 written_read b n said old new bytes o room w =
     let (again, same) = write_again b n (length old) bytes (sym (open-call o)) room in
-    let is : said ≡ write-answer.Written (length b) = write_same said _ ((write-call w).says ∙ again) in
-    (is, front (subst (λ (r : WriteAnswer). WriteCall (claimed.given_of b) r old new) is w) ∙ same)
+    let is : said ≡ ok (length b) = ((write-call w).says ∙ again) in
+    (is, front (subst (λ (r : Res ℕ). WriteCall (claimed.given_of b) r old new) is w) ∙ same)
 
 -- a front put over a list that is as long or longer
 alike-over : (list old : List ℕ) → length list ≤ length old → AlikeFrom (length list) old (over list old)
@@ -209,7 +204,7 @@ tile-handed b n i said place at part o l e c =
     let (holds, stands) = body_call c in
     let here : part ≡ body_of b (entry_at b i) = holds ∙ rw (is) in
     let tile : get_or (contents b) i (tile_of b i) ≡ tile_of b i = get_d_tabulate (count_of b) (tile_of b) i (tile_of b i) (omega (arith, (pack-opened b p).0, l)) in
-    (entry-same said _ (entry-call e ∙ is), rw (here) (sym tile), stands ∙ rw (is))
+    ((entry-call e ∙ is), rw (here) (sym tile), stands ∙ rw (is))
 
 refused-empty : claimed.RefusedEmpty
 refused-empty b n i why place at part e c =

@@ -3,7 +3,7 @@
 -- Assumes nothing.
 use Rattle.std.specs.Prelude.{ℕ, ◌≤◌, ◌<◌, ◌≡◌, ◌↔◌, Bool, true, List, [], ◌∷◌, length, get_or, take, drop}
 use Rattle.lerc_words.specs.declared.Refusal.{Refusal}
-use Rattle.lerc_words.specs.Res.{ok}
+use Rattle.lerc_words.specs.Res.{ok, Res, fail}
 use Rattle.lerc_words.specs.Lists.{tabulate}
 use Rattle.lerc_words.proofs.Little.{Bytes}
 use Rattle.lerc_header.specs.declared.Header.{Header}
@@ -11,26 +11,16 @@ use Rattle.lerc_header.specs.Header.{header_says}
 use Rattle.lerc_header.proofs.is_tile.Reads as is-tile
 use Rattle.lerc_image.specs.Paint.{among}
 use Rattle.lerc_pack.specs.declared.Entry.{Entry}
-use Rattle.lerc_pack.specs.declared.PackAnswer.{PackAnswer}
-use Rattle.lerc_pack.specs.declared.PackAnswer.TheVariants as pack-answer
-use Rattle.lerc_pack.specs.declared.EntryAnswer.{EntryAnswer}
-use Rattle.lerc_pack.specs.declared.EntryAnswer.TheVariants as entry-answer
 use Rattle.lerc_pack.specs.Contents.{Tile, entry_place, contents_right, joined, pack_bytes}
 use Rattle.lerc_pack.specs.Pack.{count_of, entry_at, tile_of, contents, pack_says, count_in, opened_says, body_says, behind}
-use Rattle.lerc_pack.proofs.PackAnswer.refusal.Reads as pack-refusal
-use Rattle.lerc_pack.proofs.EntryAnswer.refusal.Reads as entry-refusal
 use Rattle.lerc_pack.proofs.open_pack.Reads as open-pack
 use Rattle.lerc_pack.proofs.count_tiles.Reads as count-tiles
 use Rattle.lerc_pack.proofs.pack_answer.Reads as pack-answering
 use Rattle.lerc_pack.proofs.entry_in.Reads as entry_in
 use Rattle.lerc_pack.proofs.body_in.Reads as body-in
-use Rattle.lerc_pack_writer.specs.declared.WriteAnswer.{WriteAnswer}
-use Rattle.lerc_pack_writer.specs.declared.WriteAnswer.TheVariants as write-answer
 use Rattle.lerc_pack_writer.specs.Writing.{Given, tile_given, pack_length, pack_given}
 use Rattle.lerc_pack_writer.proofs.Judging.{Twos}
-use Rattle.lerc_pack_writer.proofs.WriteAnswer.refusal.Reads as write-refusal
 use Rattle.lerc_pack_writer.proofs.write_pack.Reads as write-pack
-use Rattle.lerc.specs.declared.StageAnswer.TheVariants as stage-answer
 use Rattle.lerc.specs.Read.{Lent}
 use Rattle.lerc_theorems.specs.Promises.{Fixed, Answers, Writes}
 use Rattle.lerc_theorems.specs.Table.{HeaderRefused}
@@ -45,65 +35,62 @@ use Rattle.lerc_pack_theorems.specs.Calls.{OpenCall, EntryCall, BodyCall, WriteC
 -- each public function of both crates, and the judge of a tile's header; but for the methods of `Pack`, whose promises say the answer by the same definitions, of slice and count
 pub record PacksNoRoom : Type 0 where
   pub is-tile : Answers is-tile.Pre is-tile.Post
-  pub pack-refusal : Answers pack-refusal.Pre pack-refusal.Post
-  pub entry-refusal : Answers entry-refusal.Pre entry-refusal.Post
   pub open-pack : Answers open-pack.Pre open-pack.Post
   pub count-tiles : Answers count-tiles.Pre count-tiles.Post
   pub pack-answer : Answers pack-answering.Pre pack-answering.Post
   pub entry_in : Answers entry_in.Pre entry_in.Post
   -- what the part holds, and where it stands
   pub body-in : Fixed {B = List ℕ × (ℕ × ℕ)} {S = Unit {0}} body-in.Pre body-in.Post (λ r. (r.now, r.ref_ptr)) (λ o. tt)
-  pub write-refusal : Answers write-refusal.Pre write-refusal.Post
   pub write-pack : Writes write-pack.Pre write-pack.Post (λ o. o.1.1.1.1.0.now)
 
 -- ---- refusals: each number exactly where the table says, at 0
 
 abbrev pub OpenRefuses : Type 0
-OpenRefuses = (b : List ℕ) (said : PackAnswer) (why : Refusal) → Bytes b → OpenCall b said → (said ≡ pack-answer.Refused why) ↔ PackRefused b why
+OpenRefuses = (b : List ℕ) (said : Res ℕ) (why : Refusal) → Bytes b → OpenCall b said → (said ≡ fail why) ↔ PackRefused b why
 
 abbrev pub EntryRefuses : Type 0
-EntryRefuses = (b : List ℕ) (n i : ℕ) (said : EntryAnswer) (why : Refusal) → EntryCall b n i said → (said ≡ entry-answer.Refused why) ↔ EntryRefused b n i why
+EntryRefuses = (b : List ℕ) (n i : ℕ) (said : Res Entry) (why : Refusal) → EntryCall b n i said → (said ≡ fail why) ↔ EntryRefused b n i why
 
 abbrev pub WriteRefuses : Type 0
-WriteRefuses = (g : Given) (said : WriteAnswer) (why : Refusal) (old new : List ℕ) → Twos g → WriteCall g said old new → (said ≡ write-answer.Refused why) ↔ WriteRefused g (length old) why
+WriteRefuses = (g : Given) (said : Res ℕ) (why : Refusal) (old new : List ℕ) → Twos g → WriteCall g said old new → (said ≡ fail why) ↔ WriteRefused g (length old) why
 
 -- "and then writes nothing"
 abbrev pub WriteKeeps : Type 0
-WriteKeeps = (g : Given) (why : Refusal) (old new : List ℕ) → WriteCall g (write-answer.Refused why) old new → new ≡ old
+WriteKeeps = (g : Given) (why : Refusal) (old new : List ℕ) → WriteCall g (fail why) old new → new ≡ old
 
 -- which numbers there are at all
 abbrev pub OpenNumbers : Type 0
-OpenNumbers = (b : List ℕ) (why : Refusal) → OpenCall b (pack-answer.Refused why) → among (12 ∷ []) why.number ≡ true
+OpenNumbers = (b : List ℕ) (why : Refusal) → OpenCall b (fail why) → among (12 ∷ []) why.number ≡ true
 
 abbrev pub EntryNumbers : Type 0
-EntryNumbers = (b : List ℕ) (n i : ℕ) (why : Refusal) → EntryCall b n i (entry-answer.Refused why) → among (12 ∷ []) why.number ≡ true
+EntryNumbers = (b : List ℕ) (n i : ℕ) (why : Refusal) → EntryCall b n i (fail why) → among (12 ∷ []) why.number ≡ true
 
 abbrev pub WriteNumbers : Type 0
-WriteNumbers = (g : Given) (why : Refusal) (old new : List ℕ) → WriteCall g (write-answer.Refused why) old new → among (5 ∷ 12 ∷ []) why.number ≡ true
+WriteNumbers = (g : Given) (why : Refusal) (old new : List ℕ) → WriteCall g (fail why) old new → among (5 ∷ 12 ∷ []) why.number ≡ true
 
 -- ---- one to one
 
 -- "Equal contents (entries and blob bytes) exactly when equal bytes"
 abbrev pub SameContents : Type 0
-SameContents = (a b : List ℕ) (n m : ℕ) → Bytes a → Bytes b → OpenCall a (pack-answer.Opened n) → OpenCall b (pack-answer.Opened m) → (contents a ≡ contents b) ↔ (a ≡ b)
+SameContents = (a b : List ℕ) (n m : ℕ) → Bytes a → Bytes b → OpenCall a (ok n) → OpenCall b (ok m) → (contents a ≡ contents b) ↔ (a ≡ b)
 
 abbrev pub SameBytes : Type 0
 SameBytes = (s t : List Tile) → contents_right s ≡ true → contents_right t ≡ true → (pack_bytes s ≡ pack_bytes t) ↔ (s ≡ t)
 
 -- the pack of contents that keep the rules is accepted, and has these contents
 abbrev pub PackHolds : Type 0
-PackHolds = (ts : List Tile) (said : PackAnswer) → contents_right ts ≡ true → OpenCall (pack_bytes ts) said → (said ≡ pack-answer.Opened (length ts)) × (contents (pack_bytes ts) ≡ ts)
+PackHolds = (ts : List Tile) (said : Res ℕ) → contents_right ts ≡ true → OpenCall (pack_bytes ts) said → (said ≡ ok (length ts)) × (contents (pack_bytes ts) ≡ ts)
 
 -- contents of an accepted pack keep the rules, and it is the pack of them
 abbrev pub ContentsHold : Type 0
-ContentsHold = (b : List ℕ) (n : ℕ) → Bytes b → OpenCall b (pack-answer.Opened n) → (length (contents b) ≡ n) × (contents_right (contents b) ≡ true) × (pack_bytes (contents b) ≡ b)
+ContentsHold = (b : List ℕ) (n : ℕ) → Bytes b → OpenCall b (ok n) → (length (contents b) ≡ n) × (contents_right (contents b) ≡ true) × (pack_bytes (contents b) ≡ b)
 
 -- "The empty pack is 01 and seven zeros."
 abbrev pub empty_pack : List ℕ
 empty_pack = 1 ∷ 0 ∷ 0 ∷ 0 ∷ 0 ∷ 0 ∷ 0 ∷ 0 ∷ []
 
 abbrev pub EmptyPack : Type 0
-EmptyPack = (b : List ℕ) (said : PackAnswer) → Bytes b → OpenCall b said → (said ≡ pack-answer.Opened 0) ↔ (b ≡ empty_pack)
+EmptyPack = (b : List ℕ) (said : Res ℕ) → Bytes b → OpenCall b said → (said ≡ ok 0) ↔ (b ≡ empty_pack)
 
 -- ---- reader and writer
 
@@ -113,8 +100,8 @@ tiles_given g = tabulate (length g.rows) (tile_given g)
 
 -- reading what the writer wrote gives what it was given
 abbrev pub ReadWritten : Type 0
-ReadWritten = (g : Given) (n : ℕ) (old new : List ℕ) (said : PackAnswer) → WriteCall g (write-answer.Written n) old new → OpenCall (take n new) said
-    → (said ≡ pack-answer.Opened (length g.rows)) × (contents (take n new) ≡ tiles_given g)
+ReadWritten = (g : Given) (n : ℕ) (old new : List ℕ) (said : Res ℕ) → WriteCall g (ok n) old new → OpenCall (take n new) said
+    → (said ≡ ok (length g.rows)) × (contents (take n new) ≡ tiles_given g)
 
 -- an accepted pack, as the writer is given it
 abbrev pub given_of : List ℕ → Given
@@ -128,12 +115,12 @@ given_of b =
 
 -- writing what the reader read gives the bytes
 abbrev pub WrittenRead : Type 0
-WrittenRead = (b : List ℕ) (n : ℕ) (said : WriteAnswer) (old new : List ℕ) → Bytes b → OpenCall b (pack-answer.Opened n) → length b ≤ length old → WriteCall (given_of b) said old new
-    → (said ≡ write-answer.Written (length b)) × (take (length b) new ≡ b)
+WrittenRead = (b : List ℕ) (n : ℕ) (said : Res ℕ) (old new : List ℕ) → Bytes b → OpenCall b (ok n) → length b ≤ length old → WriteCall (given_of b) said old new
+    → (said ≡ ok (length b)) × (take (length b) new ≡ b)
 
 -- "success writes exactly the pack's length and reports it"
 abbrev pub WriteWrites : Type 0
-WriteWrites = (g : Given) (n : ℕ) (old new : List ℕ) → WriteCall g (write-answer.Written n) old new → (n ≡ pack_length g) × (take n new ≡ pack_given g) × AlikeFrom n old new
+WriteWrites = (g : Given) (n : ℕ) (old new : List ℕ) → WriteCall g (ok n) old new → (n ≡ pack_length g) × (take n new ≡ pack_given g) × AlikeFrom n old new
 
 -- ---- what is handed out of an accepted pack
 
@@ -143,16 +130,16 @@ ReaderHolds = (b : List ℕ) → opened_says b (count_in b) ≡ pack_says b
 
 -- each entry and each body, the part of the pack that the entry says
 abbrev pub TileHanded : Type 0
-TileHanded = (b : List ℕ) (n i : ℕ) (said : EntryAnswer) (place at : ℕ × ℕ) (part : List ℕ) → OpenCall b (pack-answer.Opened n) → i < n → EntryCall b n i said → BodyCall b place n i part at
-    → (said ≡ entry-answer.Read (entry_at b i)) × (record { entry = entry_at b i; blob = part } ≡ get_or (contents b) i (tile_of b i)) × (at ≡ behind place (entry_at b i).start)
+TileHanded = (b : List ℕ) (n i : ℕ) (said : Res Entry) (place at : ℕ × ℕ) (part : List ℕ) → OpenCall b (ok n) → i < n → EntryCall b n i said → BodyCall b place n i part at
+    → (said ≡ ok (entry_at b i)) × (record { entry = entry_at b i; blob = part } ≡ get_or (contents b) i (tile_of b i)) × (at ≡ behind place (entry_at b i).start)
 
 -- "a part to be handed back is then empty"
 abbrev pub RefusedEmpty : Type 0
-RefusedEmpty = (b : List ℕ) (n i : ℕ) (why : Refusal) (place at : ℕ × ℕ) (part : List ℕ) → EntryCall b n i (entry-answer.Refused why) → BodyCall b place n i part at → (part ≡ []) × (at ≡ place)
+RefusedEmpty = (b : List ℕ) (n i : ℕ) (why : Refusal) (place at : ℕ × ℕ) (part : List ℕ) → EntryCall b n i (fail why) → BodyCall b place n i part at → (part ≡ []) × (at ≡ place)
 
 -- bodies partition the bytes behind the contents
 abbrev pub BodiesPartition : Type 0
-BodiesPartition = (b : List ℕ) (n : ℕ) → OpenCall b (pack-answer.Opened n) → joined n (body_says b n) ≡ drop (entry_place n) b
+BodiesPartition = (b : List ℕ) (n : ℕ) → OpenCall b (ok n) → joined n (body_says b n) ≡ drop (entry_place n) b
 
 -- each tile's header is accepted, and says what its entry says
 pub record Headed (e : Entry) (blob : List ℕ) : Type 0 where
@@ -164,13 +151,13 @@ pub record Headed (e : Entry) (blob : List ℕ) : Type 0 where
   pub whole : length blob ≡ header.size
 
 abbrev pub TilesHeaded : Type 0
-TilesHeaded = (b : List ℕ) (n i : ℕ) (place at : ℕ × ℕ) (part : List ℕ) → OpenCall b (pack-answer.Opened n) → i < n → BodyCall b place n i part at → Headed (entry_at b i) part
+TilesHeaded = (b : List ℕ) (n i : ℕ) (place at : ℕ × ℕ) (part : List ℕ) → OpenCall b (ok n) → i < n → BodyCall b place n i part at → Headed (entry_at b i) part
 
 -- so that staging one refuses by none of the header's lines, and by no number but these
 abbrev pub TilesStage : Type 0
 TilesStage =
-    (b : List ℕ) (n i : ℕ) (place at : ℕ × ℕ) (part : List ℕ) (reuse : Bool) (why : Refusal) (old : Lent) (spare list : List ℕ) → OpenCall b (pack-answer.Opened n) → i < n → BodyCall b place n i part at
-    → StageCall part reuse (stage-answer.Refused why) old spare list → ((other : Refusal) → HeaderRefused part other → ⊥) × (among (1 ∷ 5 ∷ 6 ∷ 7 ∷ 8 ∷ 9 ∷ []) why.number ≡ true)
+    (b : List ℕ) (n i : ℕ) (place at : ℕ × ℕ) (part : List ℕ) (reuse : Bool) (why : Refusal) (old : Lent) (spare list : List ℕ) → OpenCall b (ok n) → i < n → BodyCall b place n i part at
+    → StageCall part reuse (fail why) old spare list → ((other : Refusal) → HeaderRefused part other → ⊥) × (among (1 ∷ 5 ∷ 6 ∷ 7 ∷ 8 ∷ 9 ∷ []) why.number ≡ true)
 
 pub record PackClaims : Type 0 where
   pub no_room : PacksNoRoom

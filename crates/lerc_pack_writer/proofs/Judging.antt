@@ -21,7 +21,6 @@ use Rattle.lerc_header.specs.Header.{extent_of, header_of, header_says}
 use Rattle.lerc_header.proofs.Kept.{HeaderKept, header-held, held_kept}
 use Rattle.lerc_pack.specs.Contents.{tile_limit, entry_place, body_place, rises_at, tiles_right}
 use Rattle.lerc_words.specs.declared.Refusal.{Refusal}
-use Rattle.lerc_pack_writer.specs.declared.WriteAnswer.TheVariants as write-answer
 use Rattle.lerc_words.specs.Lists.{over}
 use Rattle.lerc_pack_writer.specs.Writing.{Given, body_start, blob_given, tile_given, given_right, adds_up, pack_length, pack_given, write_says, PackWritten}
 use Rattle.lerc_pack.specs.Parts.{least_key}
@@ -183,8 +182,8 @@ judged g h t =
     }
 
 -- what a refusal leaves, and what is written
-pub refused-written : (g : Given) (why : Refusal) (out : List ℕ) → write_says g (length out) ≡ fail why → PackWritten g (write-answer.Refused why) out out
+pub refused-written : (g : Given) (why : Refusal) (out : List ℕ) → write_says g (length out) ≡ fail why → PackWritten g (fail why) out out
 refused-written g why out e = record { says = sym e; out = rw (e) }
 
-pub accepted-written : (g : Given) (n : ℕ) (old new : List ℕ) → write_says g (length old) ≡ ok n → new ≡ over (pack_given g) old → PackWritten g (write-answer.Written n) old new
+pub accepted-written : (g : Given) (n : ℕ) (old new : List ℕ) → write_says g (length old) ≡ ok n → new ≡ over (pack_given g) old → PackWritten g (ok n) old new
 accepted-written g n old new e is = record { says = sym e; out = is ∙ rw (e) }

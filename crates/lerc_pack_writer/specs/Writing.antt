@@ -2,12 +2,9 @@
 -- "the writer refuses 12, then 5, and then writes nothing"
 -- Assumes nothing.
 use Rattle.std.specs.Prelude.{ℕ, ◌+◌, ◌≡◌, Bool, ◌&&◌, List, length, get_or, take, drop, leb, eqb}
-use Rattle.lerc_words.specs.declared.Refusal.{Refusal}
-use Rattle.lerc_words.specs.Res.{Res, ok, fail, ◌>>=◌, require, refuse, after}
+use Rattle.lerc_words.specs.Res.{Res, ok, ◌>>=◌, require, after}
 use Rattle.lerc_words.specs.Lists.{total, over}
 use Rattle.lerc_header.specs.Header.{header_of}
-use Rattle.lerc_pack_writer.specs.declared.WriteAnswer.{WriteAnswer}
-use Rattle.lerc_pack_writer.specs.declared.WriteAnswer.TheVariants as write-answer
 use Rattle.lerc_pack.specs.Contents.{Tile, tile_limit, entry_place, tiles_right, bytes_of}
 
 -- what the writer is lent
@@ -66,15 +63,7 @@ pack_given g = bytes_of (length g.rows) (tile_given g)
 
 -- ---- the answer, and what the buffer holds afterwards
 
-abbrev pub write_said : WriteAnswer → Res ℕ
-write_said (write-answer.Written n) = ok n
-write_said (write-answer.Refused r) = fail r
-
-abbrev pub refusal_of_write : WriteAnswer → Refusal
-refusal_of_write (write-answer.Written n) = refuse 0
-refusal_of_write (write-answer.Refused r) = r
-
 -- the pack in front, the rest as it was; all as it was after a refusal
-pub record PackWritten (g : Given) (r : WriteAnswer) (out₀ out₁ : List ℕ) : Type 0 where
-  pub says : write_said r ≡ write_says g (length out₀)
+pub record PackWritten (g : Given) (r : Res ℕ) (out₀ out₁ : List ℕ) : Type 0 where
+  pub says : r ≡ write_says g (length out₀)
   pub out : out₁ ≡ after (write_says g (length out₀)) out₀ (λ n. over (pack_given g) out₀)

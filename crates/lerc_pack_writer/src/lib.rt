@@ -9,24 +9,6 @@ use lerc_words::Refusal;
 
 mod parts;
 
-#[derive(Clone, Copy)]
-pub enum WriteAnswer {
-    Written(usize),
-    Refused(Refusal),
-}
-
-impl WriteAnswer {
-    // why it was refused; number 0 where it was not
-    pub fn refusal(self) -> Refusal
-        ensures { result ≡ Writing.refusal_of_write self }
-    {
-        match self {
-            WriteAnswer::Written(_n) => Refusal { number: 0, at: 0 },
-            WriteAnswer::Refused(why) => why,
-        }
-    }
-}
-
 // Tiles as a pack: rows, columns and lengths one for each, bodies end to end. Everything is judged before a byte is written.
 pub fn write_pack(
     rows: &[u16],
@@ -34,24 +16,24 @@ pub fn write_pack(
     lengths: &[usize],
     bodies: &[u8],
     out: &mut [u8],
-) -> WriteAnswer
+) -> Result<usize, Refusal>
     ensures { Writing.PackWritten (record { rows = rows.now; columns = columns.now; lengths = lengths.now; bodies = bodies.now }) result out.old out.new }
 {
     let n = rows.len();
     let alike = (columns.len() == n) & (lengths.len() == n) & (n <= TILES);
     if !alike {
-        return WriteAnswer::Refused(Refusal { number: 12, at: 0 });
+        return Err(Refusal { number: 12, at: 0 });
     }
     if !parts::tiles_right(rows, columns, lengths, bodies) {
-        return WriteAnswer::Refused(Refusal { number: 12, at: 0 });
+        return Err(Refusal { number: 12, at: 0 });
     }
     let table = HEAD + ENTRY * n;
     if out.len() < table {
-        return WriteAnswer::Refused(Refusal { number: 5, at: 0 });
+        return Err(Refusal { number: 5, at: 0 });
     }
     if out.len() - table < bodies.len() {
-        return WriteAnswer::Refused(Refusal { number: 5, at: 0 });
+        return Err(Refusal { number: 5, at: 0 });
     }
     parts::put_pack(rows, columns, lengths, bodies, &mut out[..]);
-    WriteAnswer::Written(table + bodies.len())
+    Ok(table + bodies.len())
 }

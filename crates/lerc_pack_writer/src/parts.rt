@@ -7,7 +7,6 @@ ghost use Rattle.lerc_pack.specs.Parts.{key_of};
 ghost use Rattle.lerc_pack_writer.specs.Writing as Writing;
 ghost use Rattle.lerc_pack_writer.specs.Parts as Parts;
 
-use lerc_header::HeaderAnswer;
 use lerc_pack::{ENTRY, Entry, HEAD};
 use lerc_words::peek;
 
@@ -22,8 +21,7 @@ fn key(row: u16, column: u16) -> usize
 fn is_whole(blob: &[u8]) -> bool
     ensures { result ≡ Parts.is_whole blob.now }
 {
-    let answer = lerc_header::read_header(blob);
-    let HeaderAnswer::Read(h) = answer else {
+    let Ok(h) = lerc_header::read_header(blob) else {
         return false;
     };
     blob.len() == h.size as usize
@@ -34,11 +32,9 @@ pub(crate) fn tiles_right(rows: &[u16], columns: &[u16], lengths: &[usize], bodi
     requires { (length columns.now ≡ length rows.now) × (length lengths.now ≡ length rows.now) }
     ensures { result ≡ Parts.given_tiles (record { rows = rows.now; columns = columns.now; lengths = lengths.now; bodies = bodies.now }) }
 {
-    let n = rows.len();
     let mut at = 0;
     let mut least = 0;
-    let mut i = 0;
-    while i < n {
+    for i in 0..rows.len() {
         let here = key(rows[i], columns[i]);
         let length = lengths[i];
         let right = (least <= here) & (length <= bodies.len() - at);
@@ -51,7 +47,6 @@ pub(crate) fn tiles_right(rows: &[u16], columns: &[u16], lengths: &[usize], bodi
         }
         at = end;
         least = here + 1;
-        i += 1;
     }
     at == bodies.len()
 }
@@ -71,7 +66,7 @@ fn put_head(count: usize, out: &mut [u8])
         (count / 65536 % 256) as u8,
         (count / 16777216 % 256) as u8,
     ];
-    lerc_slices::copy_bytes(&bytes, &mut out[..]);
+    lerc_slices::copy(&bytes, &mut out[..]);
 }
 
 fn put_entry(e: Entry, out: &mut [u8])
@@ -102,7 +97,7 @@ fn put_entry(e: Entry, out: &mut [u8])
         (length / 65536 % 256) as u8,
         (length / 16777216 % 256) as u8,
     ];
-    lerc_slices::copy_bytes(&bytes, &mut out[..]);
+    lerc_slices::copy(&bytes, &mut out[..]);
 }
 
 // the four bytes at `at`
@@ -119,8 +114,7 @@ fn put_entries(rows: &[u16], columns: &[u16], lengths: &[usize], bodies: &[u8], 
 {
     let n = rows.len();
     let mut at = 0;
-    let mut i = 0;
-    while i < n {
+    for i in 0..n {
         let length = lengths[i];
         let entry = Entry {
             row: rows[i],
@@ -134,7 +128,6 @@ fn put_entries(rows: &[u16], columns: &[u16], lengths: &[usize], bodies: &[u8], 
         let end = place + ENTRY;
         put_entry(entry, &mut out[place..end]);
         at += length;
-        i += 1;
     }
 }
 
@@ -153,5 +146,5 @@ pub(crate) fn put_pack(
     let end = table + bodies.len();
     put_head(rows.len(), &mut out[..HEAD]);
     put_entries(rows, columns, lengths, bodies, &mut out[HEAD..table]);
-    lerc_slices::copy_bytes(bodies, &mut out[table..end]);
+    lerc_slices::copy(bodies, &mut out[table..end]);
 }

@@ -5,9 +5,9 @@
 // call of another. Some calls are accepted, so that a reader that refuses all does not write these lines.
 #![tactic(auto)]
 
-ghost use Rattle.std.specs.Prelude.{◌≤◌, length, IfOk};
-
-use lerc_header::Header;
+use lerc_fields::{fields, quad};
+use lerc_header::{DEPTHS, Header};
+use lerc_input::{read_full, read_next};
 use lerc_ranges::Ranges;
 use lerc_words::{Refusal, peek};
 use std::fs::File;
@@ -28,15 +28,47 @@ const BLOCKS: usize = 512;
 
 const CELLS: usize = 1024;
 
-const DEPTHS: usize = 64;
-
 // what the list has but for the block that is asked for
 const NOWHERE: usize = 0x1234_5678_9ABC;
+
+#[derive(Clone, Copy)]
+enum Operation {
+    Header,
+    Mask,
+    Ranges,
+    Walk,
+    Fill,
+    Read,
+}
+
+impl Operation {
+    fn of(number: u32) -> Operation {
+        match number {
+            0 => Operation::Header,
+            1 => Operation::Mask,
+            2 => Operation::Ranges,
+            3 => Operation::Walk,
+            4 => Operation::Fill,
+            _ => Operation::Read,
+        }
+    }
+
+    fn name(self) -> &'static str {
+        match self {
+            Operation::Header => "header",
+            Operation::Mask => "mask",
+            Operation::Ranges => "ranges",
+            Operation::Walk => "walk",
+            Operation::Fill => "fill",
+            Operation::Read => "read",
+        }
+    }
+}
 
 // The head of a case: the operation, the lengths of what is lent, then what is given by value.
 #[derive(Clone, Copy)]
 struct Case {
-    operation: usize,
+    operation: Operation,
     flags: usize,
     blob: usize,
     lent: usize,
@@ -87,28 +119,9 @@ fn starts(number: usize, start: usize) -> [usize; BLOCKS] {
     out
 }
 
-fn lesser(a: usize, b: usize) -> usize
-    ensures { (result ≤ a) × (result ≤ b) }
-{
-    if a < b { a } else { b }
-}
-
-fn print_word(rt: &impl Print, word: &str) -> io::Result<()> {
-    print!(rt; "{word}")
-}
-
-fn print(rt: &impl Print, label: &str, v: usize) -> io::Result<()> {
-    print!(rt; "{label}{v}")
-}
-
-// the four bytes at `at`, zeros past the end
-fn quad(s: &[u8], at: usize) -> u32 {
-    (peek(s, at) % 0x1_0000_0000) as u32
-}
-
 fn case_of(head: &[u8; HEAD]) -> Case {
     Case {
-        operation: quad(head, 0) as usize,
+        operation: Operation::of(quad(head, 0)),
         flags: quad(head, 4) as usize,
         blob: quad(head, 8) as usize,
         lent: quad(head, 12) as usize,
@@ -127,164 +140,87 @@ fn case_of(head: &[u8; HEAD]) -> Case {
     }
 }
 
-// the fields as they stand, whatever the key and the rules
-fn fields(blob: &[u8]) -> Header {
-    Header {
-        rows: quad(blob, 14),
-        columns: quad(blob, 18),
-        depth: quad(blob, 22),
-        valid: quad(blob, 26),
-        side: quad(blob, 30),
-        size: quad(blob, 34),
-        kind: quad(blob, 38),
-        error: peek(blob, 42),
-        min: peek(blob, 50),
-        max: peek(blob, 58),
-        mask: quad(blob, 66),
-    }
-}
-
 fn header(blob: &[u8]) -> Refusal {
-    let said = lerc_header::read_header(blob);
-    said.refusal()
+    Refusal::of(&lerc_header::read_header(blob))
 }
 
 fn prepare(c: Case, h: Header, blob: &[u8], kept: &[u8]) -> Refusal {
     let mut spare = [0u8; MASKS];
-    let s = lesser(c.spare, MASKS);
-    let said = lerc_validity::prepare_mask(blob, h, c.reuses(), kept, &mut spare[..s]);
-    said.refusal()
+    let spare = &mut spare[..c.spare.min(MASKS)];
+    let said = lerc_validity::prepare_mask(blob, h, c.reuses(), kept, spare);
+    Refusal::of(&said)
 }
 
 fn ranges(h: Header, blob: &[u8]) -> Refusal {
-    let got = lerc_ranges::read_ranges(blob, h);
-    let said = got.answer;
-    said.refusal()
+    Refusal::of(&lerc_ranges::read_ranges(blob, h))
 }
 
 fn walk(c: Case, h: Header, blob: &[u8], mask: &[u8]) -> Refusal {
     let mut list = [NOWHERE; BLOCKS];
-    let l = lesser(c.list, BLOCKS);
-    let said = lerc_image::walk(blob, h, c.ranges(), mask, &mut list[..l]);
-    said.refusal()
+    let list = &mut list[..c.list.min(BLOCKS)];
+    let said = lerc_image::walk(blob, h, c.ranges(), mask, list);
+    Refusal::of(&said)
 }
 
 fn fill(c: Case, h: Header, blob: &[u8], mask: &[u8]) -> Refusal {
     let list = starts(c.number, c.start);
     let mut image = [0u64; CELLS];
-    let l = lesser(c.list, BLOCKS);
-    let i = lesser(c.image, CELLS);
-    let said = lerc_image::fill(
-        blob,
-        h,
-        c.ranges(),
-        mask,
-        &list[..l],
-        c.number,
-        &mut image[..i],
-    );
-    said.refusal()
+    let list = &list[..c.list.min(BLOCKS)];
+    let image = &mut image[..c.image.min(CELLS)];
+    let said = lerc_image::fill(blob, h, c.ranges(), mask, list, c.number, image);
+    Refusal::of(&said)
 }
 
 fn read(c: Case, blob: &[u8], kept: &mut [u8]) -> Refusal {
     let mut spare = [0u8; MASKS];
     let mut list = [NOWHERE; BLOCKS];
     let mut image = [0u64; CELLS];
-    let s = lesser(c.spare, MASKS);
-    let l = lesser(c.list, BLOCKS);
-    let i = lesser(c.image, CELLS);
-    let said = lerc::read(
-        blob,
-        c.reuses(),
-        &mut kept[..],
-        &mut spare[..s],
-        &mut list[..l],
-        &mut image[..i],
-    );
-    said.refusal()
-}
-
-fn print_name(rt: &impl Print, operation: usize) -> io::Result<()> {
-    match operation {
-        0 => print_word(rt, " header"),
-        1 => print_word(rt, " mask"),
-        2 => print_word(rt, " ranges"),
-        3 => print_word(rt, " walk"),
-        4 => print_word(rt, " fill"),
-        _ => print_word(rt, " read"),
-    }
+    let spare = &mut spare[..c.spare.min(MASKS)];
+    let list = &mut list[..c.list.min(BLOCKS)];
+    let image = &mut image[..c.image.min(CELLS)];
+    let said = lerc::read(blob, c.reuses(), kept, spare, list, image);
+    Refusal::of(&said)
 }
 
 // what the operation says of the bytes that are lent, `h` by value
 fn call(c: Case, h: Header, blob: &[u8], mask: &mut [u8]) -> Refusal {
     let operation = c.operation;
     match operation {
-        0 => header(blob),
-        1 => prepare(c, h, blob, &mask[..]),
-        2 => ranges(h, blob),
-        3 => walk(c, h, blob, &mask[..]),
-        4 => fill(c, h, blob, &mask[..]),
-        _ => read(c, blob, &mut mask[..]),
+        Operation::Header => header(blob),
+        Operation::Mask => prepare(c, h, blob, mask),
+        Operation::Ranges => ranges(h, blob),
+        Operation::Walk => walk(c, h, blob, mask),
+        Operation::Fill => fill(c, h, blob, mask),
+        Operation::Read => read(c, blob, mask),
     }
 }
 
-// 1 for a refusal
-fn print_answer(rt: &impl Print, why: Refusal) -> io::Result<usize>
-    ensures { IfOk result (λ n. n ≤ 1) }
-{
+// whether it is a refusal
+fn print_answer(rt: &impl Print, why: Refusal) -> io::Result<bool> {
     if why.number == 0 {
         println!(rt; " accepted")?;
-        return Ok(0);
+        return Ok(false);
     }
-    print(rt, " refused ", why.number as usize)?;
-    print(rt, " at ", why.at)?;
-    println!(rt)?;
-    Ok(1)
+    println!(rt; " refused {} at {}", why.number, why.at)?;
+    Ok(true)
 }
 
-fn run(rt: &impl Print, c: Case, blob: &[u8], mask: &mut [u8]) -> io::Result<usize>
-    ensures { IfOk result (λ n. n ≤ 1) }
-{
-    print_name(rt, c.operation)?;
-    let n = lesser(c.lent, blob.len());
-    let why = call(c, fields(blob), &blob[..n], &mut mask[..]);
+fn run(rt: &impl Print, c: Case, blob: &[u8], mask: &mut [u8]) -> io::Result<bool> {
+    print!(rt; " {}", c.operation.name())?;
+    let n = c.lent.min(blob.len());
+    let why = call(c, fields(blob), &blob[..n], mask);
     print_answer(rt, why)
 }
 
-// reads until the buffer is full or the input ends; how many bytes came
-fn read_full(from: &mut impl Read, into: &mut [u8]) -> io::Result<usize>
-    ensures { IfOk result (λ n. n ≤ length into.new) }
-{
-    let mut done = 0;
-    while done < into.len() {
-        let n = from.read(&mut into[done..])?;
-        if n == 0 {
-            break;
-        }
-        done += n;
-    }
-    Ok(done)
-}
-
-// the next bytes of a file
-fn load(from: &mut impl Read, n: usize, into: &mut [u8]) -> io::Result<usize>
-    ensures { IfOk result (λ n. n ≤ length into.new) }
-{
-    let m = lesser(n, into.len());
-    read_full(from, &mut into[..m])
-}
-
-fn one(rt: &impl Print, from: &mut impl Read, i: usize) -> io::Result<usize>
-    ensures { IfOk result (λ n. n ≤ 1) }
-{
+fn one(rt: &impl Print, from: &mut impl Read, i: usize) -> io::Result<bool> {
     print!(rt; "{i}")?;
     let mut head = [0u8; HEAD];
     read_full(from, &mut head[..])?;
     let c = case_of(&head);
     let mut mask = [0u8; MASKS];
-    let m = load(from, c.mask, &mut mask[..])?;
+    let m = read_next(from, c.mask, &mut mask[..])?;
     let mut blob = [0u8; BYTES];
-    let n = load(from, c.blob, &mut blob[..])?;
+    let n = read_next(from, c.blob, &mut blob[..])?;
     run(rt, c, &blob[..n], &mut mask[..m])
 }
 
@@ -292,7 +228,9 @@ fn one(rt: &impl Print, from: &mut impl Read, i: usize) -> io::Result<usize>
 fn lines(rt: &impl Print, from: &mut impl Read) -> io::Result<usize> {
     let mut refused = 0;
     for i in 0..CASES {
-        refused += one(rt, from, i)?;
+        if one(rt, from, i)? {
+            refused += 1;
+        }
     }
     Ok(refused)
 }
@@ -302,7 +240,5 @@ fn main(rt: HostRuntime) -> io::Result<()> {
         return println!(rt; "missing");
     };
     let refused = lines(&rt, &mut from)?;
-    print(&rt, "cases ", CASES)?;
-    print(&rt, " refused ", refused)?;
-    println!(rt)
+    println!(rt; "cases {CASES} refused {refused}")
 }

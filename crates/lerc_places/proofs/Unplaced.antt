@@ -1,6 +1,6 @@
 -- The claims.
 -- Assumes nothing.
-use mathlib.Core.Path.{◌≡◌, ◌∙◌, sym, refl}
+use mathlib.Core.Path.{◌≡◌, ◌∙◌, sym, ap, refl}
 use mathlib.Core.Bool.{Bool}
 use mathlib.Core.List.{List}
 use Prim.Native.Nat.{ℕ}
@@ -9,24 +9,18 @@ use Rattle.lerc_words.specs.Res.{Res, ok, fail, ◌>>=◌, marked, after}
 use Rattle.lerc_words.specs.Lists.{over}
 use Rattle.lerc_words.proofs.Marking.{Bare, marked-ok, marked-is, marked-accepts, marked-after}
 use Rattle.lerc_header.specs.declared.Header.{Header}
-use Rattle.lerc_header.specs.declared.HeaderAnswer.{HeaderAnswer}
 use Rattle.lerc_header.specs.Header.{shape_of}
-use Rattle.lerc_validity.specs.declared.MaskAnswer.{MaskAnswer}
 use Rattle.lerc_validity.specs.Validity as mask
-use Rattle.lerc_validity.specs.Validity.{MaskInForce, which, spare_with, find_says, prepare_says, Prepared}
+use Rattle.lerc_validity.specs.Validity.{MaskInForce, which, spare_with, find_says, prepare_says, Prepared, MaskTold}
 use Rattle.lerc_ranges.specs.declared.Ranges.{Ranges}
-use Rattle.lerc_ranges.specs.declared.RangesRead.{RangesRead}
-use Rattle.lerc_ranges.specs.Ranges.{ranges_in_says, read_ranges_says, ranges_said}
-use Rattle.lerc_image.specs.declared.WalkAnswer.{WalkAnswer}
-use Rattle.lerc_image.specs.declared.FillAnswer.{FillAnswer}
+use Rattle.lerc_ranges.specs.Ranges.{ranges_in_says, read_ranges_says}
 use Rattle.lerc_block.specs.Block.{Block}
 use Rattle.lerc_image.specs.Blocks.{Chain}
 use Rattle.lerc_image.specs.Paint.{scattered}
-use Rattle.lerc_image.specs.Walk.{walk_count, walk_says, walk_list}
+use Rattle.lerc_image.specs.Walk.{walk_count, walk_says, walk_list, Walk}
 use Rattle.lerc_image.specs.Fill.{fill_count, fill_says, fill_image}
-use Rattle.lerc.specs.declared.ReadAnswer.{ReadAnswer}
 use Rattle.lerc.specs.Meaning.{Meaning}
-use Rattle.lerc.specs.Read.{Lent, Masked, masked, read_says, refused_after, read_after, read_count}
+use Rattle.lerc.specs.Read.{Lent, Masked, masked, read_says, refused_after, read_after, read_count, ReadTold}
 use Rattle.lerc_theorems.specs.Calls.{HeaderCall, WalkCall, FillCall, ReadCall}
 use Rattle.lerc_theorems.proofs.Calls.{promise, header-call, prepare-call, ranges-call, walk_call, fill-call, read-call}
 use Rattle.lerc_places.specs.Without.{walk_plain, fill_plain, masked_plain, read_plain}
@@ -50,11 +44,11 @@ only-places A = record {
 
 -- ---- what the promises of `find_mask` and `ranges_in` say
 
-find-call : {s : List ℕ} {h : Header} {reuse : Bool} {kept : List ℕ} {r : MaskAnswer} {old new : List ℕ} → FindCall s h reuse kept r old new → Prepared (find_says s h reuse kept (length old)) r old new
+find-call : {s : List ℕ} {h : Header} {reuse : Bool} {kept : List ℕ} {r : Res MaskTold} {old new : List ℕ} → FindCall s h reuse kept r old new → Prepared (find_says s h reuse kept (length old)) r old new
 find-call = promise (λ g r x. Prepared (find_says g.0 g.1 g.2 g.3 (length g.4)) r g.4 x) (λ k a r x p. p)
 
-ranges-in-call : {s : List ℕ} {h : Header} {r : RangesRead} → RangesInCall s h r → r ≡ ranges_said (ranges_in_says s h)
-ranges-in-call = promise (λ g r x. r ≡ ranges_said (ranges_in_says g.0 g.1)) (λ k a r x p. p)
+ranges-in-call : {s : List ℕ} {h : Header} {r : Res Ranges} → RangesInCall s h r → r ≡ (ranges_in_says s h)
+ranges-in-call = promise (λ g r x. r ≡ (ranges_in_says g.0 g.1)) (λ k a r x p. p)
 
 -- ---- an answer, its place taken off, and what is left
 
@@ -73,12 +67,11 @@ which-bare : (f : MaskInForce) → Bare (which f)
 which-bare (mask.reused m) = refl
 which-bare (mask.new m) = refl
 
-mask-as-plain : (m : Res MaskInForce) {n : Res MaskInForce} → marked 0 m ≡ n → {r : MaskAnswer} {old spare : List ℕ} → Prepared m r old spare → MaskAsPlain n r old spare
+mask-as-plain : (m : Res MaskInForce) {n : Res MaskInForce} → marked 0 m ≡ n → {r : Res MaskTold} {old spare : List ℕ} → Prepared m r old spare → MaskAsPlain n r old spare
 mask-as-plain m e {old = old} p = (told m e which which-bare p.says, p.spare ∙ left m e old (λ f. spare_with f old))
 
-ranges-as-plain : (m : Res Ranges) {n : Res Ranges} → marked 0 m ≡ n → {r : RangesRead} → r ≡ ranges_said m → RangesAsPlain n r
-ranges-as-plain (ok g) e d = rw (d, ← e)
-ranges-as-plain (fail why) e d = rw (d, ← e)
+ranges-as-plain : (m : Res Ranges) {n : Res Ranges} → marked 0 m ≡ n → {r : Res Ranges} → r ≡ m → RangesAsPlain n r
+ranges-as-plain m e d = ap (marked 0) d ∙ e
 
 -- every slice is left by what was accepted, and by no place
 after-unplaced : (m : Res Meaning) (k : Res Masked) (l : Lent) → read_after m k l ≡ read_after (marked 0 m) (marked 0 k) l
@@ -89,24 +82,24 @@ after-unplaced (fail r) (fail q) l = refl
 
 -- ---- the operations
 
-read-header : (b : List ℕ) (r : HeaderAnswer) → HeaderCall b r → HeaderAsPlain b r
+read-header : (b : List ℕ) (r : Res Header) → HeaderCall b r → HeaderAsPlain b r
 read-header b r c = rw (header-call c) (header-bare b)
 
-walk : (b : List ℕ) (h : Header) (g : Ranges) (m : List ℕ) (r : WalkAnswer) (old new : List ℕ) → WalkCall b h g m r old new → WalkAsPlain h (walk_plain b h g m (length old)) r old new
+walk : (b : List ℕ) (h : Header) (g : Ranges) (m : List ℕ) (r : Res Walk) (old new : List ℕ) → WalkCall b h g m r old new → WalkAsPlain h (walk_plain b h g m (length old)) r old new
 unfolding walk_list
 walk b h g m r old new call =
     let e = walk-plain b h g m (length old) in
     let c = walk_says b h g m (length old) in
     (told c e (walk_count h) (λ _. refl) (walk_call call).says, (walk_call call).list ∙ left c e old (λ k. over k.starts old))
 
-fill : (b : List ℕ) (h : Header) (g : Ranges) (m list : List ℕ) (n : ℕ) (r : FillAnswer) (old new : List ℕ) → FillCall b h g m list n r old new → FillAsPlain h m n (fill_plain b h g m list n (length old)) r old new
+fill : (b : List ℕ) (h : Header) (g : Ranges) (m list : List ℕ) (n : ℕ) (r : Res ℕ) (old new : List ℕ) → FillCall b h g m list n r old new → FillAsPlain h m n (fill_plain b h g m list n (length old)) r old new
 unfolding fill_image
 fill b h g m list n r old new call =
     let e = fill-plain b h g m list n (length old) in
     let k = fill_says b h g m list n (length old) in
     (told k e (fill_count h m n) (λ _. refl) (fill-call call).says, (fill-call call).image ∙ left k e old (λ k. scattered (shape_of h) m n k.words old))
 
-read : (b : List ℕ) (reuse : Bool) (r : ReadAnswer) (old new : Lent) → ReadCall b reuse r old new → ReadAsPlain (read_plain b reuse old) (masked_plain b reuse old) r old new
+read : (b : List ℕ) (reuse : Bool) (r : Res ReadTold) (old new : Lent) → ReadCall b reuse r old new → ReadAsPlain (read_plain b reuse old) (masked_plain b reuse old) r old new
 read b reuse r old new call =
     let e = read_plain_lem b reuse old in (
       told (read_says b reuse old) e read_count (λ _. refl) (read-call call).says,

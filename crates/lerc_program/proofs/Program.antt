@@ -24,7 +24,6 @@ use Rattle.lerc_mask.specs.Mask.{pixel_valid}
 use Rattle.lerc_validity.specs.Validity.{MaskInForce, bytes_of, kept, mask_in, mask_says}
 use Rattle.lerc_image.specs.Geometry.{is_valid_cell}
 use Rattle.lerc_image.proofs.Painting.{painted-cell}
-use Rattle.lerc.specs.declared.ReadAnswer.TheVariants as answer
 use Rattle.lerc.specs.Meaning.{Meaning, meaning, meaning_from, body_says, starts_of, end_of, cell_word}
 use Rattle.lerc.specs.Read.{Lent, Masked, ReadTold, room, masked, read_says, published, read_after, WholeRead}
 use Rattle.lerc_text.specs.Ascii.{ascii}
@@ -160,7 +159,7 @@ module _ (b : List ℕ) (l : Lent) (y : Ready b l) where
       go (ok h) e = rw (room-is h e, e) (after-room h (leb (cells (shape_of h)) cells_most))
       go (fail r) e = refl
 
-  pub refused-text : {why : Refusal} {new : Lent} → WholeRead b false (answer.Refused why) l new → program_text b ≡ refusal_text why
+  pub refused-text : {why : Refusal} {new : Lent} → WholeRead b false (fail why) l new → program_text b ≡ refusal_text why
   refused-text w = rw (← read-says, bind-fail (read_says b false l) _ (sym w.says))
 
   -- the text by what an accepted read left
@@ -171,13 +170,13 @@ module _ (b : List ℕ) (l : Lent) (y : Ready b l) where
       rw (r, e) (text-left m l 512 y.kept f (length (starts_of m.body)) (end_of m.body))
 
   -- an accepted read has few cells
-  module _ {h : Header} {blocks end : ℕ} {new : Lent} (w : WholeRead b false (answer.Whole h blocks end) l new) where
-    pub whole-few : cells (shape_of h) ≤ cells_most
+  module _ {told : ReadTold} {new : Lent} (w : WholeRead b false (ok told) l new) where
+    pub whole-few : cells (shape_of told.header) ≤ cells_most
     whole-few =
         let (m, r, c) = bind-counts (read_says b false l) _ (sym w.says) in
         rw (ap (λ (v : ReadTold). v.header) c) (few-cells b m (sym read-says ∙ r))
 
-    pub whole-text : program_text b ≡ image_text h blocks end (valid_in h.depth new.kept) (word_in new.image)
+    pub whole-text : program_text b ≡ image_text told.header told.blocks told.end (valid_in told.header.depth new.kept) (word_in new.image)
     whole-text =
         let (m, r, c) = bind-counts (read_says b false l) _ (sym w.says) in
         let t = text-by m (sym read-says ∙ r) (w.lent ∙ ap (λ (x : Res Meaning). read_after x (masked b false l) l) r) in

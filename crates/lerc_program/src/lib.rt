@@ -9,7 +9,6 @@ ghost use Rattle.lerc_text.specs.Text.{Put, valid_in, word_in};
 ghost use Rattle.lerc_program.specs.Program.{cells_most, image_text, refusal_text, program_text, Answered};
 ghost use Rattle.lerc_program.specs.Parts.{Ready};
 
-use lerc::ReadAnswer;
 use lerc_header::Header;
 use lerc_words::Refusal;
 
@@ -68,15 +67,17 @@ fn decode(
         &mut list[..],
         &mut image[..],
     );
-    let ReadAnswer::Whole {
-        header,
-        blocks,
-        end,
-    } = answer
-    else {
-        return refuse(answer.refusal(), &mut out[..]);
-    };
-    put_image(header, blocks, end, &kept[..], &image[..], &mut out[..])
+    match answer {
+        Ok(whole) => put_image(
+            whole.header,
+            whole.blocks,
+            whole.end,
+            &kept[..],
+            &image[..],
+            &mut out[..],
+        ),
+        Err(why) => refuse(why, &mut out[..]),
+    }
 }
 
 // the text at the start of `out`, as much as there is room for

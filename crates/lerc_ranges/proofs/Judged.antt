@@ -1,7 +1,7 @@
 -- What ranges that were read keep, and what their judges say.
 -- Assumes nothing.
 use Prim.Native.Nat.{ℕ, ◌≤◌, ◌<◌, min}
-use mathlib.Core.Path.{◌≡◌, ◌∙◌, sym, ap}
+use mathlib.Core.Path.{◌≡◌, ◌∙◌, sym}
 use mathlib.Core.Bool.{Bool, true, false, cond}
 use mathlib.Core.List.{List}
 use native.Mathlib.Omega.{arith}
@@ -9,8 +9,7 @@ use native.Mathlib.Nat.{min-eq_left}
 use borrow.Author.Tests.{le-leb, leb-true}
 use lib.ListN.{length, take, length-take, length-replicate, get_or-replicate}
 use lib.Dec.{leb}
-use Rattle.lerc_words.specs.declared.Refusal.{Refusal}
-use Rattle.lerc_words.specs.Res.{Res, ok, fail, ◌>>=◌, marked, require}
+use Rattle.lerc_words.specs.Res.{Res, ok, ◌>>=◌, marked, require}
 use Rattle.lerc_words.proofs.Binding.{bind_is, require-is, ok-is, each-length}
 use Rattle.lerc_words.proofs.Marking.{marked-is}
 use Rattle.lerc_words.proofs.Tables.{all_true}
@@ -18,12 +17,10 @@ use Rattle.lerc_numeric.specs.Numeric.{same}
 use Rattle.lerc_samples.specs.Samples.{stored}
 use Rattle.lerc_header.specs.declared.Header.{Header}
 use Rattle.lerc_header.specs.Limits.{depth_limit}
-use Rattle.lerc_header.specs.Header.{ranges_at, pair_right, extent_of, held}
+use Rattle.lerc_header.specs.Header.{ranges_at, pair_right, held}
 use Rattle.lerc_header.proofs.Kept.{held-shaped, held-size, held-pair}
 use Rattle.lerc_ranges.specs.declared.Ranges.{Ranges}
-use Rattle.lerc_ranges.specs.declared.RangesRead.{RangesRead}
-use Rattle.lerc_ranges.specs.declared.RangesAnswer.TheVariants as ranges
-use Rattle.lerc_ranges.specs.Ranges.{uniform_ranges, coded_ranges, ranges_end, pairs_right, wrong_number_at, ranges_says, ranges_in_says, read_ranges_says, ranges_said, pairs_says, constant_words}
+use Rattle.lerc_ranges.specs.Ranges.{uniform_ranges, coded_ranges, ranges_end, pairs_right, wrong_number_at, ranges_says, ranges_in_says, read_ranges_says, pairs_says, constant_words}
 use Rattle.lerc_ranges.proofs.ByDepth.{length-by-depth}
 
 -- the pairs below the depth are right, the body begins behind them and within s, and an entry stands for each depth
@@ -102,16 +99,3 @@ unfolding constant_words
 length-constants depth kind values e = each-length (stored kind) (take depth values) e ∙ length-take depth values
 
 -- ---- the ranges that a caller has
-
-pub ranges-read : (x : Res Ranges) {g : RangesRead} → g ≡ ranges_said x → g.answer ≡ ranges.Read → x ≡ ok g.ranges
-ranges-read (ok r) e d = ap ok (sym (ap (λ (y : RangesRead). y.ranges) e))
-ranges-read (fail why) {g} e d = absurd (let f : g.answer ≡ ranges.Refused why = ap (λ (y : RangesRead). y.answer) e in let z : ◌≡◌ {A = ℕ} 0 1 = cc in omega arith)
-
-pub ranges-refused : (x : Res Ranges) {g : RangesRead} {why : Refusal} → g ≡ ranges_said x → g.answer ≡ ranges.Refused why → x ≡ fail why
-ranges-refused (ok r) {g} e d = absurd (let f : g.answer ≡ ranges.Read = ap (λ (y : RangesRead). y.answer) e in let z : ◌≡◌ {A = ℕ} 0 1 = cc in omega arith)
-ranges-refused (fail r) {g} e d = let f : g.answer ≡ ranges.Refused r = ap (λ (y : RangesRead). y.answer) e in cc
-
--- a held header's ranges are those of the slice
-pub ranges-held : (b : List ℕ) (h : Header) → held h (length b) ≡ ok (extent_of h) → read_ranges_says b h ≡ ranges_says (take h.size b) h
-unfolding read_ranges_says
-ranges-held b h e = rw (e)

@@ -1,3 +1,4 @@
 pub mod ByDepth
 pub mod Judged
 pub mod Wrong
+pub mod Zipped

@@ -1,8 +1,8 @@
 -- The ranges of each depth.
 -- Assumes nothing.
-use Rattle.std.specs.Prelude.{ℕ, suc, ◌+◌, ◌*◌, min, Bool, true, false, cond, List, length, get_or, take, replicate, leb, ltb}
-use Rattle.lerc_words.specs.declared.Refusal.{Refusal}
-use Rattle.lerc_words.specs.Res.{Res, ok, fail, ◌>>=◌, refuse, marked, require, little, each}
+use Prim.{Unit, tt}
+use Rattle.std.specs.Prelude.{ℕ, suc, ◌+◌, ◌*◌, min, Bool, true, cond, List, length, get_or, take, replicate, leb, ltb}
+use Rattle.lerc_words.specs.Res.{Res, ok, fail, ◌>>=◌, marked, require, little, each}
 use Rattle.lerc_words.specs.Lists.{tabulate, over, count, all_to}
 use Rattle.lerc_numeric.specs.Numeric.{same, finite}
 use Rattle.lerc_numeric.specs.Kinds.{type_size, value_of}
@@ -11,14 +11,6 @@ use Rattle.lerc_header.specs.declared.Header.{Header}
 use Rattle.lerc_header.specs.Limits.{depth_limit}
 use Rattle.lerc_header.specs.Header.{ranges_at, pair_right, held}
 use Rattle.lerc_ranges.specs.declared.Ranges.{Ranges}
-use Rattle.lerc_ranges.specs.declared.RangesAnswer.{RangesAnswer}
-use Rattle.lerc_ranges.specs.declared.RangesAnswer.TheVariants as ranges
-use Rattle.lerc_ranges.specs.declared.RangesRead.{RangesRead}
-use Rattle.lerc_ranges.specs.declared.PairsAnswer.{PairsAnswer}
-use Rattle.lerc_ranges.specs.declared.PairsAnswer.TheVariants as pairs
-use Rattle.lerc_ranges.specs.declared.ConstantsAnswer.{ConstantsAnswer}
-use Rattle.lerc_ranges.specs.declared.ConstantsAnswer.TheVariants as constants
-use Rattle.lerc_ranges.specs.declared.Constants.{Constants}
 
 -- "Min and max the same ..: constant, nothing read, all 64 entries as in the header."
 unfoldable pub uniform_ranges : Header → Ranges
@@ -82,40 +74,22 @@ read_ranges_says b h = do
   _ ← held h (length b)
   ranges_says (take h.size b) h
 
--- what is handed out with a refusal: "0 for each count and offset"
-abbrev pub no_ranges : Ranges
-no_ranges = record { at = 0; constant = false; min = replicate depth_limit 0; max = replicate depth_limit 0 }
-
-abbrev pub ranges_said : Res Ranges → RangesRead
-ranges_said (ok r) = record { answer = ranges.Read; ranges = r }
-ranges_said (fail why) = record { answer = ranges.Refused why; ranges = no_ranges }
-
-abbrev pub refusal_of_ranges : RangesAnswer → Refusal
-refusal_of_ranges ranges.Read = refuse 0
-refusal_of_ranges (ranges.Refused r) = r
-
 -- ---- ranges by value: "7 for the pairs below the depth", "0 for ranges by value"; an array has no pair past its end
 
 unfoldable pub pairs_says : ℕ → Ranges → Res Bool
 pairs_says depth r = require (pairs_right (min depth depth_limit) r) 7
 
-abbrev pub pairs_said : PairsAnswer → Res Bool
-pairs_said pairs.Right = ok true
-pairs_said (pairs.Refused r) = fail r
-
-abbrev pub refusal_of_pairs : PairsAnswer → Refusal
-refusal_of_pairs pairs.Right = refuse 0
-refusal_of_pairs (pairs.Refused r) = r
+-- nothing beside that they are right
+abbrev pub pairs_said : Res Bool → Res (Unit {0})
+pairs_said (ok right) = ok tt
+pairs_said (fail why) = fail why
 
 -- ---- the words of a constant body: "the minimum of each depth", stored
 
 unfoldable pub constant_words : ℕ → ℕ → List ℕ → Res (List ℕ)
 constant_words depth kind values = each (stored kind) (take depth values)
 
-abbrev pub constants_said : Res (List ℕ) → Constants
-constants_said (ok words) = record { answer = constants.Stored; words = over words (replicate depth_limit 0) }
-constants_said (fail r) = record { answer = constants.Refused r; words = replicate depth_limit 0 }
-
-abbrev pub refusal_of_constants : ConstantsAnswer → Refusal
-refusal_of_constants constants.Stored = refuse 0
-refusal_of_constants (constants.Refused r) = r
+-- behind the words of the depths "the rest" is 0
+abbrev pub constants_said : Res (List ℕ) → Res (List ℕ)
+constants_said (ok words) = ok (over words (replicate depth_limit 0))
+constants_said (fail why) = fail why

@@ -2,19 +2,18 @@
 #![tactic(auto)]
 
 ghost use Rattle.std.specs.Prelude.{◌≡◌, false, ℕ, ◌+◌, ◌*◌, ◌≤◌, ◌<◌, ◌^◌, min, get_or};
-ghost use Rattle.lerc_words.specs.Res.{fail};
 ghost use Rattle.lerc_words.specs.Lists.{all_to};
 ghost use Rattle.lerc_numeric.specs.Numeric as Word;
 ghost use Rattle.lerc_numeric.specs.Kinds.{type_size, value_of};
 ghost use Rattle.lerc_header.specs.Limits.{depth_limit};
 ghost use Rattle.lerc_ranges.specs.Ranges as Rules;
 
-use lerc_header::{DEPTHS, HEADER, Header, HeldAnswer, pair_right};
+use lerc_header::{DEPTHS, HEADER, Header, pair_right};
 use lerc_numeric::{is_finite, number, same, size};
-use lerc_samples::{StoredAnswer, stored};
+use lerc_samples::stored;
 use lerc_words::{Refusal, peek};
 
-#[derive(Clone, Copy)]
+#[derive(Clone, Copy, Debug, PartialEq, Eq)]
 pub struct Ranges {
     pub at: usize,
     pub constant: bool,
@@ -22,81 +21,11 @@ pub struct Ranges {
     pub max: [u64; DEPTHS],
 }
 
-#[derive(Clone, Copy)]
-pub enum RangesAnswer {
-    Read,
-    Refused(Refusal),
-}
-
-#[derive(Clone, Copy)]
-pub struct RangesRead {
-    pub answer: RangesAnswer,
-    pub ranges: Ranges,
-}
-
-#[derive(Clone, Copy)]
-pub enum PairsAnswer {
-    Right,
-    Refused(Refusal),
-}
-
-#[derive(Clone, Copy)]
-pub enum ConstantsAnswer {
-    Stored,
-    Refused(Refusal),
-}
-
-#[derive(Clone, Copy)]
-pub struct Constants {
-    pub answer: ConstantsAnswer,
-    pub words: [u64; DEPTHS],
-}
-
-impl RangesAnswer {
-    // why it was refused; number 0 where it was not
-    pub fn refusal(self) -> Refusal
-        ensures { result ≡ Rules.refusal_of_ranges self }
-    {
-        match self {
-            RangesAnswer::Read => Refusal { number: 0, at: 0 },
-            RangesAnswer::Refused(why) => why,
-        }
-    }
-}
-
-impl PairsAnswer {
-    // why it was refused; number 0 where it was not
-    pub fn refusal(self) -> Refusal
-        ensures { result ≡ Rules.refusal_of_pairs self }
-    {
-        match self {
-            PairsAnswer::Right => Refusal { number: 0, at: 0 },
-            PairsAnswer::Refused(why) => why,
-        }
-    }
-}
-
-impl ConstantsAnswer {
-    // why it was refused; number 0 where it was not
-    pub fn refusal(self) -> Refusal
-        ensures { result ≡ Rules.refusal_of_constants self }
-    {
-        match self {
-            ConstantsAnswer::Stored => Refusal { number: 0, at: 0 },
-            ConstantsAnswer::Refused(why) => why,
-        }
-    }
-}
-
 // the depths that an array has
 fn within(depth: u32) -> usize
     ensures { result ≡ min depth depth_limit }
 {
-    if depth as usize <= DEPTHS {
-        depth as usize
-    } else {
-        DEPTHS
-    }
+    (depth as usize).min(DEPTHS)
 }
 
 // numbers of the kind from `at` on, one for each depth; the entries past the depth are `rest`
@@ -106,10 +35,8 @@ fn numbers(s: &[u8], at: usize, kind: u32, depth: usize, rest: u64) -> [u64; DEP
 {
     let mut out = [rest; DEPTHS];
     let step = size(kind);
-    let mut i = 0;
-    while i < depth {
+    for i in 0..depth {
         out[i] = number(peek(s, at + i * step), kind);
-        i += 1;
     }
     out
 }
@@ -118,26 +45,20 @@ fn all_same(low: &[u64; DEPTHS], high: &[u64; DEPTHS], depth: usize) -> bool
     requires { depth ≤ depth_limit }
     ensures { result ≡ all_to depth (λ i. Word.same (get_or low.now i 0) (get_or high.now i 0)) }
 {
-    let mut all = true;
-    let mut i = 0;
-    while i < depth {
-        all = all & same(low[i], high[i]);
-        i += 1;
-    }
-    all
+    low[..depth]
+        .iter()
+        .zip(&high[..depth])
+        .all(|(a, b)| same(*a, *b))
 }
 
 fn pairs_right(depth: usize, r: Ranges) -> bool
     requires { depth ≤ depth_limit }
     ensures { result ≡ Rules.pairs_right depth r }
 {
-    let mut all = true;
-    let mut i = 0;
-    while i < depth {
-        all = all & pair_right(r.min[i], r.max[i]);
-        i += 1;
-    }
-    all
+    r.min[..depth]
+        .iter()
+        .zip(&r.max[..depth])
+        .all(|(low, high)| pair_right(*low, *high))
 }
 
 // the first depth whose pair is wrong
@@ -145,12 +66,10 @@ fn first_wrong(depth: usize, r: Ranges) -> usize
     requires { depth ≤ depth_limit }
     ensures { result ≡ Rules.first_wrong depth r }
 {
-    let mut i = 0;
-    while i < depth {
+    for i in 0..depth {
         if !pair_right(r.min[i], r.max[i]) {
             return i;
         }
-        i += 1;
     }
     depth
 }
@@ -169,28 +88,13 @@ fn wrong_number(h: Header, r: Ranges) -> usize
 }
 
 // ranges by value: the pairs below the depth
-pub fn pairs(depth: u32, r: Ranges) -> PairsAnswer
-    ensures { Rules.pairs_said result ≡ Rules.pairs_says depth r }
+pub fn pairs(depth: u32, r: Ranges) -> Result<(), Refusal>
+    ensures { result ≡ Rules.pairs_said (Rules.pairs_says depth r) }
 {
     if pairs_right(within(depth), r) {
-        PairsAnswer::Right
+        Ok(())
     } else {
-        PairsAnswer::Refused(Refusal { number: 7, at: 0 })
-    }
-}
-
-// what is handed out with a refusal
-fn refused(why: Refusal) -> RangesRead
-    ensures { result ≡ Rules.ranges_said (fail why) }
-{
-    RangesRead {
-        answer: RangesAnswer::Refused(why),
-        ranges: Ranges {
-            at: 0,
-            constant: false,
-            min: [0; DEPTHS],
-            max: [0; DEPTHS],
-        },
+        Err(Refusal { number: 7, at: 0 })
     }
 }
 
@@ -235,71 +139,49 @@ fn coded(s: &[u8], h: Header) -> Ranges
 
 // The ranges in the bytes of a blob that was opened: its header is not held to the rules again, but no array has more depths (4).
 // All must fit before a number is judged.
-pub fn ranges_in(s: &[u8], h: Header) -> RangesRead
-    ensures { result ≡ Rules.ranges_said (Rules.ranges_in_says s.now h) }
+pub fn ranges_in(s: &[u8], h: Header) -> Result<Ranges, Refusal>
+    ensures { result ≡ Rules.ranges_in_says s.now h }
 {
     if DEPTHS < h.depth as usize {
-        return refused(Refusal { number: 4, at: 0 });
+        return Err(Refusal { number: 4, at: 0 });
     }
     if same(h.min, h.max) {
-        let ranges = uniform(h);
-        return RangesRead {
-            answer: RangesAnswer::Read,
-            ranges,
-        };
+        return Ok(uniform(h));
     }
     let width = width(h);
     if s.len() < HEADER + h.mask as usize + width + width {
-        return refused(Refusal {
+        return Err(Refusal {
             number: 1,
             at: HEADER + h.mask as usize,
         });
     }
     let ranges = coded(s, h);
     if !pairs_right(h.depth as usize, ranges) {
-        return refused(Refusal {
+        return Err(Refusal {
             number: 7,
             at: wrong_number(h, ranges),
         });
     }
-    RangesRead {
-        answer: RangesAnswer::Read,
-        ranges,
-    }
+    Ok(ranges)
 }
 
 // whatever `valid` is
-pub fn read_ranges(blob: &[u8], h: Header) -> RangesRead
-    ensures { result ≡ Rules.ranges_said (Rules.read_ranges_says blob.now h) }
+pub fn read_ranges(blob: &[u8], h: Header) -> Result<Ranges, Refusal>
+    ensures { result ≡ Rules.read_ranges_says blob.now h }
 {
-    let held = h.held(blob.len());
-    let HeldAnswer::Held(_extent) = held else {
-        return refused(held.refusal());
-    };
+    h.held(blob.len())?;
     let size = h.size as usize;
     ranges_in(&blob[..size], h)
 }
 
 // the first `depth` values as stored words; the entries past the depth are 0
-pub fn convert(values: [u64; DEPTHS], depth: u32, kind: u32) -> Constants
+pub fn convert(values: [u64; DEPTHS], depth: u32, kind: u32) -> Result<[u64; DEPTHS], Refusal>
     ensures { result ≡ Rules.constants_said (Rules.constant_words depth kind values) }
 {
     let n = within(depth);
     let mut words = [0; DEPTHS];
-    let mut i = 0;
-    while i < n {
-        let got = stored(values[i], kind);
-        let StoredAnswer::Word(w) = got else {
-            return Constants {
-                answer: ConstantsAnswer::Refused(got.refusal()),
-                words: [0; DEPTHS],
-            };
-        };
-        words[i] = w;
-        i += 1;
+    for i in 0..n {
+        words[i] = stored(values[i], kind)?;
     }
-    Constants {
-        answer: ConstantsAnswer::Stored,
-        words,
-    }
+    Ok(words)
 }

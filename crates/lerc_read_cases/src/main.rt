@@ -5,9 +5,11 @@
 // "planted" have expectations that are wrong, and their lines must say so.
 #![tactic(auto)]
 
-ghost use Rattle.std.specs.Prelude.{◌≤◌, ◌<◌, length, IfOk};
+ghost use Rattle.std.specs.Prelude.{◌≤◌, ◌<◌};
 
-use lerc::{PublishAnswer, ReadAnswer, StageAnswer};
+use lerc::{Staged, Whole};
+use lerc_fields::quad;
+use lerc_input::{read_full, read_next};
 use lerc_words::{Refusal, bytes, peek};
 use std::fs::File;
 use std::io;
@@ -39,7 +41,7 @@ const MARK: u64 = 0xFEED_FACE_CAFE;
 // a prime below 2^32
 const PRIME: u64 = 4294967291;
 
-#[derive(Clone, Copy)]
+#[derive(Clone, Copy, Default)]
 struct Tally {
     cases: usize,
     same: usize,
@@ -48,8 +50,8 @@ struct Tally {
 impl Tally {
     fn plus(self, t: Tally) -> Tally {
         Tally {
-            cases: add(self.cases, t.cases),
-            same: add(self.same, t.same),
+            cases: self.cases.saturating_add(t.cases),
+            same: self.same.saturating_add(t.same),
         }
     }
 }
@@ -72,8 +74,8 @@ struct Case {
     cells: usize,
     depth: usize,
     size: usize,
-    number: usize,
-    place: usize,
+    // the refusal that is wanted, if one is
+    refusal: Option<Refusal>,
     end: usize,
     sum: usize,
 }
@@ -94,47 +96,39 @@ impl Case {
 
     // where the parts of the expectation begin
     fn spare_at(self) -> usize {
-        add(self.before, self.kept)
+        self.before.saturating_add(self.kept)
     }
 
     fn starts_at(self) -> usize {
-        add(self.spare_at(), self.spare)
+        self.spare_at().saturating_add(self.spare)
     }
 
     fn words_at(self) -> usize {
-        add(self.starts_at(), stride(self.starts, 4))
+        self.starts_at()
+            .saturating_add(self.starts.saturating_mul(4))
     }
 }
 
-// numbers here are far below the bounds
-fn add(a: usize, b: usize) -> usize {
-    a % 1_000_000_000 + b % 1_000_000_000
-}
-
-// k entries of 1, 2, 4 or 8 bytes
-fn stride(k: usize, size: usize) -> usize {
-    let n = k % 1_000_000_000;
-    if size == 1 {
-        return n;
-    }
-    if size == 2 {
-        return 2 * n;
-    }
-    if size == 4 { 4 * n } else { 8 * n }
-}
-
+// `min` by itself leaves open that the image has room for so many (`slice_bounds-read_lent-end-5` of `run`)
 fn lesser(a: usize, b: usize) -> usize
     ensures { (result ≤ a) × (result ≤ b) }
 {
-    if a < b { a } else { b }
-}
-
-fn print(rt: &impl Print, label: &str, v: usize) -> io::Result<()> {
-    print!(rt; "{label}{v}")
+    a.min(b)
 }
 
 fn field(head: &[u8; HEAD], at: usize) -> usize {
-    (peek(head, at) % 4294967296) as usize
+    quad(head, at) as usize
+}
+
+// the number of a refusal is 0 where none is wanted
+fn refusal_in(head: &[u8; HEAD]) -> Option<Refusal> {
+    match quad(head, 56) {
+        0 => None,
+        number => Some(Refusal {
+            number,
+            at: field(head, 60),
+        }),
+    }
 }
 
 fn case_of(head: &[u8; HEAD]) -> Case {
@@ -153,8 +147,7 @@ fn case_of(head: &[u8; HEAD]) -> Case {
         cells: field(head, 44),
         depth: field(head, 48),
         size: field(head, 52),
-        number: field(head, 56),
-        place: field(head, 60),
+        refusal: refusal_in(head),
         end: field(head, 64),
         sum: field(head, 68),
     }
@@ -165,14 +158,14 @@ fn wanted_byte(expect: &[u8], from: usize, n: usize, k: usize, mark: u8) -> u8 {
     if n <= k {
         return mark;
     }
-    (peek(expect, add(from, k)) % 256) as u8
+    (peek(expect, from.saturating_add(k)) % 256) as u8
 }
 
 fn wanted_start(expect: &[u8], c: Case, k: usize) -> usize {
     if c.starts <= k {
         return NOWHERE;
     }
-    (peek(expect, add(c.starts_at(), stride(k, 4))) % 4294967296) as usize
+    quad(expect, c.starts_at().saturating_add(k.saturating_mul(4))) as usize
 }
 
 // Esri's word where the cell's pixel is valid, elsewhere the mark
@@ -184,45 +177,31 @@ fn wanted_word(expect: &[u8], c: Case, cell: usize) -> u64 {
         return MARK;
     }
     let pixel = cell / c.depth;
-    let mask = peek(expect, add(c.before, pixel / 8)) % 256;
+    let mask = peek(expect, c.before.saturating_add(pixel / 8)) % 256;
     if (mask >> (7 - pixel % 8)) % 2 == 0 {
         return MARK;
     }
-    bytes(expect, add(c.words_at(), stride(cell, c.size)), c.size)
+    let at = c.words_at().saturating_add(cell.saturating_mul(c.size));
+    bytes(expect, at, c.size)
 }
 
-// the first byte that is not as wanted, or how many there are
-fn other_byte(have: &[u8], expect: &[u8], from: usize, n: usize, mark: u8) -> usize {
-    let mut k = 0;
-    while k < have.len() {
-        if have[k] != wanted_byte(expect, from, n, k, mark) {
-            return k;
-        }
-        k += 1;
-    }
-    have.len()
+// the first byte that is not as wanted
+fn other_byte(have: &[u8], expect: &[u8], from: usize, n: usize, mark: u8) -> Option<usize> {
+    have.iter()
+        .enumerate()
+        .position(|(k, b)| *b != wanted_byte(expect, from, n, k, mark))
 }
 
-fn other_start(have: &[usize], expect: &[u8], c: Case) -> usize {
-    let mut k = 0;
-    while k < have.len() {
-        if have[k] != wanted_start(expect, c, k) {
-            return k;
-        }
-        k += 1;
-    }
-    have.len()
+fn other_start(have: &[usize], expect: &[u8], c: Case) -> Option<usize> {
+    have.iter()
+        .enumerate()
+        .position(|(k, start)| *start != wanted_start(expect, c, k))
 }
 
-fn other_word(have: &[u64], expect: &[u8], c: Case) -> usize {
-    let mut k = 0;
-    while k < have.len() {
-        if have[k] != wanted_word(expect, c, k) {
-            return k;
-        }
-        k += 1;
-    }
-    have.len()
+fn other_word(have: &[u64], expect: &[u8], c: Case) -> Option<usize> {
+    have.iter()
+        .enumerate()
+        .position(|(k, word)| *word != wanted_word(expect, c, k))
 }
 
 fn with_piece(sum: u64, piece: u64) -> u64
@@ -245,21 +224,18 @@ fn with_word(sum: u64, w: u64) -> u64
 // of a large image, whose words are not stored
 fn sum_of(have: &[u64]) -> u64 {
     let mut sum = 0;
-    let mut k = 0;
-    while k < have.len() {
-        sum = with_word(sum, have[k]);
-        k += 1;
+    for word in have {
+        sum = with_word(sum, *word);
     }
     sum
 }
 
 // whether all entries are as wanted; if not, the first that differs is told
-fn told(rt: &impl Print, label: &str, other: usize, n: usize) -> io::Result<bool> {
-    if other < n {
-        print(rt, label, other)?;
-        return Ok(false);
+fn told(rt: &impl Print, label: &str, other: Option<usize>) -> io::Result<bool> {
+    if let Some(k) = other {
+        print!(rt; "{label}{k}")?;
     }
-    Ok(true)
+    Ok(other.is_none())
 }
 
 fn is_same_image(rt: &impl Print, have: &[u64], expect: &[u8], c: Case) -> io::Result<bool> {
@@ -270,94 +246,66 @@ fn is_same_image(rt: &impl Print, have: &[u64], expect: &[u8], c: Case) -> io::R
         }
         return Ok(is_same);
     }
-    told(
-        rt,
-        " differs at cell ",
-        other_word(have, expect, c),
-        have.len(),
-    )
+    told(rt, " differs at cell ", other_word(have, expect, c))
 }
 
-fn is_same_answer(answer: ReadAnswer, c: Case) -> bool {
+fn is_same_answer(answer: Result<Whole, Refusal>, c: Case) -> bool {
     match answer {
-        ReadAnswer::Whole {
-            header: _h,
-            blocks,
-            end,
-        } => (c.number == 0) & (blocks == c.starts) & (end == c.end),
-        ReadAnswer::Refused(why) => {
-            (0 < c.number) & (why.number as usize == c.number) & (why.at == c.place)
-        }
+        Ok(found) => c.refusal.is_none() & (found.blocks == c.starts) & (found.end == c.end),
+        Err(why) => c.refusal == Some(why),
     }
 }
 
-fn print_answer(rt: &impl Print, answer: ReadAnswer) -> io::Result<()> {
+fn print_refusal(rt: &impl Print, label: &str, why: Refusal) -> io::Result<()> {
+    print!(rt; "{label}{} at {}", why.number, why.at)
+}
+
+fn print_answer(rt: &impl Print, answer: Result<Whole, Refusal>) -> io::Result<()> {
     match answer {
-        ReadAnswer::Whole {
-            header: _h,
-            blocks,
-            end,
-        } => {
-            print(rt, " blocks ", blocks)?;
-            print(rt, " end ", end)
-        }
-        ReadAnswer::Refused(why) => {
-            print(rt, " refused ", why.number as usize)?;
-            print(rt, " at ", why.at)
-        }
+        Ok(found) => print!(rt; " blocks {} end {}", found.blocks, found.end),
+        Err(why) => print_refusal(rt, " refused ", why),
     }
 }
 
 fn print_wanted(rt: &impl Print, c: Case) -> io::Result<()> {
-    if 0 < c.number {
-        print(rt, " and not refused ", c.number)?;
-        return print(rt, " at ", c.place);
+    if let Some(why) = c.refusal {
+        return print_refusal(rt, " and not refused ", why);
     }
-    print(rt, " and not blocks ", c.starts)?;
-    print(rt, " end ", c.end)
+    print!(rt; " and not blocks {} end {}", c.starts, c.end)
 }
 
-// 1 if nothing differs
+// whether nothing differs
 fn judge(
     rt: &impl Print,
     c: Case,
-    answer: ReadAnswer,
+    answer: Result<Whole, Refusal>,
     expect: &[u8],
     kept: &[u8],
     spare: &[u8],
     list: &[usize],
     image: &[u64],
-) -> io::Result<usize> {
+) -> io::Result<bool> {
     print_answer(rt, answer)?;
     let said = is_same_answer(answer, c);
     if !said {
         print_wanted(rt, c)?;
     }
-    let a = other_byte(kept, expect, c.before, c.kept, KEPT);
-    let b = other_byte(spare, expect, c.spare_at(), c.spare, SPARE);
-    let masks = told(rt, " differs at kept ", a, kept.len())?
-        & told(rt, " differs at spare ", b, spare.len())?;
-    let starts = told(
-        rt,
-        " differs at start ",
-        other_start(list, expect, c),
-        list.len(),
-    )?;
+    let kept = other_byte(kept, expect, c.before, c.kept, KEPT);
+    let spare = other_byte(spare, expect, c.spare_at(), c.spare, SPARE);
+    let masks = told(rt, " differs at kept ", kept)? & told(rt, " differs at spare ", spare)?;
+    let starts = told(rt, " differs at start ", other_start(list, expect, c))?;
     let words = is_same_image(rt, image, expect, c)?;
-    if said & masks & starts & words {
+    let is_same = said & masks & starts & words;
+    if is_same {
         print!(rt; " same")?;
-        return Ok(1);
     }
-    Ok(0)
+    Ok(is_same)
 }
 
 // the case's bytes, then marks
 fn mark(kept: &mut [u8], expect: &[u8], n: usize) {
-    let room = kept.len();
-    let mut k = 0;
-    while k < room {
-        kept[k] = wanted_byte(expect, 0, n, k, KEPT);
-        k += 1;
+    for (k, b) in kept.iter_mut().enumerate() {
+        *b = wanted_byte(expect, 0, n, k, KEPT);
     }
 }
 
@@ -366,23 +314,22 @@ fn prepare(c: Case, expect: &[u8], kept: &mut [u8]) {
     if c.carries() {
         return;
     }
-    mark(&mut kept[..], expect, c.before);
+    mark(kept, expect, c.before);
 }
 
 // What was staged, published, with both answers as one. First comes an answer that staging did not give, which must be 3.
+// The slices stay apart through the calls: to lend fields of one record behind a `&mut` side by side gets no proof.
 fn finish(
     blob: &[u8],
     reuse: bool,
-    given: StageAnswer,
+    given: Result<Staged, Refusal>,
     kept: &mut [u8],
     spare: &[u8],
     list: &[usize],
     image: &mut [u64],
-) -> ReadAnswer {
-    let StageAnswer::Staged(found) = given else {
-        return ReadAnswer::Refused(given.refusal());
-    };
-    let none = StageAnswer::Refused(Refusal { number: 0, at: 0 });
+) -> Result<Whole, Refusal> {
+    let found = given?;
+    let none = Err(Refusal { number: 0, at: 0 });
     let forged = lerc::publish(
         blob,
         reuse,
@@ -392,29 +339,17 @@ fn finish(
         list,
         &mut image[..],
     );
-    let why = forged.refusal();
+    let why = Refusal::of(&forged);
     let is_refused = (why.number == 3) & (why.at == 0);
     if !is_refused {
-        return ReadAnswer::Refused(why);
+        return Err(why);
     }
-    let done = lerc::publish(
-        blob,
-        reuse,
-        given,
-        &mut kept[..],
-        spare,
-        list,
-        &mut image[..],
-    );
-    let PublishAnswer::Published { end, words: _words } = done else {
-        return ReadAnswer::Refused(done.refusal());
-    };
-    let header = found.header;
-    ReadAnswer::Whole {
-        header,
+    let done = lerc::publish(blob, reuse, given, kept, spare, list, image)?;
+    Ok(Whole {
+        header: found.header,
         blocks: found.blocks,
-        end,
-    }
+        end: done.end,
+    })
 }
 
 fn read_lent(
@@ -426,45 +361,29 @@ fn read_lent(
     spare: &mut [u8],
     list: &mut [usize],
     image: &mut [u64],
-) -> io::Result<usize> {
+) -> io::Result<bool> {
     prepare(c, expect, &mut kept[..]);
     let reuse = c.reuses();
-    let given = lerc::stage(
-        blob,
-        reuse,
-        &kept[..],
-        &mut spare[..],
-        &mut list[..],
-        &image[..],
-    );
+    let given = lerc::stage(blob, reuse, kept, &mut spare[..], &mut list[..], image);
     let answer = finish(
         blob,
         reuse,
         given,
         &mut kept[..],
-        &spare[..],
-        &list[..],
+        spare,
+        list,
         &mut image[..],
     );
-    judge(
-        rt,
-        c,
-        answer,
-        expect,
-        &kept[..],
-        &spare[..],
-        &list[..],
-        &image[..],
-    )
+    judge(rt, c, answer, expect, kept, spare, list, image)
 }
 
-fn run(rt: &impl Print, c: Case, blob: &[u8], expect: &[u8], kept: &mut [u8]) -> io::Result<usize> {
+fn run(rt: &impl Print, c: Case, blob: &[u8], expect: &[u8], kept: &mut [u8]) -> io::Result<bool> {
     let mut spare = [SPARE; MASKS];
     let mut list = [NOWHERE; BLOCKS];
     let mut image = [MARK; CELLS];
-    let k = lesser(c.lent_kept, kept.len());
-    let s = lesser(c.lent_spare, MASKS);
-    let l = lesser(c.lent_list, BLOCKS);
+    let k = c.lent_kept.min(kept.len());
+    let s = c.lent_spare.min(MASKS);
+    let l = c.lent_list.min(BLOCKS);
     let i = lesser(c.lent_image, CELLS);
     read_lent(
         rt,
@@ -478,38 +397,15 @@ fn run(rt: &impl Print, c: Case, blob: &[u8], expect: &[u8], kept: &mut [u8]) ->
     )
 }
 
-// reads until the buffer is full or the input ends; how many bytes came
-fn read_full(from: &mut impl Read, into: &mut [u8]) -> io::Result<usize>
-    ensures { IfOk result (λ n. n ≤ length into.new) }
-{
-    let mut done = 0;
-    while done < into.len() {
-        let n = from.read(&mut into[done..])?;
-        if n == 0 {
-            break;
-        }
-        done += n;
-    }
-    Ok(done)
-}
-
-// the next bytes of a file
-fn load(from: &mut impl Read, n: usize, into: &mut [u8]) -> io::Result<usize>
-    ensures { IfOk result (λ n. n ≤ length into.new) }
-{
-    let m = lesser(n, into.len());
-    read_full(from, &mut into[..m])
-}
-
-fn one(rt: &impl Print, from: &mut impl Read, kept: &mut [u8]) -> io::Result<usize> {
+fn one(rt: &impl Print, from: &mut impl Read, kept: &mut [u8]) -> io::Result<bool> {
     let mut head = [0u8; HEAD];
     read_full(from, &mut head[..])?;
     let c = case_of(&head);
     let mut blob = [0u8; BYTES];
-    let n = load(from, c.blob, &mut blob[..])?;
+    let n = read_next(from, c.blob, &mut blob[..])?;
     let mut expect = [0u8; REST];
-    let m = load(from, c.rest, &mut expect[..])?;
-    run(rt, c, &blob[..n], &expect[..m], &mut kept[..])
+    let m = read_next(from, c.rest, &mut expect[..])?;
+    run(rt, c, &blob[..n], &expect[..m], kept)
 }
 
 fn line(
@@ -518,14 +414,14 @@ fn line(
     name: &str,
     i: usize,
     kept: &mut [u8],
-) -> io::Result<usize> {
-    print!(rt; "{name}")?;
-    print(rt, " ", i)?;
-    let same = one(rt, from, &mut kept[..])?;
+) -> io::Result<bool> {
+    print!(rt; "{name} {i}")?;
+    let is_same = one(rt, from, kept)?;
     println!(rt)?;
-    Ok(same)
+    Ok(is_same)
 }
 
+// how many are as wanted
 fn lines(
     rt: &impl Print,
     from: &mut impl Read,
@@ -535,16 +431,15 @@ fn lines(
 ) -> io::Result<usize> {
     let mut same = 0;
     for i in 0..cases {
-        same = add(same, line(rt, from, name, i, &mut kept[..])?);
+        if line(rt, from, name, i, &mut kept[..])? {
+            same += 1;
+        }
     }
     Ok(same)
 }
 
 fn print_tally(rt: &impl Print, name: &str, t: Tally) -> io::Result<()> {
-    print!(rt; "{name}")?;
-    print(rt, " cases ", t.cases)?;
-    print(rt, " same ", t.same)?;
-    println!(rt)
+    println!(rt; "{name} cases {} same {}", t.cases, t.same)
 }
 
 fn file(rt: &(impl Files + Print), name: &str, cases: usize) -> io::Result<Tally> {
@@ -559,7 +454,7 @@ fn file(rt: &(impl Files + Print), name: &str, cases: usize) -> io::Result<Tally
 }
 
 fn main(rt: HostRuntime) -> io::Result<()> {
-    let mut all = Tally { cases: 0, same: 0 };
+    let mut all = Tally::default();
     all = all.plus(file(&rt, "v4", 198)?);
     all = all.plus(file(&rt, "v4-crafted", 78)?);
     all = all.plus(file(&rt, "v4-bands", 24)?);

@@ -1,15 +1,8 @@
 -- Numbers of a kind out of bytes, values as stored words, and the kinds of a block's offset.
 -- Assumes nothing.
 use Rattle.std.specs.Prelude.{cond, List, [], ◌∷◌, ℕ, get_or, ltb, eqb}
-use Rattle.lerc_words.specs.Res.{Res, ok, fail, ◌>>=◌, refuse, require, word_at}
-use Rattle.lerc_words.specs.declared.Refusal.{Refusal}
+use Rattle.lerc_words.specs.Res.{Res, ok, ◌>>=◌, require, word_at}
 use Rattle.lerc_numeric.specs.Kinds.{type_size, value_of, narrowed, cut}
-use Rattle.lerc_samples.specs.declared.OffsetAnswer.{OffsetAnswer}
-use Rattle.lerc_samples.specs.declared.OffsetAnswer.TheVariants as offset
-use Rattle.lerc_samples.specs.declared.SampleAnswer.{SampleAnswer}
-use Rattle.lerc_samples.specs.declared.SampleAnswer.TheVariants as sample
-use Rattle.lerc_samples.specs.declared.StoredAnswer.{StoredAnswer}
-use Rattle.lerc_samples.specs.declared.StoredAnswer.TheVariants as word
 
 -- a number of the kind at a place, as a binary64; "passes the declared size": 1
 unfoldable pub sample_at : ℕ → List ℕ → ℕ → Res ℕ
@@ -44,29 +37,3 @@ offset_kind kind code = do
   let k = get_or (get_or offset_kinds kind []) code no_kind
   _ ← require (ltb k no_kind) 8
   ok k
-
--- ---- the answers of `offset_kind`, `read` and `stored`
-
-abbrev pub offset_said : OffsetAnswer → Res ℕ
-offset_said (offset.Kind k) = ok k
-offset_said (offset.Refused r) = fail r
-
-abbrev pub refusal_of_offset : OffsetAnswer → Refusal
-refusal_of_offset (offset.Kind k) = refuse 0
-refusal_of_offset (offset.Refused r) = r
-
-abbrev pub sample_said : SampleAnswer → Res ℕ
-sample_said (sample.Value v) = ok v
-sample_said (sample.Refused r) = fail r
-
-abbrev pub refusal_of_sample : SampleAnswer → Refusal
-refusal_of_sample (sample.Value v) = refuse 0
-refusal_of_sample (sample.Refused r) = r
-
-abbrev pub stored_said : StoredAnswer → Res ℕ
-stored_said (word.Word v) = ok v
-stored_said (word.Refused r) = fail r
-
-abbrev pub refusal_of_stored : StoredAnswer → Refusal
-refusal_of_stored (word.Word v) = refuse 0
-refusal_of_stored (word.Refused r) = r

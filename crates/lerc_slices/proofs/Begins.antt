@@ -2,19 +2,23 @@
 -- Assumes nothing.
 use mathlib.Core.Path.{◌≡◌, ◌∙◌, sym, ap, refl}
 use mathlib.Core.Bool.{Bool, true, false, ◌&&◌}
-use mathlib.Core.List.{List, ◌++◌}
+use mathlib.Core.List.{List, [], ◌++◌}
 use Prim.Native.Nat.{ℕ, zero, suc, ◌+◌, ◌-◌, ◌*◌, ◌≤◌, ◌<◌}
 use native.Mathlib.Omega.{arith}
 use native.Mathlib.Decide.{dec_lt}
-use native.Mathlib.Nat.{add-zero, not-suc-le-zero, le_of_suc-le-suc}
 use borrow.Author.Tests.{le-leb, lt-leb, leb-true, eq-eqb, eqb-true}
 use lib.Dec.{leb, eqb}
-use lib.ListN.{length, get_or, take, drop, replicate, length-append, length-take, length-drop, length-replicate, get_or-replicate, take-append-drop, get_or-append, get_or-eq_default}
-use lib.Seq.{ext_get_or, get_or-take, get_or-drop, get_or-append-add, take-append_seam}
-use Rattle.lerc_words.specs.Res.{Res, ok, fail, marked, little}
+use lib.ListN.{length, get_or, take, drop, replicate, length-append, length-take, length-drop, length-replicate, get_or-replicate, take-append-drop, get_or-append}
+use lib.Seq.{ext_get_or, get_or-take, get_or-drop, get_or-append-add, take-append_seam, drop-drop}
+use Rattle.std.specs.Bool.{Decides, MatchBool}
+use Rattle.std.specs.Cmp.Lexicographic.{pointwise}
+use Rattle.std.specs.List.{AllWithin, HoldsAt}
+use Rattle.std.specs.Simd.{first_chunks}
+use Rattle.std.proofs.lemmas.Bool.Decides.{Decides-eqb}
+use Rattle.std.proofs.lemmas.Slice.Eq.{slice_eq-Decides}
+use Rattle.lerc_words.specs.Res.{Res, ok, fail, marked}
 use Rattle.lerc_words.specs.Lists.{over, all_to}
 use Rattle.lerc_words.proofs.Binding.{and_is}
-use Rattle.lerc_words.proofs.Little.{Bytes, little-suc, little-same, little-quads}
 use Rattle.lerc_words.proofs.Tables.{all_true, all-each}
 use Rattle.lerc_slices.specs.Slices.{begins_with, accepts_with}
 
@@ -47,71 +51,84 @@ module _ (front s : List ℕ) where
       go true e = absurd (d ((begins-is e).at i h))
       go false e = e
 
--- a loop that has compared the first k
-pub record Alike (front s : List ℕ) (k : ℕ) : Type 0 where
-  pub few : k ≤ length front
-  pub at : (i : ℕ) → i < k → get_or s i 0 ≡ get_or front i 0
+-- ---- one byte everywhere
 
-module _ (front s : List ℕ) where
-  pub alike-none : Alike front s 0
-  alike-none = record { few = omega arith; at = λ i h. absurd (omega arith) }
+pub record Everywhere (v : ℕ) (s : List ℕ) : Type 0 where
+  pub at : (i : ℕ) → i < length s → get_or s i 0 ≡ v
 
-  module _ (k : ℕ) (a : Alike front s k) where
-    pub alike-more : k < length front → get_or s k 0 ≡ get_or front k 0 → Alike front s (k + 1)
-    alike-more l e = record { few = omega arith; at = λ i h. go i h (dec_lt i k) }
-      where
-        go : (i : ℕ) → i < k + 1 → Dec (i < k) → get_or s i 0 ≡ get_or front i 0
-        go i h (yes m) = a.at i m
-        go i h (no m) = let d : i ≡ k = omega arith in rw (d) e
+module _ (v : ℕ) (s : List ℕ) where
+  pub everywhere-begins : Everywhere v s → begins_with (replicate (length s) v) s ≡ true
+  everywhere-begins e =
+      let n = length-replicate (length s) v in
+      is-begins (replicate (length s) v) s (record {
+        fits = omega arith;
+        at = λ i h. let l : i < length s = omega arith in e.at i l ∙ sym (get_or-replicate (length s) i v 0 l);
+      })
 
-    pub alike-done : length front ≤ k → length front ≤ length s → begins_with front s ≡ true
-    alike-done l h = is-begins front s (record { fits = h; at = λ i m. a.at i (omega arith) })
+  pub begins-everywhere : begins_with (replicate (length s) v) s ≡ true → Everywhere v s
+  begins-everywhere t =
+      let n = length-replicate (length s) v in
+      record { at = λ i l. (begins-is (replicate (length s) v) s t).at i (omega arith) ∙ get_or-replicate (length s) i v 0 l }
 
--- ---- some entries at once, as words
-
--- equal words have equal bytes
-same-little : (n : ℕ) (s t : List ℕ) (at : ℕ) → Bytes s → Bytes t → little n s at ≡ little n t at → (i : ℕ) → i < n → get_or s (at + i) 0 ≡ get_or t (at + i) 0
-same-little zero s t at b c e i h = absurd (not-suc-le-zero h)
-same-little (suc n) s t at b c e zero h = rw (add-zero) (omega (arith, b at, c at, little-suc n s at, little-suc n t at))
-same-little (suc n) s t at b c e (suc i) h =
-    let d : little n s (suc at) ≡ little n t (suc at) = omega (arith, b at, c at, little-suc n s at, little-suc n t at) in
-    let z : at + suc i ≡ suc at + i = omega arith in
-    rw (z) (same-little n s t (suc at) b c d i (le_of_suc-le-suc h))
-
-module _ (front s : List ℕ) (k n : ℕ) {v w : ℕ} (e : v ≡ little n s k) (d : w ≡ little n front k) where
-  -- a word that differs decides
-  pub words-differ : k + n ≤ length front → (v ≡ w → ⊥) → begins_with front s ≡ false
-  words-differ h f = go (begins_with front s) refl
+-- each eight at once, then the last few
+module _ (v : ℕ) where
+  pub everywhere-eights : (n : ℕ) (s : List ℕ) → n * 8 ≤ length s → ((k : ℕ) → k < n → get_or (first_chunks 8 n s) k [] ≡ replicate 8 v) → Everywhere v (drop (n * 8) s) → Everywhere v s
+  everywhere-eights zero s h f e = e
+  everywhere-eights (suc n) s h f e =
+      let m = length-drop 8 s in
+      let z : 8 + n * 8 ≡ suc n * 8 = omega arith in
+      let d : drop (n * 8) (drop 8 s) ≡ drop (suc n * 8) s = drop-drop (n * 8) 8 s ∙ ap (λ (k : ℕ). drop k s) z in
+      let r = everywhere-eights n (drop 8 s) (omega arith) (λ k l. f (suc k) (omega arith)) (rw (d) e) in
+      record { at = λ i l. one r i l (dec_lt i 8) }
     where
-      go : (t : Bool) → begins_with front s ≡ t → begins_with front s ≡ false
-      go true g = absurd (f (e ∙ little-same n s front k k (λ i l. (begins-is front s g).at (k + i) (omega arith)) ∙ sym d))
-      go false g = g
+      one : Everywhere v (drop 8 s) → (i : ℕ) → i < length s → Dec (i < 8) → get_or s i 0 ≡ v
+      one r i l (yes m) = sym (get_or-take 8 s i 0 m) ∙ ap (λ (x : List ℕ). get_or x i 0) (f 0 (omega arith)) ∙ get_or-replicate 8 i v 0 m
+      one r i l (no m) =
+          let k = i - 8 in
+          let z : 8 + k ≡ i = omega arith in
+          rw (z) at (sym (get_or-drop 8 s k 0) ∙ r.at k (omega (arith, length-drop 8 s)))
 
-  module _ (p : Bytes front) (q : Bytes s) (a : Alike front s k) where
-    pub alike-word : k + n ≤ length front → v ≡ w → Alike front s (k + n)
-    alike-word h f = record { few = h; at = λ i l. go i l (dec_lt i k) }
-      where
-        go : (i : ℕ) → i < k + n → Dec (i < k) → get_or s i 0 ≡ get_or front i 0
-        go i l (yes m) = a.at i m
-        go i l (no m) =
-            let z : k + (i - k) ≡ i = omega arith in
-            rw (z) at (same-little n s front k q p (sym e ∙ f ∙ d) (i - k) (omega arith))
+  pub eights-everywhere : (n : ℕ) (s : List ℕ) → n * 8 ≤ length s → Everywhere v s → (k : ℕ) → k < n → get_or (first_chunks 8 n s) k [] ≡ replicate 8 v
+  eights-everywhere zero s h e k l = absurd (omega arith)
+  eights-everywhere (suc n) s h e zero l =
+      let m : length (take 8 s) ≡ 8 = simp length-take (omega arith) in
+      ext_get_or 0 (take 8 s) (replicate 8 v) (m ∙ sym (length-replicate 8 v)) (λ i o.
+      let b : i < 8 = omega arith in get_or-take 8 s i 0 b ∙ e.at i (omega arith) ∙ sym (get_or-replicate 8 i v 0 b))
+  eights-everywhere (suc n) s h e (suc k) l =
+      eights-everywhere n (drop 8 s) (omega (arith, length-drop 8 s)) (record { at = λ i o. get_or-drop 8 s i 0 ∙ e.at (8 + i) (omega (arith, length-drop 8 s)) }) k (omega arith)
 
--- the words of one byte everywhere
-module _ (v : ℕ) (b : v < 256) where
-  pub repeat-bytes : (n : ℕ) → Bytes (replicate n v)
-  repeat-bytes n i = go (dec_lt i n)
-    where
-      go : Dec (i < n) → get_or (replicate n v) i 0 < 256
-      go (yes l) = rw (get_or-replicate n i v 0 l) b
-      go (no l) = let h : length (replicate n v) ≤ i = rw (length-replicate) (omega arith) in rw (get_or-eq_default (replicate n v) 0 h) (omega arith)
+-- what a look at all eights, and then at the last few, has found
+length-chunks : (n : ℕ) (s : List ℕ) → length (first_chunks 8 n s) ≡ n
+length-chunks zero s = refl
+length-chunks (suc n) s = ap suc (length-chunks n (drop 8 s))
 
-  pub repeat-eight : (n k : ℕ) → k + 8 ≤ n → little 8 (replicate n v) k ≡ v * 72340172838076673
-  repeat-eight n k h =
-      let at : (i : ℕ) → i < 8 → get_or (replicate n v) (k + i) 0 ≡ v = λ i l. get_or-replicate n (k + i) v 0 (omega arith) in
-      let first : get_or (replicate n v) k 0 ≡ v = get_or-replicate n k v 0 (omega arith) in
-      little-quads (replicate n v) k
-      ∙ rw (first, at 1 (omega arith), at 2 (omega arith), at 3 (omega arith), at 4 (omega arith), at 5 (omega arith), at 6 (omega arith), at 7 (omega arith)) (omega arith)
+false_else : (t : Bool) → (t ≡ true → ⊥) → false ≡ t
+false_else true f = absurd (f refl)
+false_else false f = refl
+
+module _ (v n : ℕ) (s : List ℕ) (h : n * 8 ≤ length s) where
+  abbrev pub eights : List (List ℕ)
+  eights = first_chunks 8 n s
+
+  abbrev pub last : List ℕ
+  last = drop (n * 8) s
+
+  is-eight : (e : List ℕ) → Decides (pointwise eqb e (replicate 8 v)) (e ≡ replicate 8 v)
+  is-eight e = slice_eq-Decides Decides-eqb e (replicate 8 v) _ refl
+
+  pub one-differs : (k : ℕ) × (k < length eights) × HoldsAt (λ e. pointwise eqb e (replicate 8 v) ≡ false) eights k → false ≡ begins_with (replicate (length s) v) s
+  one-differs (k, l, f) =
+      false_else _ (λ t.
+      let e = eights-everywhere v n s h (begins-everywhere v s t) k (omega (arith, length-chunks n s)) in
+      absurd (let z = (is-eight (get_or eights k [])).1 e in let w : true ≡ false = sym z ∙ f [] in cc))
+
+  pub all-like : AllWithin (λ e. pointwise eqb e (replicate 8 v) ≡ true) eights 0 (length eights) → (t : Bool)
+      → MatchBool t (AllWithin (λ x. x ≡ v) last 0 (length last)) ((k : ℕ) × (k < length last) × HoldsAt (λ x. x ≡ v → ⊥) last k) → t ≡ begins_with (replicate (length s) v) s
+  all-like a true b =
+      let chunks = λ (k : ℕ) (l : k < n). (is-eight (get_or eights k [])).0 (a k [] (omega arith) (omega (arith, length-chunks n s))) in
+      sym (everywhere-begins v s (everywhere-eights v n s h chunks (record { at = λ i l. b i 0 (omega arith) l })))
+  all-like a false (k, l, f) =
+      false_else _ (λ t. f 0 (get_or-drop (n * 8) s k 0 ∙ (begins-everywhere v s t).at (n * 8 + k) (omega (arith, length-drop (n * 8) s))))
 
 -- ---- as its front
 

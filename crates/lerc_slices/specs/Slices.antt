@@ -5,7 +5,7 @@ use Rattle.lerc_words.specs.Res.{Res, ok, fail}
 use Rattle.lerc_words.specs.Lists.{over, all_to}
 
 -- as many entries of `from` as there is room for, in front of the rest
-abbrev pub copied : List ℕ → List ℕ → List ℕ
+abbrev pub copied : {A : Type 0} → List A → List A → List A
 copied from to = over (take (length to) from) to
 
 -- s begins with these entries

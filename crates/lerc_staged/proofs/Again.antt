@@ -7,7 +7,7 @@ use Prim.Native.Nat.{ℕ, ◌≤◌}
 use native.Mathlib.Omega.{arith}
 use lib.ListN.{length, take}
 use lib.Dec.{eqb}
-use Rattle.lerc_words.specs.Res.{ok, require}
+use Rattle.lerc_words.specs.Res.{ok, require, Res}
 use Rattle.lerc_words.specs.Lists.{over}
 use Rattle.lerc_words.proofs.Binding.{bind_is}
 use Rattle.lerc_words.proofs.Marking.{marked-is}
@@ -21,7 +21,6 @@ use Rattle.lerc_validity.proofs.Prepared.{Part, Right}
 use Rattle.lerc_image.specs.Paint.{painted}
 use Rattle.lerc_image.specs.Geometry.{is_valid_cell}
 use Rattle.lerc_image.proofs.Painting.{painted_same, painted-twice}
-use Rattle.lerc.specs.declared.StageAnswer.{StageAnswer}
 use Rattle.lerc.specs.Meaning.{Meaning, cell_word}
 use Rattle.lerc.specs.Read.{Lent, read_says, published}
 use Rattle.lerc.proofs.Bodies.{over-itself}
@@ -34,6 +33,7 @@ use Rattle.lerc_staged.proofs.Calls.{publish-call}
 use Rattle.lerc_staged.proofs.Done.{Done, done-of, done-says, done-kept, done-image}
 use Rattle.lerc_staged.proofs.Fills.{read-room, read-parts}
 use Rattle.lerc_staged.proofs.Writes.{writes}
+use Rattle.lerc.specs.declared.Staged.{Staged}
 
 -- ---- the mask
 
@@ -111,7 +111,7 @@ module _ (m : Meaning) (l l' : Lent) where
   unfolding published
   kept-over e = e
 
-module _ {b : List ℕ} {reuse : Bool} {a : StageAnswer} {l : Lent} {m : Meaning} (d : Done b reuse a l m) (kept image : List ℕ) (k : kept ≡ (published m l).kept) (i : image ≡ (published m l).image) where
+module _ {b : List ℕ} {reuse : Bool} {a : Res Staged} {l : Lent} {m : Meaning} (d : Done b reuse a l m) (kept image : List ℕ) (k : kept ≡ (published m l).kept) (i : image ≡ (published m l).image) where
   pub done-again : Done b reuse a (as_published l kept image) m
   done-again =
       let l' = as_published l kept image in

@@ -13,16 +13,12 @@ use Rattle.lerc_words.proofs.Binding.{bind_is, bind-fail, bind-counts, ok-is, re
 use Rattle.lerc_slices.specs.Slices.{begins_with}
 use Rattle.lerc_slices.proofs.Begins.{begins-over, over-begins}
 use Rattle.lerc_validity.specs.Validity.{MaskInForce, reused, new, spare_with, holds_mask}
-use Rattle.lerc.specs.declared.StageAnswer.{StageAnswer}
-use Rattle.lerc.specs.declared.StageAnswer.TheVariants as stage-answer
-use Rattle.lerc.specs.declared.PublishAnswer.{PublishAnswer}
-use Rattle.lerc.specs.declared.PublishAnswer.TheVariants as publish-answer
 use Rattle.lerc.specs.Meaning.{Meaning, starts_of, end_of}
 use Rattle.lerc.specs.Read.{Lent, read_says, published}
-use Rattle.lerc.specs.Stage.{staged_of, is_answer, was_staged, stage_said, publish_says, body_told, publish_said, StageRead, Publishing}
+use Rattle.lerc.specs.Stage.{staged_of, is_answer, was_staged, publish_says, body_told, StageRead, Publishing, PublishTold}
 use Rattle.lerc.proofs.Answers.{answer-self, answer-is}
 use Rattle.lerc.proofs.Both.{read-masked}
-use Rattle.lerc_theorems.proofs.SameAnswers.{stage-same, publish-same}
+use Rattle.lerc.specs.declared.Staged.{Staged}
 
 -- ---- a slice that already holds what is put there
 
@@ -43,13 +39,13 @@ front_of front old n e = rw (n, e) (take-append_seam front (drop (length front) 
 
 -- ---- what publishing asks
 
-pub record Done (b : List ℕ) (reuse : Bool) (a : StageAnswer) (l : Lent) (m : Meaning) : Type 0 where
+pub record Done (b : List ℕ) (reuse : Bool) (a : Res Staged) (l : Lent) (m : Meaning) : Type 0 where
   pub means : read_says b reuse l ≡ ok m
   pub spare : holds_mask m.mask l.spare ≡ true
-  pub answer : a ≡ stage-answer.Staged (staged_of m)
+  pub answer : a ≡ ok (staged_of m)
   pub list : begins_with (starts_of m.body) l.list ≡ true
 
-module _ (b : List ℕ) (reuse : Bool) (a : StageAnswer) (l : Lent) (m : Meaning) where
+module _ (b : List ℕ) (reuse : Bool) (a : Res Staged) (l : Lent) (m : Meaning) where
   pub done-is : publish_says b reuse a l ≡ ok m → Done b reuse a l m
   unfolding publish_says
   done-is e =
@@ -63,33 +59,33 @@ module _ (b : List ℕ) (reuse : Bool) (a : StageAnswer) (l : Lent) (m : Meaning
   unfolding publish_says
   is-done d = rw (d.means, d.spare, d.answer, answer-self m, d.list)
 
-module _ {b : List ℕ} {reuse : Bool} {a : StageAnswer} {l : Lent} where
+module _ {b : List ℕ} {reuse : Bool} {a : Res Staged} {l : Lent} where
   -- an accepted publish has a meaning
-  pub done-of : {r : PublishAnswer} {kept image : List ℕ} {end words : ℕ} → Publishing b reuse a r l kept image → r ≡ publish-answer.Published end words → (m : Meaning) × Done b reuse a l m
+  pub done-of : {r : Res PublishTold} {kept image : List ℕ} {end words : ℕ} → Publishing b reuse a r l kept image → r ≡ ok (record { end = end; words = words }) → (m : Meaning) × Done b reuse a l m
   done-of p e =
-      let (m, q, _) = bind-counts (publish_says b reuse a l) _ (sym p.says ∙ ap publish_said e) in
+      let (m, q, _) = bind-counts (publish_says b reuse a l) _ (sym p.says ∙ e) in
       (m, done-is b reuse a l m q)
 
   module _ {m : Meaning} (d : Done b reuse a l m) where
     -- and then the answer and both slices are the meaning's
-    pub done-says : {r : PublishAnswer} {kept image : List ℕ} → Publishing b reuse a r l kept image → r ≡ publish-answer.Published (end_of m.body) (body_told m.header m.body).words
-    done-says {r} p = publish-same r _ (p.says ∙ ap (λ (x : Res Meaning). x >>= λ n. ok (body_told n.header n.body)) (is-done b reuse a l m d))
+    pub done-says : {r : Res PublishTold} {kept image : List ℕ} → Publishing b reuse a r l kept image → r ≡ ok (record { end = end_of m.body; words = (body_told m.header m.body).words })
+    done-says {r} p = (p.says ∙ ap (λ (x : Res Meaning). x >>= λ n. ok (body_told n.header n.body)) (is-done b reuse a l m d))
 
-    pub done-kept : {r : PublishAnswer} {kept image : List ℕ} → Publishing b reuse a r l kept image → kept ≡ (published m l).kept
+    pub done-kept : {r : Res PublishTold} {kept image : List ℕ} → Publishing b reuse a r l kept image → kept ≡ (published m l).kept
     done-kept p = p.kept ∙ ap (λ (x : Res Meaning). after x l.kept (λ n. (published n l).kept)) (is-done b reuse a l m d)
 
-    pub done-image : {r : PublishAnswer} {kept image : List ℕ} → Publishing b reuse a r l kept image → image ≡ (published m l).image
+    pub done-image : {r : Res PublishTold} {kept image : List ℕ} → Publishing b reuse a r l kept image → image ≡ (published m l).image
     done-image p = p.image ∙ ap (λ (x : Res Meaning). after x l.image (λ n. (published n l).image)) (is-done b reuse a l m d)
 
 -- ---- staging a blob with a meaning
 
-module _ {b : List ℕ} {reuse : Bool} {l : Lent} {r : StageAnswer} {spare list : List ℕ} (t : StageRead b reuse r l spare list) where
-  pub staged-refused : {why : Refusal} → r ≡ stage-answer.Refused why → read_says b reuse l ≡ fail why
-  staged-refused e = bind-fail (read_says b reuse l) _ (sym t.says ∙ ap stage_said e)
+module _ {b : List ℕ} {reuse : Bool} {l : Lent} {r : Res Staged} {spare list : List ℕ} (t : StageRead b reuse r l spare list) where
+  pub staged-refused : {why : Refusal} → r ≡ fail why → read_says b reuse l ≡ fail why
+  staged-refused e = bind-fail (read_says b reuse l) _ (sym t.says ∙ e)
 
   module _ {m : Meaning} (e : read_says b reuse l ≡ ok m) where
-    pub staged-answer : r ≡ stage-answer.Staged (staged_of m)
-    staged-answer = stage-same r _ (t.says ∙ rw (e))
+    pub staged-answer : r ≡ ok (staged_of m)
+    staged-answer = (t.says ∙ rw (e))
 
     pub staged-spare : spare ≡ spare_with m.mask l.spare
     staged-spare = t.spare ∙ rw (read-masked b reuse l e)

@@ -13,9 +13,8 @@ use Rattle.lerc_slices.proofs.Begins.{Begins, begins-is, take_begins}
 use Rattle.lerc_header.specs.declared.Header.{Header}
 use Rattle.lerc_header.specs.Shape.{block_count}
 use Rattle.lerc_header.specs.Header.{shape_of}
-use Rattle.lerc_validity.specs.Validity.{MaskInForce, reused, new, bytes_of, spare_with, mask_said, which, in_force}
+use Rattle.lerc_validity.specs.Validity.{MaskInForce, reused, new, bytes_of, spare_with, which, in_force}
 use Rattle.lerc_validity.proofs.Prepared.{in-force}
-use Rattle.lerc_image.specs.declared.FillAnswer.{FillAnswer}
 use Rattle.lerc_image.specs.Geometry.{block_of, is_valid_cell}
 use Rattle.lerc_image.specs.Paint.{among, painted}
 use Rattle.lerc_image.specs.Blocks.{Chain}
@@ -24,14 +23,9 @@ use Rattle.lerc_image.proofs.Painting.{length-painted, painted-cell, is-painted}
 use Rattle.lerc_image.proofs.Upto.{valid-below}
 use Rattle.lerc_header.proofs.Kept.{held-shaped}
 use Rattle.lerc.specs.declared.Staged.{Staged}
-use Rattle.lerc.specs.declared.StageAnswer.TheVariants as stage-answer
-use Rattle.lerc.specs.declared.PublishAnswer.{PublishAnswer}
-use Rattle.lerc.specs.declared.PublishAnswer.TheVariants as publish-answer
-use Rattle.lerc.specs.declared.ReadAnswer.{ReadAnswer}
-use Rattle.lerc.specs.declared.ReadAnswer.TheVariants as read_answer
 use Rattle.lerc.specs.Meaning.{Meaning, Body, empty, constant, raw, blocks, huffman, body_says, cell_word, meaning, meaning_from}
 use Rattle.lerc.specs.Read.{Lent, room, masked, read_says, published, read_after, ReadTold}
-use Rattle.lerc.specs.Stage.{mask_named, staged_body, staged_of, StageRead}
+use Rattle.lerc.specs.Stage.{mask_named, staged_body, staged_of, StageRead, PublishTold}
 use Rattle.lerc.proofs.Both.{read-masked, read_again, means}
 use Rattle.lerc_theorems.specs.Calls.{FillCalls, ReadCall}
 use Rattle.lerc_theorems.specs.DemandThree.{InHand, Case, case_of, Found, AnyOrder}
@@ -40,7 +34,6 @@ use Rattle.lerc_theorems.proofs.DemandTwo.{rise}
 use Rattle.lerc_theorems.proofs.Meanings.{Means, meaning-is, means_is, keeps, mask-kept, rooms}
 use Rattle.lerc_theorems.proofs.OpenedFills as fills
 use Rattle.lerc_theorems.proofs.Refusals.{masked-is}
-use Rattle.lerc_theorems.proofs.SameAnswers.{read_same}
 use Rattle.lerc_staged.specs.Staged.{staged_in, ByStage, OpenedByStage, FillsAnyOrder, Accepted, before_stage, ThenPublish, FillsBetween, FillsThenRead, FillsComplete}
 use Rattle.lerc_staged.proofs.Calls.{stage-call, publish-call}
 use Rattle.lerc_staged.proofs.Done.{front_of, Done, done-says, done-kept, done-image, staged-spare, staged-list}
@@ -73,7 +66,7 @@ module _ (b : List ℕ) (reuse : Bool) (l : Lent) (m : Meaning) (e : read_says b
       let r = mask-kept b reuse l.kept m read-parts (rooms m.header l read-room).kept in
       in-force m.mask (ok m.mask) (mask_named m.mask) l.kept l.spare _ refl r.part (record { says = named m.mask; spare = refl })
     where
-      named : (f : MaskInForce) → mask_said (mask_named f) ≡ which f
+      named : (f : MaskInForce) → (mask_named f) ≡ which f
       named (reused w) = refl
       named (new w) = refl
 
@@ -92,7 +85,7 @@ module _ (x : InHand) (w : ByStage x) where
     many : length c.starts ≡ block_count (shape_of x.header)
     many = (rise x.blob x.reuse x.kept x.header f c (read-means x.blob x.reuse old whole e)).0
 
-    t : StageRead x.blob x.reuse (stage-answer.Staged (staged_in x w.said)) old w.prepared w.listed
+    t : StageRead x.blob x.reuse (ok (staged_in x w.said)) old w.prepared w.listed
     t = stage-call w.stage
 
     -- the list begins with the starts
@@ -195,7 +188,7 @@ module _ (x : InHand) (w : ByStage x) (t : Found x) where
   with-image image = record { kept = x.kept; spare = w.prepared; list = w.listed; image = image }
 
   -- also from an image that is as long
-  pub given-again : (image : List ℕ) → length image ≡ length x.image → Done x.blob x.reuse (stage-answer.Staged (staged_in x w.said)) (with-image image) meant
+  pub given-again : (image : List ℕ) → length image ≡ length x.image → Done x.blob x.reuse (ok (staged_in x w.said)) (with-image image) meant
   given-again image long =
       let d = rw (is-meant) at (gives (stage-call w.stage)) in
       record {
@@ -225,14 +218,14 @@ module _ (x : InHand) (w : ByStage x) (t : Found x) where
   unfolding published
   published-is image k s n i = rw (k, s, n, i)
 
-  module _ (ns : List ℕ) (said : List FillAnswer) (filled : List ℕ) (calls : FillCalls x.blob x.header x.ranges x.mask x.list ns said x.image filled) where
+  module _ (ns : List ℕ) (said : List (Res ℕ)) (filled : List ℕ) (calls : FillCalls x.blob x.header x.ranges x.mask x.list ns said x.image filled) where
     long : length filled ≡ length x.image
     long = fills.long case t.opened ns said filled calls
 
     exact : (c : ℕ) → c < length x.image → get_or filled c 0 ≡ cond (valid c && among ns (block_of (shape_of x.header) c)) (word c) (get_or x.image c 0)
     exact = fills.exact case t.opened ns said filled calls
 
-    pub between : (done told : PublishAnswer) (kept image other-kept other-image : List ℕ) → ThenPublish x w x.image done kept image → ThenPublish x w filled told other-kept other-image
+    pub between : (done told : Res PublishTold) (kept image other-kept other-image : List ℕ) → ThenPublish x w x.image done kept image → ThenPublish x w filled told other-kept other-image
         → Accepted told × (told ≡ done) × (other-kept ≡ kept) × (other-image ≡ image)
     between done told kept image other-kept other-image p q =
         let d = given-again x.image refl in
@@ -248,8 +241,8 @@ module _ (x : InHand) (w : ByStage x) (t : Found x) where
               ∙ sym (done-image d (publish-call p)),
         )
 
-    pub then-read : (told : PublishAnswer) (answer : ReadAnswer) (kept image : List ℕ) (left : Lent) → ThenPublish x w filled told kept image → ReadCall x.blob x.reuse answer (old x w) left
-        → (told ≡ publish-answer.Published x.end (x.header.valid * x.header.depth)) × (answer ≡ read_answer.Whole x.header x.count x.end)
+    pub then-read : (told : Res PublishTold) (answer : Res ReadTold) (kept image : List ℕ) (left : Lent) → ThenPublish x w filled told kept image → ReadCall x.blob x.reuse answer (old x w) left
+        → (told ≡ ok (record { end = x.end; words = (x.header.valid * x.header.depth) })) × (answer ≡ ok (record { header = x.header; blocks = x.count; end = x.end }))
         × (left ≡ record { kept = kept; spare = w.prepared; list = w.listed; image = image })
     then-read told answer kept image left q c =
         let r = whole-read.1 ∙ ap ok is-meant in
@@ -257,14 +250,14 @@ module _ (x : InHand) (w : ByStage x) (t : Found x) where
         let e = given-again filled long in
         let v = read-call c in
         let over-filled = painted-over x.image filled valid (λ c. among ns (block_of (shape_of x.header) c)) word long exact in (
-          done-says e (publish-call q) ∙ ap (λ (n : ℕ). publish-answer.Published n (x.header.valid * x.header.depth)) (sym t.end),
-          read_same answer (read_answer.Whole x.header x.count x.end) (v.says ∙ rw (r) (ap {B = Res ReadTold} (λ (g : Staged). ok (record { header = x.header; blocks = g.blocks; end = g.end })) (sym s))),
+          done-says e (publish-call q) ∙ ap (λ (n : ℕ). ok (record { end = n; words = (x.header.valid * x.header.depth) })) (sym t.end),
+          (v.says ∙ rw (r) (ap {B = Res ReadTold} (λ (g : Staged). ok (record { header = x.header; blocks = g.blocks; end = g.end })) (sym s))),
           v.lent
               ∙ ap (λ (y : Res Meaning). read_after y (masked x.blob x.reuse (old x w)) (old x w)) r
               ∙ sym (published-is filled (done-kept e (publish-call q)) (staged-spare (stage-call w.stage) r) (staged-list (stage-call w.stage) r) (done-image e (publish-call q) ∙ image-is filled ∙ over-filled)),
         )
 
-    pub complete : ((n : ℕ) → n < x.count → among ns n ≡ true) → (done : PublishAnswer) (kept image : List ℕ) → ThenPublish x w x.image done kept image → filled ≡ image
+    pub complete : ((n : ℕ) → n < x.count → among ns n ≡ true) → (done : Res PublishTold) (kept image : List ℕ) → ThenPublish x w x.image done kept image → filled ≡ image
     complete all done kept image p =
         let h = x.header in
         let held = keeps x.blob x.reuse x.kept meant (meaning-is x.blob x.reuse x.kept meant t.opened.means) in

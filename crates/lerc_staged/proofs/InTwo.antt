@@ -12,22 +12,15 @@ use Rattle.lerc_words.proofs.Binding.{bind-fail, bind-counts}
 use Rattle.lerc_slices.proofs.Begins.{over-begins}
 use Rattle.lerc_image.specs.Paint.{among}
 use Rattle.lerc.specs.declared.Staged.{Staged}
-use Rattle.lerc.specs.declared.StageAnswer.{StageAnswer}
-use Rattle.lerc.specs.declared.StageAnswer.TheVariants as stage-answer
-use Rattle.lerc.specs.declared.PublishAnswer.{PublishAnswer}
-use Rattle.lerc.specs.declared.PublishAnswer.TheVariants as publish-answer
-use Rattle.lerc.specs.declared.ReadAnswer.{ReadAnswer}
-use Rattle.lerc.specs.declared.ReadAnswer.TheVariants as read_answer
 use Rattle.lerc.specs.Meaning.{Meaning, end_of, starts_of}
-use Rattle.lerc.specs.Read.{Lent, masked, read_says, read_count, read_said, read_after, WholeRead}
-use Rattle.lerc.specs.Stage.{staged_of, stage_said, was_staged, publish_says, publish_said, StageRead, Publishing}
+use Rattle.lerc.specs.Read.{Lent, masked, read_says, read_count, read_after, WholeRead, ReadTold}
+use Rattle.lerc.specs.Stage.{staged_of, was_staged, publish_says, StageRead, Publishing, PublishTold}
 use Rattle.lerc.proofs.Both.{read-refused, read_done, publishes, means}
 use Rattle.lerc_theorems.proofs.Calls.{read-call}
 use Rattle.lerc_theorems.proofs.Demands.{fail-is, not-refused}
 use Rattle.lerc_theorems.proofs.Entries.{whole-exactly}
 use Rattle.lerc_theorems.proofs.Given.{whole_in}
 use Rattle.lerc_theorems.proofs.Refusals.{whole-keeps}
-use Rattle.lerc_theorems.proofs.SameAnswers.{read_same, stage-same, publish-same}
 use Rattle.lerc_staged.specs.Calls.{as_staged, as_published}
 use Rattle.lerc_staged.specs.Staged.{RefusedInTwo, AcceptedInTwo, MeantInTwo, Gave, PublishAccepts, PublishKeeps, StageKeeps, StageRefuses, StageAsRead, NotGiven, PublishRefuses, numbers, StageNumbers, PublishNumbers}
 use Rattle.lerc_staged.proofs.Calls.{stage-call, publish-call}
@@ -36,19 +29,19 @@ use Rattle.lerc_staged.proofs.Done.{spare-kept, kept-spare, kept-list, Done, don
 -- ---- the whole read
 
 -- two outcomes of a whole read coincide
-pub read_alike : {b : List ℕ} {reuse : Bool} {r q : ReadAnswer} {old x y : Lent} → WholeRead b reuse r old x → WholeRead b reuse q old y → (q ≡ r) × (y ≡ x)
-read_alike {r = r} {q = q} p u = (read_same q r (u.says ∙ sym p.says), u.lent ∙ sym p.lent)
+pub read_alike : {b : List ℕ} {reuse : Bool} {r q : Res ReadTold} {old x y : Lent} → WholeRead b reuse r old x → WholeRead b reuse q old y → (q ≡ r) × (y ≡ x)
+read_alike {r = r} {q = q} p u = ((u.says ∙ sym p.says), u.lent ∙ sym p.lent)
 
 pub refused-in-two : RefusedInTwo
 refused-in-two b reuse why answer old left spare list t c = read_alike (read-refused b reuse old (stage-call t)) (read-call c)
 
 -- publishing what staging gave
-module _ {b : List ℕ} {reuse : Bool} {found : Staged} {old : Lent} {spare list : List ℕ} (t : StageRead b reuse (stage-answer.Staged found) old spare list) where
+module _ {b : List ℕ} {reuse : Bool} {found : Staged} {old : Lent} {spare list : List ℕ} (t : StageRead b reuse (ok found) old spare list) where
   abbrev whole : Meaning
   whole = (means b reuse old t).0
 
-  pub gives : Done b reuse (stage-answer.Staged found) (as_staged old spare list) whole
-  gives = done-is b reuse (stage-answer.Staged found) (as_staged old spare list) whole (publishes b reuse old t)
+  pub gives : Done b reuse (ok found) (as_staged old spare list) whole
+  gives = done-is b reuse (ok found) (as_staged old spare list) whole (publishes b reuse old t)
 
 pub accepted-in-two : AcceptedInTwo
 accepted-in-two b reuse found done answer old left kept spare list image t p c =
@@ -74,7 +67,7 @@ meant-in-two b reuse found done old kept spare list image t p =
 -- ---- what is accepted
 
 -- staging a meaning that it gave already
-module _ {b : List ℕ} {reuse : Bool} {given answer : StageAnswer} {old : Lent} {spare list : List ℕ} (t : StageRead b reuse answer old spare list) where
+module _ {b : List ℕ} {reuse : Bool} {given answer : Res Staged} {old : Lent} {spare list : List ℕ} (t : StageRead b reuse answer old spare list) where
   pub done-gave : {m : Meaning} → Done b reuse given old m → Gave given answer old spare list
   done-gave {m} d = record {
     found = staged_of m;
@@ -86,7 +79,7 @@ module _ {b : List ℕ} {reuse : Bool} {given answer : StageAnswer} {old : Lent}
 
   pub gave-done : Gave given answer old spare list → (m : Meaning) × Done b reuse given old m
   gave-done g =
-      let (m, e, _) = bind-counts (read_says b reuse old) _ (sym t.says ∙ ap stage_said g.staged) in (
+      let (m, e, _) = bind-counts (read_says b reuse old) _ (sym t.says ∙ g.staged) in (
         m,
         record {
           means = e;
@@ -118,19 +111,19 @@ stage-keeps b reuse why old spare list t = whole-keeps b reuse old (as_staged ol
 pub stage-refuses : StageRefuses
 stage-refuses b reuse said why old spare list t = (
   (λ e. (whole-exactly b reuse old why).0 (staged-refused (stage-call t) e)),
-  (λ w. stage-same said (stage-answer.Refused why) ((stage-call t).says ∙ rw ((whole-exactly b reuse old why).1 w))),
+  (λ w. ((stage-call t).says ∙ rw ((whole-exactly b reuse old why).1 w))),
 )
 
 pub stage-as-read : StageAsRead
 stage-as-read b reuse said answer why old left spare list t c = (
-  (λ e. read_same answer (read_answer.Refused why) ((read-call c).says ∙ ap (λ (x : Res Meaning). x >>= read_count) (staged-refused (stage-call t) e))),
+  (λ e. ((read-call c).says ∙ ap (λ (x : Res Meaning). x >>= read_count) (staged-refused (stage-call t) e))),
   (λ e.
-      let n = bind-fail (read_says b reuse old) _ (sym (read-call c).says ∙ ap read_said e) in
-      stage-same said (stage-answer.Refused why) ((stage-call t).says ∙ ap (λ (x : Res Meaning). x >>= λ m. ok (staged_of m)) n)),
+      let n = bind-fail (read_says b reuse old) _ (sym (read-call c).says ∙ e) in
+      ((stage-call t).says ∙ ap (λ (x : Res Meaning). x >>= λ m. ok (staged_of m)) n)),
 )
 
 -- what publishing says, by what was read
-module _ (b : List ℕ) (reuse : Bool) (given : StageAnswer) (old : Lent) where
+module _ (b : List ℕ) (reuse : Bool) (given : Res Staged) (old : Lent) where
   refused-read : {why : Refusal} → read_says b reuse old ≡ fail why → publish_says b reuse given old ≡ fail why
   unfolding publish_says
   refused-read e = rw (e)
@@ -160,18 +153,18 @@ module _ (b : List ℕ) (reuse : Bool) (given : StageAnswer) (old : Lent) where
       go (ok m) e = test m e (was_staged m given old) refl
       go (fail why) e = blob why e
 
-module _ {b : List ℕ} {reuse : Bool} {given : StageAnswer} {said : PublishAnswer} {old : Lent} {kept image : List ℕ} (p : Publishing b reuse given said old kept image) where
-  pub refused-by : {why : Refusal} → publish_says b reuse given old ≡ fail why → said ≡ publish-answer.Refused why
-  refused-by {why} e = publish-same said (publish-answer.Refused why) (p.says ∙ rw (e))
+module _ {b : List ℕ} {reuse : Bool} {given : Res Staged} {said : Res PublishTold} {old : Lent} {kept image : List ℕ} (p : Publishing b reuse given said old kept image) where
+  pub refused-by : {why : Refusal} → publish_says b reuse given old ≡ fail why → said ≡ fail why
+  refused-by {why} e = (p.says ∙ rw (e))
 
-  pub refused_says : {why : Refusal} → said ≡ publish-answer.Refused why → publish_says b reuse given old ≡ fail why
-  refused_says e = bind-fail (publish_says b reuse given old) _ (sym p.says ∙ ap publish_said e)
+  pub refused_says : {why : Refusal} → said ≡ fail why → publish_says b reuse given old ≡ fail why
+  refused_says e = bind-fail (publish_says b reuse given old) _ (sym p.says ∙ e)
 
 -- a refusal is no acceptance
 pub clash : {A : Type 0} {P : Type 0} {a : A} {r : Refusal} {m : Res A} → m ≡ ok a → m ≡ fail r → P
 clash e f = not-refused (sym e ∙ f)
 
-module _ {b : List ℕ} {reuse : Bool} {given answer : StageAnswer} {old : Lent} {spare list : List ℕ} (t : StageRead b reuse answer old spare list) where
+module _ {b : List ℕ} {reuse : Bool} {given answer : Res Staged} {old : Lent} {spare list : List ℕ} (t : StageRead b reuse answer old spare list) where
   -- a meaning that was not staged so was not given
   not-given : {m : Meaning} → read_says b reuse old ≡ ok m → publish_says b reuse given old ≡ fail (refuse 3) → NotGiven given answer old spare list
   not-given {m} e n = record {
@@ -180,17 +173,17 @@ module _ {b : List ℕ} {reuse : Bool} {given answer : StageAnswer} {old : Lent}
     other = λ g. let (k, d) = gave-done t g in clash (is-done b reuse given old k d) n;
   }
 
-  by_end : (why : Refusal) → publish_says b reuse given old ≡ fail why → Ends b reuse given old → (answer ≡ stage-answer.Refused why) ⊎ ((why ≡ refuse 3) × NotGiven given answer old spare list)
+  by_end : (why : Refusal) → publish_says b reuse given old ≡ fail why → Ends b reuse given old → (answer ≡ fail why) ⊎ ((why ≡ refuse 3) × NotGiven given answer old spare list)
   by_end why e (blob r q) =
       let z : r ≡ why = fail-is (sym (refused-read b reuse given old q) ∙ e) in
-      inl (stage-same answer (stage-answer.Refused why) (t.says ∙ rw (q, z)))
+      inl ((t.says ∙ rw (q, z)))
   by_end why e (other m q u) =
       let n = refused-other b reuse given old q u in
       inr (fail-is (sym e ∙ n), not-given q n)
   by_end why e (done m d) = clash (is-done b reuse given old m d) e
 
   not-gave : NotGiven given answer old spare list → Ends b reuse given old → publish_says b reuse given old ≡ fail (refuse 3)
-  not-gave n (blob r q) = absurd (let u : stage_said (stage-answer.Staged n.found) ≡ fail r = sym (ap stage_said n.staged) ∙ t.says ∙ rw (q) in let z : ◌≡◌ {A = ℕ} 0 1 = cc in omega arith)
+  not-gave n (blob r q) = absurd (let u : (ok n.found) ≡ fail r = sym n.staged ∙ t.says ∙ rw (q) in let z : ◌≡◌ {A = ℕ} 0 1 = cc in omega arith)
   not-gave n (other m q u) = refused-other b reuse given old q u
   not-gave n (done m d) = absurd (n.other (done-gave t d))
 
@@ -200,7 +193,7 @@ publish-refuses b reuse given answer said why old kept image spare list p t = (
   (λ s. refused-by (publish-call p) (go s)),
 )
   where
-    go : (answer ≡ stage-answer.Refused why) ⊎ ((why ≡ refuse 3) × NotGiven given answer old spare list) → publish_says b reuse given old ≡ fail why
+    go : (answer ≡ fail why) ⊎ ((why ≡ refuse 3) × NotGiven given answer old spare list) → publish_says b reuse given old ≡ fail why
     go (inl e) = refused-read b reuse given old (staged-refused (stage-call t) e)
     go (inr (e, n)) = not-gave (stage-call t) n (ends b reuse given old) ∙ ap fail (sym e)
 

@@ -7,7 +7,7 @@ use mathlib.Core.List.{List}
 use Prim.Native.Nat.{ℕ, ◌*◌, ◌/◌, ◌≤◌}
 use native.Mathlib.Omega.{arith}
 use lib.ListN.{length}
-use Rattle.lerc_words.specs.Res.{ok}
+use Rattle.lerc_words.specs.Res.{ok, Res}
 use borrow.Author.Tests.{lt-ltb}
 use Rattle.lerc_words.specs.Lists.{over, count}
 use Rattle.lerc_words.proofs.Counts.{count_same, count-rows}
@@ -16,19 +16,14 @@ use Rattle.lerc_mask.specs.Mask.{pixel_valid, valid_below}
 use Rattle.lerc_words.proofs.Binding.{ok-is}
 use Rattle.lerc_header.specs.Shape.{pixels, cells, mask_length}
 use Rattle.lerc_header.specs.Header.{shape_of}
-use Rattle.lerc_validity.specs.declared.MaskAnswer.TheVariants as mask
 use Rattle.lerc_validity.specs.Validity.{MaskInForce, reused, new, bytes_of, spare_with, in_force}
 use Rattle.lerc_image.specs.Geometry.{is_valid_cell}
 use Rattle.lerc_image.proofs.Upto.{valid-below}
 use Rattle.lerc.specs.declared.BodyKind.TheVariants as kind
 use Rattle.lerc.specs.declared.Staged.{Staged}
-use Rattle.lerc.specs.declared.StageAnswer.{StageAnswer}
-use Rattle.lerc.specs.declared.StageAnswer.TheVariants as stage-answer
-use Rattle.lerc.specs.declared.PublishAnswer.TheVariants as publish-answer
-use Rattle.lerc.specs.declared.ReadAnswer.TheVariants as read_answer
 use Rattle.lerc.specs.Meaning.{Meaning, Body, empty, constant, raw, blocks, huffman, starts_of, end_of}
 use Rattle.lerc.specs.Read.{Lent, read_says, published, WholeRead}
-use Rattle.lerc.specs.Stage.{kind_of, mask_named, staged_of}
+use Rattle.lerc.specs.Stage.{kind_of, mask_named, staged_of, PublishTold}
 use Rattle.lerc.proofs.Both.{means}
 use Rattle.lerc_theorems.specs.Writes.{AlikeFrom, AlikeBut}
 use Rattle.lerc_theorems.proofs.Meanings.{mask-kept, rooms}
@@ -37,6 +32,7 @@ use Rattle.lerc_staged.specs.Staged.{StageWritten, StageWrites, PublishWritten, 
 use Rattle.lerc_staged.proofs.Calls.{stage-call, publish-call}
 use Rattle.lerc_staged.proofs.Done.{Done, spare-kept, done-of, done-says, done-kept, done-image, staged-spare, staged-list}
 use Rattle.lerc_staged.proofs.Fills.{read-room, read-parts, read-handed}
+use Rattle.lerc_validity.specs.declared.Mask.TheVariants as mask
 
 -- a whole read with this meaning writes no more
 pub record Writes (m : Meaning) (l : Lent) : Type 0 where
@@ -46,7 +42,7 @@ pub record Writes (m : Meaning) (l : Lent) : Type 0 where
   pub image : AlikeBut (is_valid_cell (shape_of m.header) (bytes_of m.mask)) l.image (published m l).image
 
 module _ (b : List ℕ) (reuse : Bool) (l : Lent) (m : Meaning) (e : read_says b reuse l ≡ ok m) where
-  whole : WholeRead b reuse (read_answer.Whole m.header (length (starts_of m.body)) (end_of m.body)) l (published m l)
+  whole : WholeRead b reuse (ok (record { header = m.header; blocks = (length (starts_of m.body)); end = (end_of m.body) })) l (published m l)
   whole = record { says = rw (e); lent = rw (e) }
 
   pub writes : Writes m l
@@ -63,7 +59,7 @@ module _ (b : List ℕ) (reuse : Bool) (l : Lent) (m : Meaning) (e : read_says b
 
 -- ---- staging
 
-reused-spare : (f : MaskInForce) (spare : List ℕ) (n : ℕ) → mask_named f ≡ mask.Kept n → spare_with f spare ≡ spare
+reused-spare : (f : MaskInForce) (spare : List ℕ) (n : ℕ) → mask_named f ≡ ok (mask.Kept n) → spare_with f spare ≡ spare
 reused-spare (reused w) spare n e = refl
 reused-spare (new w) spare n e = absurd (let z : ◌≡◌ {A = ℕ} 0 1 = cc in omega arith)
 
@@ -91,18 +87,18 @@ stage-writes b reuse found old spare list t = let (m, e, s) = means b reuse old 
 
 -- ---- publishing
 
-pub staged-is : {a b : Staged} → stage-answer.Staged a ≡ stage-answer.Staged b → a ≡ b
+pub staged-is : {a b : Staged} → ok a ≡ ok b → a ≡ b
 staged-is e = cc
 
 -- what publishing was lent holds the mask in force
-module _ {b : List ℕ} {reuse : Bool} {a : StageAnswer} {l : Lent} {m : Meaning} (d : Done b reuse a l m) where
+module _ {b : List ℕ} {reuse : Bool} {a : Res Staged} {l : Lent} {m : Meaning} (d : Done b reuse a l m) where
   pub done-handed : in_force (mask_named m.mask) l.kept l.spare ≡ bytes_of m.mask
   done-handed = ap (in_force (mask_named m.mask) l.kept) (sym (spare-kept m.mask l.spare d.spare)) ∙ read-handed b reuse l m d.means
 
 pub publish-writes : PublishWrites
 publish-writes b reuse found end words old kept image p = let (m, d) = done-of (publish-call p) refl in rw (staged-is d.answer) (go m d)
   where
-    go : (m : Meaning) → Done b reuse (stage-answer.Staged found) old m → PublishWritten (staged_of m) old kept image
+    go : (m : Meaning) → Done b reuse (ok found) old m → PublishWritten (staged_of m) old kept image
     go m d =
         let h = m.header in
         let w = writes b reuse old m d.means in
@@ -133,5 +129,5 @@ publish-words b reuse found end words old kept image p =
     ∙ ap (λ (k : List ℕ). count (cells (shape_of h)) (is_valid_cell (shape_of h) k)) (sym (done-handed d))
     ∙ ap (λ (s : Staged). count (cells (shape_of s.header)) (is_valid_cell (shape_of s.header) (in_force s.mask old.kept old.spare))) (sym (staged-is d.answer))
   where
-    words_are : {e n k j : ℕ} → publish-answer.Published e n ≡ publish-answer.Published k j → n ≡ j
-    words_are q = cc
+    words_are : {e n k j : ℕ} → ok {A = PublishTold} (record { end = e; words = n }) ≡ ok {A = PublishTold} (record { end = k; words = j }) → n ≡ j
+    words_are q = ap (λ (t : PublishTold). t.words) (ok-is q)

@@ -20,14 +20,12 @@ use Rattle.lerc_checksum.proofs.Claim.{laws}
 use Rattle.lerc_checksum.proofs.Computed.{witnesses}
 use Rattle.lerc_header.specs.declared.Header.{Header}
 use Rattle.lerc_header.specs.declared.Extent.{Extent}
-use Rattle.lerc_header.specs.declared.HeaderAnswer.TheVariants as header-answer
-use Rattle.lerc_header.specs.Header.{error_right, pair_right, fields_right, within_ceilings, header_bytes, key_right, header_of, held, summed_bytes, checksum_right, header_says, header_said}
+use Rattle.lerc_header.specs.Header.{error_right, pair_right, fields_right, within_ceilings, header_bytes, key_right, header_of, held, summed_bytes, checksum_right, header_says}
 use Rattle.lerc_header.proofs.Kept.{header-summed}
 use Rattle.lerc_mask.proofs.Steps.{bytes-part}
 use Rattle.lerc_validity.specs.Validity.{MaskInForce, mask_says, bytes_of}
-use Rattle.lerc.specs.declared.ReadAnswer.TheVariants as read_answer
 use Rattle.lerc.specs.Meaning.{Meaning, body_says, meaning_from, meaning}
-use Rattle.lerc.specs.Read.{Lent, Masked, masked, read_says, ReadTold, read_count, read_said, refused_after, read_after}
+use Rattle.lerc.specs.Read.{Lent, Masked, masked, read_says, ReadTold, read_count, refused_after, read_after}
 use Rattle.lerc.proofs.Endings.{header-no}
 use Rattle.lerc_theorems.specs.Table.{HeaderRefused, header-cut, key-wrong, not-held, checksum-wrong, WholeRefused, whole-header, whole_room, whole-mask, whole-body}
 use Rattle.lerc_theorems.specs.Calls.{HeaderCall}
@@ -37,7 +35,6 @@ use Rattle.lerc_theorems.proofs.Given.{held_in, body-in}
 use Rattle.lerc_theorems.proofs.Headers.{header-exactly}
 use Rattle.lerc_theorems.proofs.Meanings.{meaning-is, means_is}
 use Rattle.lerc_theorems.proofs.Refusals.{masked-is}
-use Rattle.lerc_theorems.proofs.SameAnswers.{header-same, read_same}
 use Rattle.lerc_summed.specs.Summed.{WronglySummed, unsummed_header, unsummed_meaning, HeaderRefuses, ReadRefuses, ReadKeeps, HeaderSummed, ReadSummed, ZeroRefused, WordRefused, HeaderAsBefore, HeaderRefusedAsBefore, MeaningAsBefore, ReadAsBefore, SizeMissed, unsummed_masked, unsummed_read, Summed}
 
 -- ---- 13 is for a wrong checksum, and for nothing else
@@ -63,20 +60,20 @@ whole-wrong b reuse l why (whole-body k d r) e = absurd (body-in Other (λ z. om
 
 header_refused : HeaderRefuses
 header_refused b said c = (
-  (λ e. header-wrong b (refuse 13) ((header-exactly b (refuse 13)).0 (sym (header-call c) ∙ ap header_said e)) refl),
-  (λ w. header-same said (header-answer.Refused (refuse 13)) (header-call c ∙ (header-exactly b (refuse 13)).1 (wrong-header b w))),
+  (λ e. header-wrong b (refuse 13) ((header-exactly b (refuse 13)).0 (sym (header-call c) ∙ e)) refl),
+  (λ w. (header-call c ∙ (header-exactly b (refuse 13)).1 (wrong-header b w))),
 )
 
 read-refused : ReadRefuses
 read-refused b reuse said old new c = (
-  (λ e. whole-wrong b reuse old (refuse 13) ((whole-exactly b reuse old (refuse 13)).0 (bind-fail (read_says b reuse old) _ (sym (read-call c).says ∙ ap read_said e))) refl),
-  (λ w. read_same said (read_answer.Refused (refuse 13)) ((read-call c).says ∙ rw ((whole-exactly b reuse old (refuse 13)).1 (whole-header (wrong-header b w))))),
+  (λ e. whole-wrong b reuse old (refuse 13) ((whole-exactly b reuse old (refuse 13)).0 (bind-fail (read_says b reuse old) _ (sym (read-call c).says ∙ e))) refl),
+  (λ w. ((read-call c).says ∙ rw ((whole-exactly b reuse old (refuse 13)).1 (whole-header (wrong-header b w))))),
 )
 
 read_keeps : ReadKeeps
 unfolding refused_after
 read_keeps b reuse old new c =
-    let w = (read-refused b reuse (read_answer.Refused (refuse 13)) old new c).0 refl in
+    let w = (read-refused b reuse (fail (refuse 13)) old new c).0 refl in
     let no = (header-exactly b (refuse 13)).1 (wrong-header b w) in
     let read_no = (whole-exactly b reuse old (refuse 13)).1 (whole-header (wrong-header b w)) in
     (read-call c).lent ∙ rw (read_no, header-no b reuse old no)
@@ -108,7 +105,7 @@ read_has b reuse h n end old new c =
 
 zero-stored : ZeroRefused
 zero-stored b said bytes c z h e =
-    let read : HeaderCall b (header-answer.Read h) = subst (HeaderCall b) e c in
+    let read : HeaderCall b (ok h) = subst (HeaderCall b) e c in
     laws.never-zero (summed_bytes b h.size) (bytes-part b 14 (h.size - 14) bytes) (sym (stored_is b h (sym (header-call read))) ∙ z)
 
 one_word : WordRefused
@@ -162,14 +159,14 @@ before-refused b why n e = go (leb header_bytes (length b)) (key_right b) (held 
 
 header-refused-as-before : HeaderRefusedAsBefore
 header-refused-as-before b why said c n = (
-  (λ e. before-refused b why n (sym (header-call c) ∙ ap header_said e)),
-  (λ e. header-same said (header-answer.Refused why) (header-call c ∙ refused-before b why e)),
+  (λ e. before-refused b why n (sym (header-call c) ∙ e)),
+  (λ e. (header-call c ∙ refused-before b why e)),
 )
 
 header-as-before : HeaderAsBefore
 header-as-before b h said c = (
-  (λ e. let says : header_says b ≡ ok h = sym (header-call c) ∙ ap header_said e in (unsummed b h says, header-summed b h says)),
-  (λ p. header-same said (header-answer.Read h) (header-call c ∙ resummed b h p.0 p.1)),
+  (λ e. let says : header_says b ≡ ok h = sym (header-call c) ∙ e in (unsummed b h says, header-summed b h says)),
+  (λ p. (header-call c ∙ resummed b h p.0 p.1)),
 )
 
 module _ (b : List ℕ) (reuse : Bool) (old : List ℕ) (m : Meaning) where

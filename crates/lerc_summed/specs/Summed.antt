@@ -7,14 +7,10 @@ use Rattle.lerc_checksum.specs.Checksum.{word, checksum}
 use Rattle.lerc_checksum.specs.Laws.{Bytes, OneChanged, ChecksumLaws}
 use Rattle.lerc_checksum.specs.Witness.{Witnesses}
 use Rattle.lerc_header.specs.declared.Header.{Header}
-use Rattle.lerc_header.specs.declared.HeaderAnswer.{HeaderAnswer}
-use Rattle.lerc_header.specs.declared.HeaderAnswer.TheVariants as header-answer
 use Rattle.lerc_header.specs.Header.{header_bytes, key_right, header_of, held, summed_bytes, checksum_right, header_says}
 use Rattle.lerc_validity.specs.Validity.{mask_says}
-use Rattle.lerc.specs.declared.ReadAnswer.{ReadAnswer}
-use Rattle.lerc.specs.declared.ReadAnswer.TheVariants as read_answer
 use Rattle.lerc.specs.Meaning.{Meaning, meaning_from, meaning}
-use Rattle.lerc.specs.Read.{Lent, room, Masked, read_count, read_said, read_after}
+use Rattle.lerc.specs.Read.{Lent, room, Masked, read_count, read_after, ReadTold}
 use Rattle.lerc_theorems.specs.Table.{HeldRight, ChecksumWrong}
 use Rattle.lerc_theorems.specs.Calls.{HeaderCall, ReadCall}
 
@@ -56,41 +52,41 @@ unsummed_read b reuse l = do
 
 -- "Refusal 13, after the header's own refusals", exactly: by header reading
 abbrev pub HeaderRefuses : Type 0
-HeaderRefuses = (b : List ℕ) (said : HeaderAnswer) → HeaderCall b said → (said ≡ header-answer.Refused (refuse 13)) ↔ WronglySummed b
+HeaderRefuses = (b : List ℕ) (said : Res Header) → HeaderCall b said → (said ≡ fail (refuse 13)) ↔ WronglySummed b
 
 -- "and before room": by whole read, whatever the slices
 abbrev pub ReadRefuses : Type 0
-ReadRefuses = (b : List ℕ) (reuse : Bool) (said : ReadAnswer) (old new : Lent) → ReadCall b reuse said old new → (said ≡ read_answer.Refused (refuse 13)) ↔ WronglySummed b
+ReadRefuses = (b : List ℕ) (reuse : Bool) (said : Res ReadTold) (old new : Lent) → ReadCall b reuse said old new → (said ≡ fail (refuse 13)) ↔ WronglySummed b
 
 -- and every slice is as it was, the spare too
 abbrev pub ReadKeeps : Type 0
-ReadKeeps = (b : List ℕ) (reuse : Bool) (old new : Lent) → ReadCall b reuse (read_answer.Refused (refuse 13)) old new → new ≡ old
+ReadKeeps = (b : List ℕ) (reuse : Bool) (old new : Lent) → ReadCall b reuse (fail (refuse 13)) old new → new ≡ old
 
 -- what is read has the checksum of its bytes: by header reading, so that all laws of checksums apply
 abbrev pub HeaderSummed : Type 0
-HeaderSummed = (b : List ℕ) (h : Header) → HeaderCall b (header-answer.Read h) → little 4 b 10 ≡ checksum (summed_bytes b h.size)
+HeaderSummed = (b : List ℕ) (h : Header) → HeaderCall b (ok h) → little 4 b 10 ≡ checksum (summed_bytes b h.size)
 
 -- and by whole read
 abbrev pub ReadSummed : Type 0
-ReadSummed = (b : List ℕ) (reuse : Bool) (h : Header) (n end : ℕ) (old new : Lent) → ReadCall b reuse (read_answer.Whole h n end) old new → little 4 b 10 ≡ checksum (summed_bytes b h.size)
+ReadSummed = (b : List ℕ) (reuse : Bool) (h : Header) (n end : ℕ) (old new : Lent) → ReadCall b reuse (ok (record { header = h; blocks = n; end = end })) old new → little 4 b 10 ≡ checksum (summed_bytes b h.size)
 
 -- "A stored 0 is never right"
 abbrev pub ZeroRefused : Type 0
-ZeroRefused = (b : List ℕ) (said : HeaderAnswer) → Bytes b → HeaderCall b said → little 4 b 10 ≡ 0 → (h : Header) → said ≢ header-answer.Read h
+ZeroRefused = (b : List ℕ) (said : Res Header) → Bytes b → HeaderCall b said → little 4 b 10 ≡ 0 → (h : Header) → said ≢ ok h
 
 -- of two blobs of one size that store the same and differ in one word, not by a multiple of 65,535, not both are read. (Where the word is of the size itself, other bytes are summed: `SizeMissed`.)
 abbrev pub WordRefused : Type 0
 WordRefused =
     (i : ℕ) (b c : List ℕ) (h g : Header) → Bytes b → Bytes c → little 4 b 10 ≡ little 4 c 10 → OneChanged i (summed_bytes b h.size) (summed_bytes c g.size)
-    → word (summed_bytes b h.size) i % 65535 ≢ word (summed_bytes c g.size) i % 65535 → HeaderCall b (header-answer.Read h) → HeaderCall c (header-answer.Read g) → ⊥
+    → word (summed_bytes b h.size) i % 65535 ≢ word (summed_bytes c g.size) i % 65535 → HeaderCall b (ok h) → HeaderCall c (ok g) → ⊥
 
 -- a header is accepted exactly where it was and the checksum is right
 abbrev pub HeaderAsBefore : Type 0
-HeaderAsBefore = (b : List ℕ) (h : Header) (said : HeaderAnswer) → HeaderCall b said → (said ≡ header-answer.Read h) ↔ ((unsummed_header b ≡ ok h) × (checksum_right b h.size ≡ true))
+HeaderAsBefore = (b : List ℕ) (h : Header) (said : Res Header) → HeaderCall b said → (said ≡ ok h) ↔ ((unsummed_header b ≡ ok h) × (checksum_right b h.size ≡ true))
 
 -- and refused otherwise than 13 exactly where it was, by that number at that place
 abbrev pub HeaderRefusedAsBefore : Type 0
-HeaderRefusedAsBefore = (b : List ℕ) (why : Refusal) (said : HeaderAnswer) → HeaderCall b said → why.number ≢ 13 → (said ≡ header-answer.Refused why) ↔ (unsummed_header b ≡ fail why)
+HeaderRefusedAsBefore = (b : List ℕ) (why : Refusal) (said : Res Header) → HeaderCall b said → why.number ≢ 13 → (said ≡ fail why) ↔ (unsummed_header b ≡ fail why)
 
 -- a blob has a meaning exactly where it had one and its checksum is right, and means what it meant
 abbrev pub MeaningAsBefore : Type 0
@@ -99,8 +95,8 @@ MeaningAsBefore = (b : List ℕ) (reuse : Bool) (old : List ℕ) (m : Meaning) �
 -- and a whole read of a blob with a right checksum answers and leaves what it did: number, place and every slice
 abbrev pub ReadAsBefore : Type 0
 ReadAsBefore =
-    (b : List ℕ) (reuse : Bool) (said : ReadAnswer) (old new : Lent) → ReadCall b reuse said old new → checksum_right b (header_of b).size ≡ true
-    → (read_said said ≡ (unsummed_read b reuse old >>= read_count)) × (new ≡ read_after (unsummed_read b reuse old) (unsummed_masked b reuse old) old)
+    (b : List ℕ) (reuse : Bool) (said : Res ReadTold) (old new : Lent) → ReadCall b reuse said old new → checksum_right b (header_of b).size ≡ true
+    → (said ≡ (unsummed_read b reuse old >>= read_count)) × (new ≡ read_after (unsummed_read b reuse old) (unsummed_masked b reuse old) old)
 
 -- ---- what it does not find out
 

@@ -1,15 +1,22 @@
 -- The bytes in front of a body that is not constant.
 -- Assumes nothing.
 use Rattle.std.specs.Prelude.{ℕ, ◌+◌, Bool, cond, ◌&&◌, List, ltb, eqb}
-use Rattle.lerc_words.specs.declared.Refusal.{Refusal}
-use Rattle.lerc_words.specs.Res.{Res, ok, fail, ◌>>=◌, refuse, marked, require, word_at}
-use Rattle.lerc_sweep.specs.declared.WayAnswer.{WayAnswer}
-use Rattle.lerc_sweep.specs.declared.WayAnswer.TheVariants as answer
+use Rattle.lerc_words.specs.Res.{Res, ok, ◌>>=◌, marked, require, word_at}
+use Rattle.lerc_sweep.specs.declared.Way.{Way as Found}
+use Rattle.lerc_sweep.specs.declared.Way.TheVariants as found
 
 -- raw words, or blocks, from a place on; or a Huffman image, with prediction or without, whose mode byte has a place
-pub data Way : Type 0 where
-  raw_from blocks_from : ℕ → Way
-  huffman_from : Bool → ℕ → Way
+abbrev pub Way : Type 0
+Way = Found
+
+pattern abbrev pub raw_from : ℕ → Way
+raw_from at = found.Raw at
+
+pattern abbrev pub blocks_from : ℕ → Way
+blocks_from at = found.Blocks at
+
+pattern abbrev pub huffman_from : Bool → ℕ → Way
+huffman_from delta at = found.Huffman delta at
 
 -- "Kinds 0 and 1 with error exactly 0.5 have a mode byte"
 abbrev pub has_mode_byte : ℕ → ℕ → Bool
@@ -42,17 +49,3 @@ unfoldable pub swept : List ℕ → ℕ → ℕ → ℕ → Res Way
 swept s kind error at = do
   sweep ← marked at (sweep_byte s at)
   cond (eqb sweep 1) (ok (raw_from (at + 1))) (moded s kind error (at + 1))
-
--- ---- the answer
-
-abbrev pub way_said : WayAnswer → Res Way
-way_said (answer.Raw at) = ok (raw_from at)
-way_said (answer.Blocks at) = ok (blocks_from at)
-way_said (answer.Huffman delta at) = ok (huffman_from delta at)
-way_said (answer.Refused r) = fail r
-
-abbrev pub refusal_of_way : WayAnswer → Refusal
-refusal_of_way (answer.Raw at) = refuse 0
-refusal_of_way (answer.Blocks at) = refuse 0
-refusal_of_way (answer.Huffman delta at) = refuse 0
-refusal_of_way (answer.Refused r) = r

@@ -2,14 +2,8 @@
 // and answers the place behind it.
 #![tactic(auto)]
 
-ghost use Rattle.std.specs.Prelude.{◌≡◌, List, [], ◌∷◌, ◌++◌, ℕ, ◌+◌, ◌/◌, ◌<◌, min, get_or};
+ghost use Rattle.std.specs.Prelude.{◌≡◌, List, [], ◌∷◌, ◌++◌, ℕ, ◌+◌, ◌/◌, ◌<◌, get_or};
 ghost use Rattle.lerc_text.specs.Text.{Put, decimal, field, line, refusal_line, shape_line, cell_line, cell_lines, valid_in, word_in};
-
-fn least(a: usize, b: usize) -> usize
-    ensures { result ≡ min a b }
-{
-    if a < b { a } else { b }
-}
 
 fn put_byte(out: &mut [u8], at: usize, b: u8) -> usize
     ensures { Put out.old at (b ∷ []) result out.new }
@@ -24,11 +18,9 @@ fn put_byte(out: &mut [u8], at: usize, b: u8) -> usize
 fn put_text(out: &mut [u8], at: usize, s: &[u8]) -> usize
     ensures { Put out.old at s.now result out.new }
 {
-    let mut p = least(at, out.len());
-    let mut k = 0;
-    while k < s.len() {
-        p = put_byte(&mut out[..], p, s[k]);
-        k += 1;
+    let mut p = at.min(out.len());
+    for b in s {
+        p = put_byte(&mut out[..], p, *b);
     }
     p
 }
@@ -125,7 +117,7 @@ fn pixel_of(cell: usize, depth: usize) -> usize
 fn word_at(image: &[u64], cell: usize) -> u64
     ensures { result ≡ get_or image.now cell 0 }
 {
-    if cell < image.len() { image[cell] } else { 0 }
+    image.get(cell).copied().unwrap_or(0)
 }
 
 // a line for each of the first `count` cells
@@ -139,12 +131,10 @@ pub fn put_cells(
 ) -> usize
     ensures { Put out.old at (cell_lines count (valid_in depth mask.now) (word_in image.now)) result out.new }
 {
-    let mut p = least(at, out.len());
-    let mut cell = 0;
-    while cell < count {
+    let mut p = at.min(out.len());
+    for cell in 0..count {
         let valid = lerc_mask::is_valid(mask, pixel_of(cell, depth));
         p = put_cell(&mut out[..], p, cell, valid, word_at(image, cell));
-        cell += 1;
     }
     p
 }

@@ -18,40 +18,29 @@ use Rattle.lerc_words.specs.Lists.{over, from, tabulate}
 use Rattle.lerc_words.proofs.Binding.{bind_is, bind-fail}
 use Rattle.lerc_header.specs.declared.Header.{Header}
 use Rattle.lerc_header.specs.declared.Shape.{Shape}
-use Rattle.lerc_header.specs.declared.HeaderAnswer.TheVariants as header-answer
 use Rattle.lerc_header.specs.Shape.{cells, mask_length, block_count, Shaped}
 use Rattle.lerc_header.specs.Header.{shape_of, extent_of, held}
 use Rattle.lerc_header.proofs.Kept.{header-held, held-shaped}
 use Rattle.lerc_ranges.specs.declared.Ranges.{Ranges}
-use Rattle.lerc_ranges.specs.declared.RangesRead.{RangesRead}
-use Rattle.lerc_validity.specs.declared.MaskAnswer.{MaskAnswer}
-use Rattle.lerc_validity.specs.declared.MaskAnswer.TheVariants as mask-answer
-use Rattle.lerc_validity.specs.Validity.{MaskInForce, bytes_of, spare_with, which as answered, prepare_says, in_force}
-use Rattle.lerc_ranges.specs.Ranges.{read_ranges_says, ranges_said}
+use Rattle.lerc_validity.specs.Validity.{MaskInForce, bytes_of, spare_with, which as answered, prepare_says, in_force, MaskTold}
+use Rattle.lerc_ranges.specs.Ranges.{read_ranges_says}
 use Rattle.lerc_validity.proofs.Prepared.{prepare-found, mask-length}
-use Rattle.lerc_image.specs.declared.WalkAnswer.{WalkAnswer}
-use Rattle.lerc_image.specs.declared.WalkAnswer.TheVariants as walk-answer
-use Rattle.lerc_image.specs.declared.FillAnswer.{FillAnswer}
 use Rattle.lerc_image.specs.Geometry.{tile_size, tile_of, cell_of, rank, is_valid_cell}
 use Rattle.lerc_image.specs.Paint.{painted, index_of, among}
 use Rattle.lerc_image.specs.Blocks.{Chain}
-use Rattle.lerc_image.specs.Walk.{walk_says, walk_list, walk_count}
+use Rattle.lerc_image.specs.Walk.{walk_says, walk_list, walk_count, Walk}
 use Rattle.lerc_image.proofs.Partition.{block-lt, place-lt, cell-back, cell-lt, cell-block, cell-place}
 use Rattle.lerc_image.proofs.Steps.{position_first, position-next, tile-here}
 use Rattle.lerc_image.proofs.Painting.{length-painted, painted-cell}
 use Rattle.lerc_image.proofs.Chain.{chain-lengths}
 use Rattle.lerc_image.proofs.Upto.{valid-below}
-use Rattle.lerc.specs.declared.ReadAnswer.{ReadAnswer}
-use Rattle.lerc.specs.declared.ReadAnswer.TheVariants as read_answer
 use Rattle.lerc.specs.Meaning.{blocks, Meaning, starts_of, cell_word, meaning}
-use Rattle.lerc.specs.Read.{Lent, masked, published, read_after, read_said, read_count, WholeRead}
-use Rattle.lerc_ranges.proofs.Judged.{ranges-held}
+use Rattle.lerc.specs.Read.{Lent, masked, published, read_after, read_count, WholeRead, ReadTold}
 use Rattle.lerc_theorems.specs.Promises.{lent}
 use Rattle.lerc_theorems.specs.Calls.{HeaderCall, PrepareCall, HandedCall, ReadRanges, WalkCall, FillCalls, ReadCall}
 use Rattle.lerc_theorems.specs.DemandTwo.{Roomy, Exact, WalkAndFills, WalkMeans, DemandTwo}
 use Rattle.lerc_theorems.specs.DemandThree.{Case, Opened}
-use Rattle.lerc_theorems.proofs.SameAnswers.{header-same, mask-same, walk_same, read_same}
-use Rattle.lerc_theorems.proofs.Calls.{header-call, prepare-call, handed-call, ranges-call, ranges-from, walk_call, read-call}
+use Rattle.lerc_theorems.proofs.Calls.{ranges-held, header-call, prepare-call, handed-call, ranges-call, ranges-from, walk_call, read-call}
 use Rattle.lerc_theorems.proofs.Longer.{alike-take, walk_same as longer-walk}
 use Rattle.lerc_theorems.proofs.Bodies.{BlocksCoded, coded-is, starts-up, starts-end}
 use Rattle.lerc_theorems.proofs.Meanings.{Means, meaning-is, means_is, keeps, mask-kept, ends, Rooms, rooms, read_is, kept-front, kept-unread, meaning-same, means-front}
@@ -62,21 +51,21 @@ use Rattle.lerc_theorems.proofs.OpenedFills.{complete, mask-handed, listed}
 
 -- ---- what a whole read leaves
 
-module _ (b : List ℕ) (reuse : Bool) (r : ReadAnswer) (old new : Lent) (w : WholeRead b reuse r old new) (f : Roomy b old) where
-  says : read_said r ≡ (meaning b reuse old.kept >>= read_count)
+module _ (b : List ℕ) (reuse : Bool) (r : Res ReadTold) (old new : Lent) (w : WholeRead b reuse r old new) (f : Roomy b old) where
+  says : r ≡ (meaning b reuse old.kept >>= read_count)
   says = w.says ∙ ap (λ (x : Res Meaning). x >>= read_count) (read_is b reuse old f)
 
   alike : (x : Res Meaning) → accepts (x >>= read_count) ≡ accepts x
   alike (ok m) = refl
   alike (fail q) = refl
 
-  accepted : accepts (read_said r) ≡ accepts (meaning b reuse old.kept)
+  accepted : accepts r ≡ accepts (meaning b reuse old.kept)
   accepted = ap accepts says ∙ alike (meaning b reuse old.kept)
 
-  refused : (why : Refusal) → (r ≡ read_answer.Refused why) ↔ (meaning b reuse old.kept ≡ fail why)
+  refused : (why : Refusal) → (r ≡ fail why) ↔ (meaning b reuse old.kept ≡ fail why)
   refused why = (
-    λ e. bind-fail (meaning b reuse old.kept) _ (sym says ∙ ap read_said e),
-    λ e. read_same r (read_answer.Refused why) (says ∙ ap (λ (x : Res Meaning). x >>= read_count) e),
+    λ e. bind-fail (meaning b reuse old.kept) _ (sym says ∙ e),
+    λ e. (says ∙ ap (λ (x : Res Meaning). x >>= read_count) e),
   )
 
   module _ (m : Meaning) (e : meaning b reuse old.kept ≡ ok m) where
@@ -174,7 +163,7 @@ named (suc k) i n l q = go (dec_lt i n) (λ p. named k (suc i) n p (omega arith)
     go (yes p) r = rw (r p) (or-true (eqb n i))
     go (no p) r = let z : n ≡ i = omega arith in rw (eq-eqb n i z)
 
-module _ (b : List ℕ) (reuse : Bool) (r : ReadAnswer) (old new : Lent) (h : Header) (f : MaskInForce) (c : Chain) (z : ReadCall b reuse r old new) (y : Roomy b old)
+module _ (b : List ℕ) (reuse : Bool) (r : Res ReadTold) (old new : Lent) (h : Header) (f : MaskInForce) (c : Chain) (z : ReadCall b reuse r old new) (y : Roomy b old)
     (e : meaning b reuse old.kept ≡ ok (record { header = h; mask = f; body = blocks c })) where
   abbrev whole : Meaning
   whole = record { header = h; mask = f; body = blocks c }
@@ -231,17 +220,17 @@ module _ (b : List ℕ) (reuse : Bool) (r : ReadAnswer) (old new : Lent) (h : He
       room = o.image;
     }
 
-    by-fills : (answers : List FillAnswer) (image : List ℕ) → FillCalls b h g (bytes_of f) new.list (tabulate (block_count (shape_of h)) (λ n. n)) answers old.image image → image ≡ new.image
+    by-fills : (answers : List (Res ℕ)) (image : List ℕ) → FillCalls b h g (bytes_of f) new.list (tabulate (block_count (shape_of h)) (λ n. n)) answers old.image image → image ≡ new.image
     by-fills answers image k =
         complete opened is-opened (tabulate (block_count (shape_of h)) (λ n. n)) answers image k (λ n l. named (block_count (shape_of h)) 0 n (omega arith) (omega (arith, l))) new
         (record { answer = r; lent = old; read = z; room = y h p.header; same-mask = λ t. refl; same_start = refl })
 
-    by-walk : (said : WalkAnswer) (list : List ℕ) → WalkCall b h g (bytes_of f) said old.list list → (said ≡ walk-answer.Walked (block_count (shape_of h)) c.end) × (list ≡ new.list)
+    by-walk : (said : Res Walk) (list : List ℕ) → WalkCall b h g (bytes_of f) said old.list list → (said ≡ ok (record { blocks = (block_count (shape_of h)); end = c.end })) × (list ≡ new.list)
     by-walk said list k =
         let w = walk_call k in
-        (walk_same said (walk-answer.Walked (block_count (shape_of h)) c.end) (w.says ∙ ap (λ (x : Res Chain). x >>= walk_count h) walks), w.list ∙ same-list)
+        ((w.says ∙ ap (λ (x : Res Chain). x >>= walk_count h) walks), w.list ∙ same-list)
 
-  by_mask : (said : MaskAnswer) (spare m : List ℕ) → PrepareCall b h reuse old.kept said old.spare spare → HandedCall old.kept spare said m → (m ≡ bytes_of f) × (spare ≡ new.spare)
+  by_mask : (said : Res MaskTold) (spare m : List ℕ) → PrepareCall b h reuse old.kept said old.spare spare → HandedCall old.kept spare said m → (m ≡ bytes_of f) × (spare ≡ new.spare)
   by_mask said spare m k q = (
     mask-handed b h reuse old.kept old.spare spare m f said k q prepared,
     (prepare-call k).spare ∙ ap (λ (x : Res MaskInForce). after x old.spare (λ i. spare_with i old.spare)) prepared ∙ sym left_so.spare,
@@ -249,9 +238,9 @@ module _ (b : List ℕ) (reuse : Bool) (r : ReadAnswer) (old new : Lent) (h : He
 
   by_parts : WalkAndFills b reuse old new h f c
   by_parts = record {
-    header = λ said k. header-same said (header-answer.Read h) (header-call k ∙ p.header);
+    header = λ said k. (header-call k ∙ p.header);
     mask = by_mask;
-    ranges = λ said k. ap (λ (x : RangesRead). x.answer) (ranges-call k ∙ ap ranges_said read);
+    ranges = λ said k. ap accepts (ranges-call k ∙ read);
     walk = by-walk;
     fills = by-fills;
   }
@@ -269,16 +258,16 @@ placed-word h s n k l i m c = rw (cell-block (shape_of h) s n k l i, cell-place 
 some_byte : (h : Shape) → Shaped h → 0 < mask_length h
 some_byte h s = let z = mul-le-mul s.rows.0 s.columns.0 in omega (arith, z)
 
-module _ (b : List ℕ) (reuse : Bool) (kept : List ℕ) (h : Header) (said : MaskAnswer) (spare prepared m q : List ℕ) (r : Ranges) (n end : ℕ) (old new : List ℕ) (at-header : HeaderCall b (header-answer.Read h))
+module _ (b : List ℕ) (reuse : Bool) (kept : List ℕ) (h : Header) (said : Res MaskTold) (spare prepared m q : List ℕ) (r : Ranges) (n end : ℕ) (old new : List ℕ) (at-header : HeaderCall b (ok h))
     (at-mask : PrepareCall b h reuse kept said spare prepared) (at_part : HandedCall kept prepared said m) (at-ranges : ReadRanges b h r) (longer : take (mask_length (shape_of h)) q ≡ m)
-    (at-walk : WalkCall b h r q (walk-answer.Walked n end) old new) where
+    (at-walk : WalkCall b h r q (ok (record { blocks = n; end = end })) old new) where
   -- a refused mask hands nothing back, and a walk asks for a mask
   accepted-mask : (x : Res MaskInForce) → prepare_says b h reuse kept (length spare) ≡ x → mask_length (shape_of h) ≤ length q → 0 < mask_length (shape_of h) → (f : MaskInForce) × (prepare_says b h reuse kept (length spare) ≡ ok f)
   unfolding in_force
   accepted-mask (ok f) e l k = (f, e)
   accepted-mask (fail why) e l k =
-      let s : said ≡ mask-answer.Refused why = mask-same said (mask-answer.Refused why) ((prepare-call at-mask).says ∙ ap (λ (x : Res MaskInForce). x >>= answered) e) in
-      let i : m ≡ [] = handed-call at_part ∙ ap (λ (x : MaskAnswer). in_force x kept prepared) s in
+      let s : said ≡ fail why = ((prepare-call at-mask).says ∙ ap (λ (x : Res MaskInForce). x >>= answered) e) in
+      let i : m ≡ [] = handed-call at_part ∙ ap (λ (x : Res MaskTold). in_force x kept prepared) s in
       let z : min (mask_length (shape_of h)) (length q) ≡ 0 = sym (length-take (mask_length (shape_of h)) q) ∙ ap length (longer ∙ i) in
       absurd (omega arith)
 

@@ -2,53 +2,48 @@
 -- Assumes nothing.
 use mathlib.Core.Path.{◌≡◌, ◌∙◌, sym, refl}
 use mathlib.Core.Bool.{Bool}
-use mathlib.Core.List.{List}
+use mathlib.Core.List.{List, not-mem-nil}
 use Prim.Native.Nat.{ℕ}
 use Rattle.lerc_words.specs.Res.{Res}
-use Rattle.lerc_bits.proofs.Returns.{plan-same, decoded-same}
+use Rattle.lerc_bits.proofs.Returns.{decoded-same}
 use Rattle.lerc_text.proofs.Putting.{put_same}
 use Rattle.lerc_header.specs.declared.Header.{Header}
 use Rattle.lerc_mask.proofs.Passes.{unrolled-same}
 use Rattle.lerc_mask.proofs.Meeting.{compared_same as runs-compared-same}
 use Rattle.lerc_ranges.specs.declared.Ranges.{Ranges}
 use Rattle.lerc_validity.proofs.Prepared.{prepared-same, compared_same}
-use Rattle.lerc_block.proofs.Returns.{said_same as block_same, read_same as block-read-same}
-use Rattle.lerc_image.specs.declared.WalkAnswer.{WalkAnswer}
-use Rattle.lerc_image.specs.declared.FillAnswer.{FillAnswer}
+use Rattle.lerc_block.proofs.Returns.{read_same as block-read-same}
 use Rattle.lerc_image.specs.Blocks.{Chain}
-use Rattle.lerc_image.specs.Walk.{BlocksWalked}
+use Rattle.lerc_image.specs.Walk.{BlocksWalked, Walk}
 use Rattle.lerc_image.specs.Fill.{Filled}
 use Rattle.lerc_image.specs.Tiles.{Tiled}
-use Rattle.lerc.specs.declared.StageAnswer.{StageAnswer}
-use Rattle.lerc.specs.declared.PublishAnswer.{PublishAnswer}
-use Rattle.lerc.specs.declared.ReadAnswer.{ReadAnswer}
-use Rattle.lerc.specs.Read.{Lent, WholeRead}
-use Rattle.lerc.specs.Stage.{StageRead, Publishing}
-use Rattle.lerc_theorems.specs.Promises.{Answers, NoRoom}
-use Rattle.lerc_theorems.proofs.SameAnswers.{block-plan-same, word_same, integer-same, offset-same, sample-same, stored_same, header-same, open-same, held_same, pairs-same, way_same, walk_same, fill-same, end_same, stage-same, publish-same, read_same, counts_same}
+use Rattle.lerc.specs.Read.{Lent, WholeRead, ReadTold}
+use Rattle.lerc.specs.Stage.{StageRead, Publishing, PublishTold}
+use Rattle.lerc_theorems.specs.Promises.{Answers, AnyAnswer, NoRoom}
+use Rattle.lerc.specs.declared.Staged.{Staged}
 
 -- ---- promises of an answer and of lent slices
 
 pair_same : {A B : Type 0} {a b : A} {x y : B} → a ≡ b → x ≡ y → ◌≡◌ {A = A × B} (a, x) (b, y)
 pair_same p q = rw (p, q)
 
-walked_same : {b : List ℕ} {h : Header} {g : Ranges} {m : List ℕ} {r q : WalkAnswer} {old x y : List ℕ} → BlocksWalked b h g m r old x → BlocksWalked b h g m q old y → (r ≡ q) × (x ≡ y)
-walked_same {r = r} {q = q} s t = (walk_same r q (s.says ∙ sym t.says), s.list ∙ sym t.list)
+walked_same : {b : List ℕ} {h : Header} {g : Ranges} {m : List ℕ} {r q : Res Walk} {old x y : List ℕ} → BlocksWalked b h g m r old x → BlocksWalked b h g m q old y → (r ≡ q) × (x ≡ y)
+walked_same {r = r} {q = q} s t = (s.says ∙ sym t.says, s.list ∙ sym t.list)
 
-filled-same : {b : List ℕ} {h : Header} {g : Ranges} {m list : List ℕ} {n : ℕ} {r q : FillAnswer} {old x y : List ℕ} → Filled b h g m list n r old x → Filled b h g m list n q old y → (r ≡ q) × (x ≡ y)
-filled-same {r = r} {q = q} s t = (fill-same r q (s.says ∙ sym t.says), s.image ∙ sym t.image)
+filled-same : {b : List ℕ} {h : Header} {g : Ranges} {m list : List ℕ} {n : ℕ} {r q : Res ℕ} {old x y : List ℕ} → Filled b h g m list n r old x → Filled b h g m list n q old y → (r ≡ q) × (x ≡ y)
+filled-same {r = r} {q = q} s t = (s.says ∙ sym t.says, s.image ∙ sym t.image)
 
-tiled-same : {c : Res Chain} {h : Header} {m : List ℕ} {r q : WalkAnswer} {list l k image x y : List ℕ} → Tiled c h m r list l image x → Tiled c h m q list k image y → (r ≡ q) × (◌≡◌ {A = List ℕ × List ℕ} (l, x) (k, y))
-tiled-same {r = r} {q = q} s t = (walk_same r q (s.says ∙ sym t.says), pair_same (s.list ∙ sym t.list) (s.image ∙ sym t.image))
+tiled-same : {c : Res Chain} {h : Header} {m : List ℕ} {r q : Res Walk} {list l k image x y : List ℕ} → Tiled c h m r list l image x → Tiled c h m q list k image y → (r ≡ q) × (◌≡◌ {A = List ℕ × List ℕ} (l, x) (k, y))
+tiled-same {r = r} {q = q} s t = (s.says ∙ sym t.says, pair_same (s.list ∙ sym t.list) (s.image ∙ sym t.image))
 
-pub staged-same : {b : List ℕ} {reuse : Bool} {r q : StageAnswer} {old : Lent} {x y l k : List ℕ} → StageRead b reuse r old x l → StageRead b reuse q old y k → (r ≡ q) × (◌≡◌ {A = List ℕ × List ℕ} (x, l) (y, k))
-staged-same {r = r} {q = q} s t = (stage-same r q (s.says ∙ sym t.says), pair_same (s.spare ∙ sym t.spare) (s.list ∙ sym t.list))
+pub staged-same : {b : List ℕ} {reuse : Bool} {r q : Res Staged} {old : Lent} {x y l k : List ℕ} → StageRead b reuse r old x l → StageRead b reuse q old y k → (r ≡ q) × (◌≡◌ {A = List ℕ × List ℕ} (x, l) (y, k))
+staged-same {r = r} {q = q} s t = (s.says ∙ sym t.says, pair_same (s.spare ∙ sym t.spare) (s.list ∙ sym t.list))
 
-pub published-same : {b : List ℕ} {reuse : Bool} {a : StageAnswer} {r q : PublishAnswer} {old : Lent} {x y m k : List ℕ} → Publishing b reuse a r old m x → Publishing b reuse a q old k y → (r ≡ q) × (◌≡◌ {A = List ℕ × List ℕ} (m, x) (k, y))
-published-same {r = r} {q = q} s t = (publish-same r q (s.says ∙ sym t.says), pair_same (s.kept ∙ sym t.kept) (s.image ∙ sym t.image))
+pub published-same : {b : List ℕ} {reuse : Bool} {a : Res Staged} {r q : Res PublishTold} {old : Lent} {x y m k : List ℕ} → Publishing b reuse a r old m x → Publishing b reuse a q old k y → (r ≡ q) × (◌≡◌ {A = List ℕ × List ℕ} (m, x) (k, y))
+published-same {r = r} {q = q} s t = (s.says ∙ sym t.says, pair_same (s.kept ∙ sym t.kept) (s.image ∙ sym t.image))
 
-whole_same : {b : List ℕ} {reuse : Bool} {r q : ReadAnswer} {old x y : Lent} → WholeRead b reuse r old x → WholeRead b reuse q old y → (r ≡ q) × (x ≡ y)
-whole_same {r = r} {q = q} s t = (read_same r q (s.says ∙ sym t.says), s.lent ∙ sym t.lent)
+whole_same : {b : List ℕ} {reuse : Bool} {r q : Res ReadTold} {old x y : Lent} → WholeRead b reuse r old x → WholeRead b reuse q old y → (r ≡ q) × (x ≡ y)
+whole_same {r = r} {q = q} s t = (s.says ∙ sym t.says, s.lent ∙ sym t.lent)
 
 -- ---- promises by their form
 
@@ -57,25 +52,25 @@ module _ {K A R O : Type 0} {Pre : K → A → Type 0} {Post : K → A → R →
   given : (f : K → A → R) → ((k : K) (a : A) (r : R) (x : O) → Post k a r x → r ≡ f k a) → Answers Pre Post
   given f h = record { asks_nothing = asks; same = λ k a r q x y p s. (h k a r x p ∙ sym (h k a q y s), refl) }
 
-  -- what the answer says is given
-  told : {B : Type 0} {said : R → B} → ((r q : R) → said r ≡ said q → r ≡ q) → (f : K → A → B) → ((k : K) (a : A) (r : R) (x : O) → Post k a r x → said r ≡ f k a) → Answers Pre Post
-  told inj f h = record { asks_nothing = asks; same = λ k a r q x y p s. (inj r q (h k a r x p ∙ sym (h k a q y s)), refl) }
+pub any-answer : AnyAnswer
+any-answer T L none = (
+  record { asks_nothing = λ k a b m. absurd (not-mem-nil (rw none at m)); same = λ k a r q x y p s. (p ∙ sym s, refl) },
+  record { asks_nothing = λ k a b m. absurd (not-mem-nil (rw none at m)); same = λ k a r q x y p s. (p ∙ sym s, refl) },
+)
 
 pub no_room : NoRoom
 no_room = record {
   refusal-at = given (λ k a. tt) _ (λ k a r x p. p);
-  word-refusal = given (λ k a. tt) _ (λ k a r x p. p);
   peek = given (λ k a. tt) _ (λ k a r x p. p);
   bytes = given (λ k a. tt) _ (λ k a r x p. p);
-  word = told (λ k a. tt) word_same _ (λ k a r x p. p);
+  word = given (λ k a. tt) _ (λ k a r x p. p);
   words = record { asks_nothing = λ k a. tt; same = λ k a r q x y p s. (refl, p ∙ sym s) };
-  copy-bytes = record { asks_nothing = λ k a. tt; same = λ k a r q x y p s. (refl, p ∙ sym s) };
-  copy-words = record { asks_nothing = λ k a. tt; same = λ k a r q x y p s. (refl, p ∙ sym s) };
-  fill-bytes = record { asks_nothing = λ k a. tt; same = λ k a r q x y p s. (refl, p ∙ sym s) };
-  fill-words = record { asks_nothing = λ k a. tt; same = λ k a r q x y p s. (refl, p ∙ sym s) };
+  copy-bytes = record { asks_nothing = λ k a b m. absurd (not-mem-nil m); same = λ k a r q x y p s. (refl, p ∙ sym s) };
+  copy-words = record { asks_nothing = λ k a b m. absurd (not-mem-nil m); same = λ k a r q x y p s. (refl, p ∙ sym s) };
+  fill-bytes = record { asks_nothing = λ k a b m. absurd (not-mem-nil m); same = λ k a r q x y p s. (refl, p ∙ sym s) };
+  fill-words = record { asks_nothing = λ k a b m. absurd (not-mem-nil m); same = λ k a r q x y p s. (refl, p ∙ sym s) };
   begins-with = given (λ k a. tt) _ (λ k a r x p. p);
   all-bytes = given (λ k a. tt) _ (λ k a r x p. p);
-  integer-refusal = given (λ k a. tt) _ (λ k a r x p. p);
   plus = given (λ k a. tt) _ (λ k a r x p. p);
   scale = given (λ k a. tt) _ (λ k a r x p. p);
   is_finite = given (λ k a. tt) _ (λ k a r x p. p);
@@ -85,34 +80,25 @@ no_room = record {
   size = given (λ k a. tt) _ (λ k a r x p. p);
   number = given (λ k a. tt) _ (λ k a r x p. p);
   narrow = given (λ k a. tt) _ (λ k a r x p. p);
-  to-integer = told (λ k a. tt) integer-same _ (λ k a r x p. p);
+  to-integer = given (λ k a. tt) _ (λ k a r x p. p);
   step = given (λ k a. tt) _ (λ k a r x p. p);
   twice-whole = given (λ k a. tt) _ (λ k a r x p. p);
   raised = given (λ k a. tt) _ (λ k a r x p. p);
   steps = record { asks_nothing = λ k a. tt; same = λ k a r q x y p s. (refl, p ∙ sym s) };
   single-steps = record { asks_nothing = λ k a. tt; same = λ k a r q x y p s. (refl, p ∙ sym s) };
   float-ready = given (λ k a. tt) _ (λ k a r x p. p);
-  offset-refusal = given (λ k a. tt) _ (λ k a r x p. p);
-  sample-refusal = given (λ k a. tt) _ (λ k a r x p. p);
-  stored-refusal = given (λ k a. tt) _ (λ k a r x p. p);
-  offset-kind = told (λ k a. tt) offset-same _ (λ k a r x p. p);
-  read-sample = told (λ k a. tt) sample-same _ (λ k a r x p. p);
-  stored = told (λ k a. tt) stored_same _ (λ k a r x p. p);
-  plan-refusal = given (λ k a. tt) _ (λ k a r x p. p);
-  counts-refusal = given (λ k a. tt) _ (λ k a r x p. p);
-  inspect = told (λ k a. tt) plan-same _ (λ k a r x p. p);
+  offset-kind = given (λ k a. tt) _ (λ k a r x p. p);
+  read-sample = given (λ k a. tt) _ (λ k a r x p. p);
+  stored = given (λ k a. tt) _ (λ k a r x p. p);
+  inspect = given (λ k a. tt) _ (λ k a r x p. p);
   decode-plan = record { asks_nothing = λ k a. tt; same = λ k a r q x y p s. decoded-same p s };
-  check-plan = told (λ k a. tt) counts_same _ (λ k a r x p. p);
+  check-plan = given (λ k a. tt) _ (λ k a r x p. p);
   decode-counts = record { asks_nothing = λ k a. tt; same = λ k a r q x y p s. decoded-same p s };
-  check-counts = told (λ k a. tt) counts_same _ (λ k a r x p. p);
-  header-refusal = given (λ k a. tt) _ (λ k a r x p. p);
-  held-refusal = given (λ k a. tt) _ (λ k a r x p. p);
-  open-refusal = given (λ k a. tt) _ (λ k a r x p. p);
+  check-counts = given (λ k a. tt) _ (λ k a r x p. p);
   pair-right = given (λ k a. tt) _ (λ k a r x p. p);
-  held = told (λ k a. tt) held_same _ (λ k a r x p. p);
-  open-blob = told (λ k a. tt) open-same _ (λ k a r x p. p);
-  read-header = told (λ k a. tt) header-same _ (λ k a r x p. p);
-  runs-refusal = given (λ k a. tt) _ (λ k a r x p. p);
+  held = given (λ k a. tt) _ (λ k a r x p. p);
+  open-blob = given (λ k a. tt) _ (λ k a r x p. p);
+  read-header = given (λ k a. tt) _ (λ k a r x p. p);
   is-valid = given (λ k a. tt) _ (λ k a r x p. p);
   count-valid = given (λ k a. tt) _ (λ k a r x p. p);
   checksum = given (λ k a. tt) _ (λ k a r x p. p);
@@ -121,49 +107,36 @@ no_room = record {
   decode-mask = record { asks_nothing = λ k a. tt; same = λ k a r q x y p s. unrolled-same p s };
   compare-runs = record { asks_nothing = λ k a. tt; same = λ k a r q x y p s. (runs-compared-same p s, refl) };
   byte-from = given (λ k a. tt) _ (λ k a r x p. p);
-  mask-refusal = given (λ k a. tt) _ (λ k a r x p. p);
-  ranges-refusal = given (λ k a. tt) _ (λ k a r x p. p);
-  pairs-refusal = given (λ k a. tt) _ (λ k a r x p. p);
-  constants-refusal = given (λ k a. tt) _ (λ k a r x p. p);
   prepare-mask = record { asks_nothing = λ k a. tt; same = λ k a r q x y p s. prepared-same p s };
   find-mask = record { asks_nothing = λ k a. tt; same = λ k a r q x y p s. prepared-same p s };
   compare-mask = record { asks_nothing = λ k a. tt; same = λ k a r q x y p s. (compared_same p s, refl) };
   mask-in-force = record { asks_nothing = λ k a. tt; same = λ k a r q x y p s. (pair_same (p.0 ∙ sym s.0) (p.1 ∙ sym s.1), refl) };
-  pairs = told (λ k a. tt) pairs-same _ (λ k a r x p. p);
+  pairs = given (λ k a. tt) _ (λ k a r x p. p);
   ranges_in = given (λ k a. tt) _ (λ k a r x p. p);
   read-ranges = given (λ k a. tt) _ (λ k a r x p. p);
   convert = given (λ k a. tt) _ (λ k a r x p. p);
-  block-refusal = given (λ k a. tt) _ (λ k a r x p. p);
-  block-plan-refusal = given (λ k a. tt) _ (λ k a r x p. p);
-  block-plan-end = told (λ k a. tt) block_same _ (λ k a r x p. p);
-  inspect-block = told (λ k a. tt) block-plan-same _ (λ k a r x p. p);
-  block-end = told (λ k a. tt) block_same _ (λ k a r x p. p);
+  block-plan-end = given (λ k a. tt) _ (λ k a r x p. p);
+  inspect-block = given (λ k a. tt) _ (λ k a r x p. p);
+  block-end = given (λ k a. tt) _ (λ k a r x p. p);
   read-block = record { asks_nothing = λ k a. tt; same = λ k a r q x y p s. block-read-same p s };
-  check-block = told (λ k a. tt) block_same _ (λ k a r x p. p);
-  walk-refusal = given (λ k a. tt) _ (λ k a r x p. p);
-  fill-refusal = given (λ k a. tt) _ (λ k a r x p. p);
-  way-refusal = given (λ k a. tt) _ (λ k a r x p. p);
-  read-sweep = told (λ k a. tt) way_same _ (λ k a r x p. p);
+  check-block = given (λ k a. tt) _ (λ k a r x p. p);
+  read-sweep = given (λ k a. tt) _ (λ k a r x p. p);
   walk = record { asks_nothing = λ k a. tt; same = λ k a r q x y p s. walked_same p s };
   fill = record { asks_nothing = λ k a. tt; same = λ k a r q x y p s. filled-same p s };
-  check-tiles = told (λ k a. tt) walk_same _ (λ k a r x p. p);
-  check-own-tiles = told (λ k a. tt) walk_same _ (λ k a r x p. p);
+  check-tiles = given (λ k a. tt) _ (λ k a r x p. p);
+  check-own-tiles = given (λ k a. tt) _ (λ k a r x p. p);
   list-tiles = record { asks_nothing = λ k a. tt; same = λ k a r q x y p s. (refl, p ∙ sym s) };
   are-listed = given (λ k a. tt) _ (λ k a r x p. p);
   fill-tiles = record { asks_nothing = λ k a. tt; same = λ k a r q x y p s. (refl, p ∙ sym s) };
   write-tiles = record { asks_nothing = λ k a. tt; same = λ k a r q x y p s. (refl, rw (p.0, p.1, s.0, s.1)) };
   decode-tiles = record { asks_nothing = λ k a. tt; same = λ k a r q x y p s. tiled-same p s };
-  end-refusal = given (λ k a. tt) _ (λ k a r x p. p);
-  check-huffman = told (λ k a. tt) end_same _ (λ k a r x p. p);
+  check-huffman = given (λ k a. tt) _ (λ k a r x p. p);
   write-huffman = record { asks_nothing = λ k a. tt; same = λ k a r q x y p s. (refl, p ∙ sym s) };
   fill-each = record { asks_nothing = λ k a. tt; same = λ k a r q x y p s. (p.says ∙ sym s.says, p.image ∙ sym s.image) };
   put-line = record { asks_nothing = λ k a. tt; same = λ k a r q x y p s. put_same p s };
   put-refusal = record { asks_nothing = λ k a. tt; same = λ k a r q x y p s. put_same p s };
   put-shape = record { asks_nothing = λ k a. tt; same = λ k a r q x y p s. put_same p s };
   put-cells = record { asks_nothing = λ k a. tt; same = λ k a r q x y p s. put_same p s };
-  stage-refusal = given (λ k a. tt) _ (λ k a r x p. p);
-  publish-refusal = given (λ k a. tt) _ (λ k a r x p. p);
-  read-refusal = given (λ k a. tt) _ (λ k a r x p. p);
   stage = record { asks_nothing = λ k a. tt; same = λ k a r q x y p s. staged-same p s };
   publish = record { asks_nothing = λ k a. tt; same = λ k a r q x y p s. published-same p s };
   read = record { asks_nothing = λ k a. tt; same = λ k a r q x y p s. whole_same p s };

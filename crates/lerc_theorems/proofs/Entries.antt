@@ -12,7 +12,7 @@ use lib.ListN.{length, get_or, take}
 use lib.Dec.{leb, ltb, eqb}
 use borrow.Author.Tests.{ltb-true, ltb-false, lt-ltb, le-ltb, leb-true, leb-false, le-leb, lt-leb, eqb-false, ne_eqb, not-true, not-false}
 use Rattle.lerc_words.specs.declared.Refusal.{Refusal}
-use Rattle.lerc_words.specs.Res.{ok, fail, refuse, placed, require, word_at}
+use Rattle.lerc_words.specs.Res.{ok, fail, refuse, placed, require, word_at, Res}
 use Rattle.lerc_words.proofs.Binding.{bind_is, require-is, and_is, ok-is}
 use Rattle.lerc_words.proofs.Marking.{marked-fails}
 use Rattle.lerc_words.proofs.Little.{word_at-fails, word_at-no}
@@ -36,7 +36,6 @@ use Rattle.lerc_image.specs.Own.{own_mask, own_tiles}
 use Rattle.lerc_byte_image.specs.Image.{image_at}
 use Rattle.lerc.specs.Meaning.{missing_word_at, raw_body, block_body, huffman_body, body_from, swept_body, constant_body, body_says, meaning_from}
 use Rattle.lerc.specs.Read.{Lent, room, Masked, masked, read_says}
-use Rattle.lerc.specs.declared.StageAnswer.{StageAnswer}
 use Rattle.lerc.specs.Stage.{was_staged, publish_says}
 use Rattle.lerc_theorems.specs.Table.{ModeRefused, mode-cut, mode-wrong, SweepRefused, sweep-cut, sweep-wrong, mode-refused, BlockAtRefused, ChainRefused, block_refused, WalkBodyRefused, walk-sweep, walk-raw, walk-huffman, walk-blocks, WalkRoom, WalkRefused, walk-held, walk-room, walk-pairs, walk-other, walk-body, FillRoom, NoFillRoom, FillRefused, fill-held, fill-number, fill-room, fill-pairs, fill-block, CheckRefused, check-held, check-room, check-blocks, OwnRefused, own_held, own-blocks, TilesRefused, tiles-held, tiles-room, tiles-blocks, BodyRefused, body-ranges, body-constant, body-sweep, body-raw, body-blocks, body-huffman, WholeRefused, whole-header, whole_room, whole-mask, whole-body, PublishRefused, publish-blob, publish-given}
 use Rattle.lerc_theorems.proofs.Wrong.{pairs-not, not-pairs}
@@ -46,6 +45,7 @@ use Rattle.lerc_theorems.proofs.Bodies.{swept-in}
 use Rattle.lerc_theorems.proofs.Blocks.{word-one, constants-exactly, block-exactly}
 use Rattle.lerc_theorems.proofs.Huffman.{image-exactly}
 use Rattle.lerc_theorems.proofs.Headers.{right-held, held-exactly, holding, header-exactly, mask-exactly, ranges-exactly}
+use Rattle.lerc.specs.declared.Staged.{Staged}
 
 -- ---- sweep and mode byte
 
@@ -393,7 +393,7 @@ module _ (b : List ℕ) (reuse : Bool) (l : Lent) where
   whole-exactly n = (whole-refused, refused-whole)
 
   -- publishing
-  module _ (given : StageAnswer) where
+  module _ (given : Res Staged) where
     publish-refused : {n : Refusal} → publish_says b reuse given l ≡ fail n → PublishRefused b reuse given l n
     unfolding publish_says
     publish-refused {n} e =

@@ -26,9 +26,7 @@ use Rattle.lerc_image.specs.Geometry.{tile_of, pixel_of, block_of, place_in, ran
 use Rattle.lerc_image.specs.Paint.{painted, in_block, index_of}
 use Rattle.lerc_sweep.specs.Sweep.{moded, sweep_byte, swept}
 use Rattle.lerc_image.specs.Blocks.{block_at, chain}
-use Rattle.lerc_image.specs.declared.FillAnswer.{FillAnswer}
-use Rattle.lerc_image.specs.declared.FillAnswer.TheVariants as fill-answer
-use Rattle.lerc_image.specs.Fill.{fill_says, fill_count, fill_said, fill_image}
+use Rattle.lerc_image.specs.Fill.{fill_says, fill_count, fill_image}
 use Rattle.lerc_fills.specs.Each.{fill_each}
 use Rattle.lerc.specs.Meaning.{block_body, swept_body, body_says, meaning_from, meaning}
 use Rattle.lerc_witness.specs.Witness.{grid}
@@ -40,16 +38,16 @@ use Rattle.lerc_theorems.proofs.OpenedFills.{answered}
 
 -- ---- calls
 
-abbrev answer_of : Res ℕ → FillAnswer
-answer_of (ok n) = fill-answer.Filled n
-answer_of (fail r) = fill-answer.Refused r
+abbrev answer_of : Res ℕ → Res ℕ
+answer_of (ok n) = ok n
+answer_of (fail r) = fail r
 
-answer-says : (a : Res ℕ) → fill_said (answer_of a) ≡ a
+answer-says : (a : Res ℕ) → (answer_of a) ≡ a
 answer-says (ok n) = refl
 answer-says (fail r) = refl
 
 module _ (b : List ℕ) (h : Header) (r : Ranges) (m list : List ℕ) where
-  abbrev pub answers_made : List ℕ → List ℕ → List FillAnswer
+  abbrev pub answers_made : List ℕ → List ℕ → List (Res ℕ)
   answers_made [] image = []
   answers_made (n ∷ ns) image = answer_of (fill_says b h r m list n (length image) >>= fill_count h m n) ∷ answers_made ns (fill_image b h r m list n image)
 
@@ -104,11 +102,11 @@ pub some-calls : CaseFills example some (answers_made example.blob example.heade
     (fill_each example.blob example.header example.ranges example.mask example.list some example.image)
 some-calls = fills-made example.blob example.header example.ranges example.mask example.list some example.image
 
-pub some-answers : (said : List FillAnswer) (left : List ℕ) → CaseFills example some said left → said ≡ fill-answer.Filled 1 ∷ fill-answer.Filled 1 ∷ fill-answer.Filled 1 ∷ fill-answer.Refused (refuse 11) ∷ []
+pub some-answers : (said : List (Res ℕ)) (left : List ℕ) → CaseFills example some said left → said ≡ ok 1 ∷ ok 1 ∷ ok 1 ∷ fail (refuse 11) ∷ []
 unfolding bytes_of little from count all_to pixel_valid strips header_of tile_of pixel_of rank block_of place_in size span climb
 some-answers said left f = answered example opened some said example.image left opened.room f
 
-pub some-filled : (said : List FillAnswer) (left : List ℕ) → CaseFills example some said left → left ≡ 1 ∷ 9 ∷ 9 ∷ 9 ∷ 9 ∷ 9 ∷ 9 ∷ 8 ∷ 9 ∷ []
+pub some-filled : (said : List (Res ℕ)) (left : List ℕ) → CaseFills example some said left → left ≡ 1 ∷ 9 ∷ 9 ∷ 9 ∷ 9 ∷ 9 ∷ 9 ∷ 8 ∷ 9 ∷ []
 unfolding bytes_of word_at little each from count all_to mag code sum counted_sum scaled less same lesser integer value_of whole cut sample_at stored offset_kinds offset_kind pixel_valid strips error_right pair_right
     fields_right within_ceilings held key_right header_of number_at by_depth coded_ranges pairs_right level_block offset_at finite_offset offset_block formed flag_at block_says tile_of pixel_of block_of place_in rank
     is_valid_cell painted in_block index_of block_at fill_says fill_image fill_each size span climb

@@ -10,14 +10,10 @@ use lib.ListN.{length, replicate}
 use Rattle.lerc_words.specs.Res.{ok, little}
 use Rattle.lerc_words.proofs.Binding.{ok-is}
 use Rattle.lerc_bits.specs.Packing.{bytes_of}
-use Rattle.lerc_header.specs.declared.HeaderAnswer.TheVariants as header-answer
 use Rattle.lerc_header.specs.Shape.{strips}
 use Rattle.lerc_header.specs.Header.{header_of}
-use Rattle.lerc_validity.specs.declared.MaskAnswer.TheVariants as mask-answer
 use Rattle.lerc_validity.specs.Validity.{new, prepare_says, in_force}
-use Rattle.lerc_image.specs.declared.WalkAnswer.TheVariants as walk-answer
 use Rattle.lerc_image.specs.Walk.{walk_says, walk_list}
-use Rattle.lerc.specs.declared.ReadAnswer.TheVariants as read_answer
 use Rattle.lerc.specs.Meaning.{Meaning, blocks}
 use Rattle.lerc.specs.Read.{Lent, room, read_says, published}
 use Rattle.lerc_witness.specs.Witness.{grid}
@@ -27,6 +23,7 @@ use Rattle.lerc_theorems.proofs.Made.{header_made, prepare-made, handed-made, wa
 use Rattle.lerc_theorems.proofs.Meanings.{Means, meaning-is, keeps, read_is}
 use Rattle.lerc_theorems.proofs.Fills.{means-walking, walking-says}
 use Rattle.lerc_theorems.proofs.Example.{grid_starts, example, opened}
+use Rattle.lerc_validity.specs.declared.Mask.TheVariants as mask
 
 abbrev pub in_hand : InHand
 in_hand = record {
@@ -70,19 +67,19 @@ read = read_is grid false before (λ h e. rw (← ok-is (sym parts.header ∙ e)
 pub by-calls : ByWalk in_hand
 unfolding bytes_of in_force walk_list little strips header_of
 by-calls = record {
-  said = mask-answer.Spare 1;
+  said = ok (mask.Spare 1);
   spare = 0 ∷ [];
   prepared = 255 ∷ [];
   part = 255 ∷ [];
   longer = 255 ∷ [];
   unlisted = replicate 9 9;
   listed = grid_starts ++ (9 ∷ []);
-  header = header_made grid (header-answer.Read (header_of grid)) (sym parts.header);
-  prepare = prepare-made grid (header_of grid) false example.kept (mask-answer.Spare 1) (0 ∷ []) (255 ∷ []) (record { says = rw (prepared); spare = rw (prepared) });
-  handed = handed-made example.kept (255 ∷ []) (mask-answer.Spare 1);
+  header = header_made grid (ok (header_of grid)) (sym parts.header);
+  prepare = prepare-made grid (header_of grid) false example.kept (ok (mask.Spare 1)) (0 ∷ []) (255 ∷ []) (record { says = rw (prepared); spare = rw (prepared) });
+  handed = handed-made example.kept (255 ∷ []) (ok (mask.Spare 1));
   ranges = opened.ranges;
   begins = refl;
-  walk = walk-made grid (header_of grid) example.ranges (255 ∷ []) (walk-answer.Walked 8 91) (replicate 9 9) (grid_starts ++ (9 ∷ [])) (record { says = rw (walked (replicate 9 9) (omega arith)); list = rw (walked (replicate 9 9) (omega arith)) });
+  walk = walk-made grid (header_of grid) example.ranges (255 ∷ []) (ok (record { blocks = 8; end = 91 })) (replicate 9 9) (grid_starts ++ (9 ∷ [])) (record { says = rw (walked (replicate 9 9) (omega arith)); list = rw (walked (replicate 9 9) (omega arith)) });
   mask = opened.mask;
   list = refl;
   room = opened.room;
@@ -93,7 +90,7 @@ unfolding bytes_of published little strips header_of
 by-whole-read = record {
   old = before;
   new = published meant before;
-  read = read_made grid false (read_answer.Whole example.header 8 91) before (published meant before) (record { says = rw (read); lent = rw (read) });
+  read = read_made grid false (ok (record { header = example.header; blocks = 8; end = 91 })) before (published meant before) (record { says = rw (read); lent = rw (read) });
   kept = refl;
   some = omega arith;
   ranges = opened.ranges;

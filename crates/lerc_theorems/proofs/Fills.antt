@@ -1,5 +1,6 @@
 -- Fills of a blob that was walked.
 -- Assumes nothing.
+use Rattle.lerc_theorems.proofs.Calls.{ranges-held}
 use mathlib.Core.Path.{◌≡◌, ◌∙◌, sym, ap, refl}
 use mathlib.Core.Bool.{Bool, true, false, not, cond, ◌&&◌}
 use mathlib.Core.List.{List, [], ◌∷◌}
@@ -30,7 +31,6 @@ use Rattle.lerc_image.proofs.Stages.{get_d_any}
 use Rattle.lerc_fills.specs.Each.{one, filled_of, fill_each}
 use Rattle.lerc_fills.proofs.Turns.{length-fill}
 use Rattle.lerc.specs.Meaning.{blocks, body_says, meaning}
-use Rattle.lerc_ranges.proofs.Judged.{ranges-held}
 use Rattle.lerc_theorems.specs.DemandThree.{below}
 use Rattle.lerc_theorems.proofs.Bodies.{coded-is, coded-says}
 use Rattle.lerc_theorems.proofs.Meanings.{meaning-is, keeps, pairs-kept, mask-kept}

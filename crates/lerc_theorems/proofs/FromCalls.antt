@@ -10,18 +10,15 @@ use native.Mathlib.Omega.{arith}
 use lib.ListN.{length, get_or, take, drop, length-take, get_or-eq_default}
 use lib.Seq.{get_or-take, take-append_seam}
 use borrow.Author.Tests.{lt-ltb, le-ltb}
-use Rattle.lerc_words.specs.Res.{ok}
+use Rattle.lerc_words.specs.Res.{ok, Res}
 use Rattle.lerc_words.specs.Lists.{over}
 use Rattle.lerc_words.proofs.Binding.{bind_is, bind-counts, ok-is}
 use Rattle.lerc_header.specs.declared.Header.{Header}
 use Rattle.lerc_header.specs.Shape.{cells, mask_length, block_count}
 use Rattle.lerc_header.specs.Header.{shape_of}
 use Rattle.lerc_validity.specs.Validity.{MaskInForce, bytes_of}
-use Rattle.lerc_image.specs.declared.FillAnswer.{FillAnswer}
-use Rattle.lerc_image.specs.declared.FillAnswer.TheVariants as fill-answer
 use Rattle.lerc_image.proofs.Stages.{get_d_any}
 use Rattle.lerc_image.specs.Blocks.{Chain}
-use Rattle.lerc.specs.declared.ReadAnswer.TheVariants as read_answer
 use Rattle.lerc.specs.Meaning.{Meaning, Body, empty, constant, raw, blocks, huffman, starts_of, end_of, meaning}
 use Rattle.lerc.specs.Read.{ReadTold, room, masked, read_says}
 use Rattle.lerc_theorems.specs.Calls.{FillCall, FillCalls}
@@ -117,7 +114,7 @@ module _ (x : InHand) (w : ByRead x) where
     means-old : meaning x.blob x.reuse w.old.kept ≡ ok whole
     means-old = rw w.kept a.means
 
-    left_so : Exact whole (read_answer.Whole h x.count x.end) w.old w.new
+    left_so : Exact whole (ok (record { header = h; blocks = x.count; end = x.end })) w.old w.new
     left_so = exact x.blob x.reuse _ w.old w.new (read-call w.read) a.roomy whole means-old
 
     many : length c.starts ≡ block_count (shape_of h)
@@ -187,20 +184,20 @@ module _ (x : InHand) (t : Found x) (n : ℕ) (l : n < x.count) where
           let k : length starts ≤ suc n = omega (arith, many) in
           rw (le-ltb (n + 1) x.count (omega arith)) (get_or-eq_default starts t.chain.end k ∙ sym t.end)
 
-pub fill-own : (x : InHand) → Surveyed x → (c : List ℕ) (n : ℕ) (said told : FillAnswer) (old new other : List ℕ) → n < x.count → cells (shape_of x.header) ≤ length old → x.header.size ≤ length c
+pub fill-own : (x : InHand) → Surveyed x → (c : List ℕ) (n : ℕ) (said told : Res ℕ) (old new other : List ℕ) → n < x.count → cells (shape_of x.header) ≤ length old → x.header.size ≤ length c
     → SameWithin (get_or x.list n 0) (ends_at x n) x.blob c → FillCall x.blob x.header x.ranges x.mask x.list n said old new
     → FillCall c x.header x.ranges x.mask x.list n told old other → (told ≡ said) × (other ≡ new)
 fill-own x s c n said told old new other l wide long same p q =
     let t = opened-by x s in
     let k = case_of x t.means t.chain in
     let i : n < block_count (shape_of x.header) = rw (← t.count) l in
-    let e : said ≡ fill-answer.Filled _ = fills.accepts k t.opened old wide n said new p i in
+    let e : said ≡ ok _ = fills.accepts k t.opened old wide n said new p i in
     let b = fills.block-is k t.opened n i in
     rw (e) (own x.blob c x.header x.ranges x.mask x.list n _ told old new other _ b long (rw (next-is x t n l) same) (rw (e) at p) q)
 
 -- ---- any order
 
-pub any_order : (x : InHand) → Surveyed x → (ns : List ℕ) (said : List FillAnswer) (new : List ℕ) → FillCalls x.blob x.header x.ranges x.mask x.list ns said x.image new
+pub any_order : (x : InHand) → Surveyed x → (ns : List ℕ) (said : List (Res ℕ)) (new : List ℕ) → FillCalls x.blob x.header x.ranges x.mask x.list ns said x.image new
     → AnyOrder x ns said new
 any_order x s ns said new calls = go (opened-by x s)
   where

@@ -8,11 +8,12 @@ use Rattle.lerc_words.specs.declared.Refusal.{Refusal}
 use Rattle.lerc_bits.specs.declared.Plan.{Plan}
 use Rattle.lerc_header.specs.declared.Header.{Header}
 use Rattle.lerc_ranges.specs.declared.Ranges.{Ranges}
-use Rattle.lerc.specs.declared.StageAnswer.{StageAnswer}
 use Rattle.lerc.specs.Read.{Lent}
 use Rattle.lerc_theorems.specs.BlockTable.{At, at_place, WordRefused, word_wide, word_cut, SampleRefused, sample-cut, StoredRefused, not_finite, out_of_range, IntegerRefused, no-integer, not-stored, KindRefused, no-kind, ConstantsRefused, not-constant, TabledRefused, no_bits, entries-cut, entries-few, table-cut, PackedRefused, plain-cut, not-tabled, PlanRefused, counts-cut, width-wrong, count_cut, count-large, packed-refused, CountsRefused, not-planned, index-large, LevelsRefused, level-refused, counts-refused, miscounted-block, value-refused, OffsetRefused, kind-refused, offset-cut, offset-not-finite, levels-refused, BlockRefused, flag-cut, check-wrong, raw-cut, offset-refused, ReadBlockRefused, tile-large, not-read, PlannedRefused, plan-loose, planned-index, OffsetPlanRefused, plan-kind, plan-offset-cut, plan-not-finite, plan-counts, BlockPlanRefused, plan-tile-large, plan-flag-cut, plan-check-wrong, plan-raw-cut, plan-offset}
 use Rattle.lerc_theorems.specs.Table.{HeldRefused, field-wrong, ceiling-passed, blob-cut, HeaderRefused, header-cut, key-wrong, not-held, checksum-wrong, RunsRefused, runs-room, runs-breach, FindRefused, find-room, section-cut, find-wrong, PrepareRefused, mask-held, mask-room, mask-wrong, RangesRefused, ranges-cut, minimum-wrong, maximum-wrong, RangesInRefused, depths-many, ranges-not-in, ReadRangesRefused, ranges-held, ranges-wrong, PairsRefused, pair-wrong, ModeRefused, mode-cut, mode-wrong, SweepRefused, sweep-cut, sweep-wrong, mode-refused, ChainRefused, block_refused, WalkBodyRefused, walk-sweep, walk-raw, walk-huffman, walk-blocks, WalkRefused, walk-held, walk-room, walk-pairs, walk-other, walk-body, FillRefused, fill-held, fill-number, fill-room, fill-pairs, fill-block, CheckRefused, check-held, check-room, check-blocks, OwnRefused, own_held, own-blocks, TilesRefused, tiles-held, tiles-room, tiles-blocks, CheckImageRefused, image-held, image-wrong, BodyRefused, body-ranges, body-constant, body-sweep, body-raw, body-blocks, body-huffman, WholeRefused, whole-header, whole_room, whole-mask, whole-body, PublishRefused, publish-blob, publish-given}
 use Rattle.lerc_theorems.proofs.Images.{image-in}
+use Rattle.lerc_words.specs.Res.{Res}
+use Rattle.lerc.specs.declared.Staged.{Staged}
 
 module _ (P : ℕ → Type 0) where
   -- wherever it is told
@@ -205,7 +206,7 @@ module _ (P : ℕ → Type 0) where
   whole_in one two three four five six seven eight nine thirteen (whole-mask h d t w) = six
   whole_in one two three four five six seven eight nine thirteen (whole-body k d r) = body-in one seven eight nine r
 
-  pub publish-in : {why : Refusal} {b : List ℕ} {reuse : Bool} {given : StageAnswer} {l : Lent} → P 1 → P 2 → P 3 → P 4 → P 5 → P 6 → P 7 → P 8 → P 9 → P 13
+  pub publish-in : {why : Refusal} {b : List ℕ} {reuse : Bool} {given : Res Staged} {l : Lent} → P 1 → P 2 → P 3 → P 4 → P 5 → P 6 → P 7 → P 8 → P 9 → P 13
       → PublishRefused b reuse given l why → P why.number
   publish-in one two three four five six seven eight nine thirteen (publish-blob w) = whole_in one two three four five six seven eight nine thirteen w
   publish-in one two three four five six seven eight nine thirteen (publish-given m d t) = three

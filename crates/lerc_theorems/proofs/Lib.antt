@@ -1,4 +1,3 @@
-pub mod SameAnswers
 pub mod Determined
 pub mod Refusals
 pub mod Writes

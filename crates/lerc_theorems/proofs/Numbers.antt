@@ -12,23 +12,16 @@ use Rattle.lerc_words.specs.declared.Refusal.{Refusal}
 use Rattle.lerc_words.specs.Res.{Res, ok, fail, ◌>>=◌, refuse, require}
 use Rattle.lerc_words.proofs.Binding.{bind-no, bind-fail}
 use Rattle.lerc_words.proofs.Marking.{marked-fails}
-use Rattle.lerc_bits.proofs.Returns.{plan-same}
 use Rattle.lerc_header.specs.Limits.{depth_limit}
 use Rattle.lerc_header.specs.Header.{header_says, open_says}
 use Rattle.lerc_mask.specs.Mask.{mask_bytes, mask_field, coded, decoded}
 use Rattle.lerc_mask.proofs.Runs.{coded-six}
 use Rattle.lerc_ranges.specs.declared.Ranges.{Ranges}
-use Rattle.lerc_ranges.specs.declared.RangesRead.{RangesRead}
-use Rattle.lerc_ranges.specs.declared.RangesAnswer.TheVariants as ranges-answer
-use Rattle.lerc_ranges.specs.declared.Constants.{Constants}
-use Rattle.lerc_ranges.specs.declared.ConstantsAnswer.TheVariants as constants-answer
 use Rattle.lerc_validity.specs.Validity.{MaskInForce, reused, new, which}
-use Rattle.lerc_ranges.specs.Ranges.{pairs_right, pairs_says, ranges_said, constants_said}
-use Rattle.lerc_block.proofs.Returns.{said_same as block_same}
+use Rattle.lerc_ranges.specs.Ranges.{pairs_right, pairs_says, pairs_said, constants_said}
 use Rattle.lerc_image.specs.Paint.{among}
 use Rattle.lerc_theorems.specs.Table.{HeaderRefused, RunsRefused, runs-room, runs-breach, PairsRefused, pair-wrong}
 use Rattle.lerc_theorems.specs.Numbers.{Exactly, ExactlyNumbered, PlacesExactly, NumbersExactly, NumbersOnly}
-use Rattle.lerc_theorems.proofs.SameAnswers.{block-plan-same, word_same, integer-same, offset-same, sample-same, stored_same, counts_same, header-same, open-same, held_same, runs_same, mask-same, pairs-same, way_same, walk_same, fill-same, end_same, stage-same, publish-same, read_same}
 use Rattle.lerc_theorems.proofs.Given.{at_in, word_in, integer-in, kind-in, sample_in, stored-in, plan-in, counts-in, held_in, header-in, runs-in, prepare-in, find-in, pairs-in, ranges-in-in, read-ranges-in, constants-in, planned-in, block-plan-in, read-block-in, sweep-in, walk-in, fill-in, check-in, own_in, tiles-in, check-image-in, whole_in, publish-in}
 use Rattle.lerc_theorems.proofs.Masks.{coded-wrong, wrong-coded}
 use Rattle.lerc_theorems.proofs.Wrong.{pairs-not, not-pairs}
@@ -44,8 +37,8 @@ by_way : {A B C : Type 0} → (A ↔ B) → (B ↔ C) → A ↔ C
 by_way p q = (λ a. q.0 (p.0 a), λ c. p.1 (q.1 c))
 
 -- an answer is a refusal exactly where what it says is one
-told : {R B : Type 0} {said : R → Res B} {q : R} {n : Refusal} → ((r q : R) → said r ≡ said q → r ≡ q) → said q ≡ fail n → {m : Res B} {r : R} → said r ≡ m → (r ≡ q) ↔ (m ≡ fail n)
-told {said = said} {q = q} inj is {r = r} p = (λ e. sym p ∙ ap said e ∙ is, λ e. inj r q (p ∙ e ∙ sym is))
+told : {A : Type 0} {n : Refusal} {r m : Res A} → r ≡ m → (r ≡ fail n) ↔ (m ≡ fail n)
+told p = (λ e. sym p ∙ e, λ e. p ∙ e)
 
 -- what is told of an accepted value refuses nothing
 behind : {A B : Type 0} (m : Res A) (f : A → B) (n : Refusal) → ((m >>= λ a. ok (f a)) ≡ fail n) ↔ (m ≡ fail n)
@@ -88,60 +81,54 @@ module _ (s : List ℕ) (count valid room : ℕ) where
   refused-runs (runs-room l) = rw (lt-leb _ _ l)
   refused-runs (runs-breach l c) = rw (le-leb _ _ l, wrong-coded s count valid c)
 
-ranges-told : (m : Res Ranges) (r : RangesRead) → r ≡ ranges_said m → (n : Refusal) → (r.answer ≡ ranges-answer.Refused n) ↔ (m ≡ fail n)
-ranges-told m r p n = (there m p, λ e. ap (λ (x : RangesRead). x.answer) (p ∙ ap ranges_said e))
-  where
-    there : (m : Res Ranges) → r ≡ ranges_said m → r.answer ≡ ranges-answer.Refused n → m ≡ fail n
-    there (ok x) p e = absurd (let y = rw (p) at e in let z : ◌≡◌ {A = ℕ} 0 1 = cc in omega arith)
-    there (fail w) p e = let y = rw (p) at e in let z : w ≡ n = cc in ap fail z
+behind-told : (m : Res (List ℕ)) (n : Refusal) → (constants_said m ≡ fail n) ↔ (m ≡ fail n)
+behind-told (ok words) n = (λ e. absurd (let z : ◌≡◌ {A = ℕ} 0 1 = cc in omega arith), λ e. absurd (let z : ◌≡◌ {A = ℕ} 0 1 = cc in omega arith))
+behind-told (fail why) n = (λ e. let z : why ≡ n = cc in ap fail z, λ e. let z : why ≡ n = cc in ap fail z)
 
-constants-told : (m : Res (List ℕ)) (r : Constants) → r ≡ constants_said m → (n : Refusal) → (r.answer ≡ constants-answer.Refused n) ↔ (m ≡ fail n)
-constants-told m r p n = (there m p, λ e. ap (λ (x : Constants). x.answer) (p ∙ ap constants_said e))
-  where
-    there : (m : Res (List ℕ)) → r ≡ constants_said m → r.answer ≡ constants-answer.Refused n → m ≡ fail n
-    there (ok x) p e = absurd (let y = rw (p) at e in let z : ◌≡◌ {A = ℕ} 0 1 = cc in omega arith)
-    there (fail w) p e = let y = rw (p) at e in let z : w ≡ n = cc in ap fail z
+behind-pairs : (m : Res Bool) (n : Refusal) → (pairs_said m ≡ fail n) ↔ (m ≡ fail n)
+behind-pairs (ok right) n = (λ e. absurd (let z : ◌≡◌ {A = ℕ} 0 1 = cc in omega arith), λ e. absurd (let z : ◌≡◌ {A = ℕ} 0 1 = cc in omega arith))
+behind-pairs (fail why) n = (λ e. let z : why ≡ n = cc in ap fail z, λ e. let z : why ≡ n = cc in ap fail z)
 
 -- ---- the tables are exact
 
 pub places-exactly : PlacesExactly
 places-exactly = record {
-  word = λ k a r x p n. by_way (told word_same refl p) (marked-exactly _ _ (word-exactly _ _ _) n);
-  to-integer = λ k a r x p n. by_way (told integer-same refl p) (integer-exactly _ _ n);
-  offset-kind = λ k a r x p n. by_way (told offset-same refl p) (kind-exactly _ _ n);
-  read-sample = λ k a r x p n. by_way (told sample-same refl p) (marked-exactly _ _ (sample-exactly _ _ _) n);
-  stored = λ k a r x p n. by_way (told stored_same refl p) (stored-exactly _ _ n);
-  inspect = λ k a r x p n. by_way (told plan-same refl p) (marked-exactly _ _ (plan-exactly _ _) n);
-  decode-plan = λ k a r x p n. by_way (told counts_same refl p.says) (by_way (behind _ _ n) (planned-exactly _ _ n));
-  check-plan = λ k a r x p n. by_way (told counts_same refl p) (by_way (behind _ _ n) (planned-exactly _ _ n));
-  decode-counts = λ k a r x p n. by_way (told counts_same refl p.says) (by_way (behind _ _ n) (marked-exactly _ _ (counts-exactly _ _) n));
-  check-counts = λ k a r x p n. by_way (told counts_same refl p) (by_way (behind _ _ n) (marked-exactly _ _ (counts-exactly _ _) n));
-  held = λ k a r x p n. by_way (told held_same refl p) (held-exactly _ _ n);
-  open-blob = λ k a r x p n. by_way (told open-same refl p) (open-exactly _ n);
-  read-header = λ k a r x p n. by_way (told header-same refl p) (header-exactly _ n);
-  decode-mask = λ k a r x p n. by_way (told runs_same refl p.says) (by_way (behind _ _ n) (runs-refused _ _ _ _, refused-runs _ _ _ _));
-  prepare-mask = λ k a r x p n. by_way (told mask-same refl p.says) (by_way (behind-which _ n) (prepare-exactly _ _ _ _ _ n));
-  find-mask = λ k a r x p n. by_way (told mask-same refl p.says) (by_way (behind-which _ n) (find-exactly _ _ _ _ _ n));
-  compare-runs = λ k a r x p n. by_way (told runs_same refl p.says) (by_way (behind _ _ n) (runs-refused _ _ _ _, refused-runs _ _ _ _));
-  compare-mask = λ k a r x p n. by_way (told mask-same refl p.says) (by_way (behind-which _ n) (find-exactly _ _ _ _ _ n));
-  pairs = λ k a r x p n. by_way (told pairs-same refl p) (pairs-exactly _ _ n);
-  ranges_in = λ k a r x p n. by_way (ranges-told _ r p n) (ranges-in-exactly _ _ n);
-  read-ranges = λ k a r x p n. by_way (ranges-told _ r p n) (read-ranges-exactly _ _ n);
-  convert = λ k a r x p n. by_way (constants-told _ r p n) (constants-exactly _ _ _ n);
-  inspect-block = λ k a r x p n. by_way (told block-plan-same refl p) (marked-exactly _ _ (block-plan-exactly _ _ _ _ _) n);
-  block-end = λ k a r x p n. by_way (told block_same refl p) (by_way (behind _ _ n) (marked-exactly _ _ (block-plan-exactly _ _ _ _ _) n));
-  read-block = λ k a r x p n. by_way (told block_same refl p.says) (by_way (behind _ _ n) (marked-exactly _ _ (read-block-exactly _ _ _ _ _ _ _) n));
-  check-block = λ k a r x p n. by_way (told block_same refl p) (by_way (behind _ _ n) (marked-exactly _ _ (read-block-exactly _ _ _ _ _ _ _) n));
-  read-sweep = λ k a r x p n. by_way (told way_same refl p) (sweep-exactly _ _ _ _ n);
-  walk = λ k a r x p n. by_way (told walk_same refl p.says) (by_way (behind _ _ n) (walk-exactly _ _ _ _ _ n));
-  fill = λ k a r x p n. by_way (told fill-same refl p.says) (by_way (behind _ _ n) (fill-exactly _ _ _ _ _ _ _ n));
-  check-tiles = λ k a r x p n. by_way (told walk_same refl p) (by_way (behind _ _ n) (check-exactly _ _ _ _ _ n));
-  check-own-tiles = λ k a r x p n. by_way (told walk_same refl p) (by_way (behind _ _ n) (own-exactly _ _ _ _ n));
-  decode-tiles = λ k a r x p n. by_way (told walk_same refl p.says) (by_way (behind _ _ n) (tiles-exactly _ _ _ _ _ _ _ n));
-  check-huffman = λ k a r x p n. by_way (told end_same refl p) (by_way (behind _ _ n) (check-image-exactly _ _ _ n));
-  stage = λ k a r x p n. by_way (told stage-same refl p.says) (by_way (behind _ _ n) (whole-exactly _ _ _ n));
-  publish = λ k a r x p n. by_way (told publish-same refl p.says) (by_way (behind _ _ n) (publish-exactly _ _ _ _ n));
-  read = λ k a r x p n. by_way (told read_same refl p.says) (by_way (behind _ _ n) (whole-exactly _ _ _ n));
+  word = λ k a r x p n. by_way (told p) (marked-exactly _ _ (word-exactly _ _ _) n);
+  to-integer = λ k a r x p n. by_way (told p) (integer-exactly _ _ n);
+  offset-kind = λ k a r x p n. by_way (told p) (kind-exactly _ _ n);
+  read-sample = λ k a r x p n. by_way (told p) (marked-exactly _ _ (sample-exactly _ _ _) n);
+  stored = λ k a r x p n. by_way (told p) (stored-exactly _ _ n);
+  inspect = λ k a r x p n. by_way (told p) (marked-exactly _ _ (plan-exactly _ _) n);
+  decode-plan = λ k a r x p n. by_way (told p.says) (by_way (behind _ _ n) (planned-exactly _ _ n));
+  check-plan = λ k a r x p n. by_way (told p) (by_way (behind _ _ n) (planned-exactly _ _ n));
+  decode-counts = λ k a r x p n. by_way (told p.says) (by_way (behind _ _ n) (marked-exactly _ _ (counts-exactly _ _) n));
+  check-counts = λ k a r x p n. by_way (told p) (by_way (behind _ _ n) (marked-exactly _ _ (counts-exactly _ _) n));
+  held = λ k a r x p n. by_way (told p) (held-exactly _ _ n);
+  open-blob = λ k a r x p n. by_way (told p) (open-exactly _ n);
+  read-header = λ k a r x p n. by_way (told p) (header-exactly _ n);
+  decode-mask = λ k a r x p n. by_way (told p.says) (by_way (behind _ _ n) (runs-refused _ _ _ _, refused-runs _ _ _ _));
+  prepare-mask = λ k a r x p n. by_way (told p.says) (by_way (behind-which _ n) (prepare-exactly _ _ _ _ _ n));
+  find-mask = λ k a r x p n. by_way (told p.says) (by_way (behind-which _ n) (find-exactly _ _ _ _ _ n));
+  compare-runs = λ k a r x p n. by_way (told p.says) (by_way (behind _ _ n) (runs-refused _ _ _ _, refused-runs _ _ _ _));
+  compare-mask = λ k a r x p n. by_way (told p.says) (by_way (behind _ _ n) (find-exactly _ _ _ _ _ n));
+  pairs = λ k a r x p n. by_way (told p) (by_way (behind-pairs _ n) (pairs-exactly _ _ n));
+  ranges_in = λ k a r x p n. by_way (told p) (ranges-in-exactly _ _ n);
+  read-ranges = λ k a r x p n. by_way (told p) (read-ranges-exactly _ _ n);
+  convert = λ k a r x p n. by_way (told p) (by_way (behind-told _ n) (constants-exactly _ _ _ n));
+  inspect-block = λ k a r x p n. by_way (told p) (marked-exactly _ _ (block-plan-exactly _ _ _ _ _) n);
+  block-end = λ k a r x p n. by_way (told p) (by_way (behind _ _ n) (marked-exactly _ _ (block-plan-exactly _ _ _ _ _) n));
+  read-block = λ k a r x p n. by_way (told p.says) (by_way (behind _ _ n) (marked-exactly _ _ (read-block-exactly _ _ _ _ _ _ _) n));
+  check-block = λ k a r x p n. by_way (told p) (by_way (behind _ _ n) (marked-exactly _ _ (read-block-exactly _ _ _ _ _ _ _) n));
+  read-sweep = λ k a r x p n. by_way (told p) (sweep-exactly _ _ _ _ n);
+  walk = λ k a r x p n. by_way (told p.says) (by_way (behind _ _ n) (walk-exactly _ _ _ _ _ n));
+  fill = λ k a r x p n. by_way (told p.says) (by_way (behind _ _ n) (fill-exactly _ _ _ _ _ _ _ n));
+  check-tiles = λ k a r x p n. by_way (told p) (by_way (behind _ _ n) (check-exactly _ _ _ _ _ n));
+  check-own-tiles = λ k a r x p n. by_way (told p) (by_way (behind _ _ n) (own-exactly _ _ _ _ n));
+  decode-tiles = λ k a r x p n. by_way (told p.says) (by_way (behind _ _ n) (tiles-exactly _ _ _ _ _ _ _ n));
+  check-huffman = λ k a r x p n. by_way (told p) (by_way (behind _ _ n) (check-image-exactly _ _ _ n));
+  stage = λ k a r x p n. by_way (told p.says) (by_way (behind _ _ n) (whole-exactly _ _ _ n));
+  publish = λ k a r x p n. by_way (told p.says) (by_way (behind _ _ n) (publish-exactly _ _ _ _ n));
+  read = λ k a r x p n. by_way (told p.says) (by_way (behind _ _ n) (whole-exactly _ _ _ n));
 }
 
 -- and so the numbers are: a refusal with a number is the table's, with the same number

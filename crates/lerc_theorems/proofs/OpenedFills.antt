@@ -10,7 +10,7 @@ use native.Mathlib.Omega.{arith}
 use lib.ListN.{length, get_or, take}
 use lib.Dec.{ltb, eqb}
 use borrow.Author.Tests.{le-leb, lt-ltb, le-ltb, ltb-true}
-use Rattle.lerc_words.specs.Res.{Res, ok, ◌>>=◌, refuse, require, after, accepts as accepted}
+use Rattle.lerc_words.specs.Res.{Res, ok, ◌>>=◌, refuse, require, after, accepts as accepted, fail}
 use Rattle.lerc_words.specs.Lists.{over, count, total}
 use Rattle.lerc_words.proofs.Binding.{bind_is, bind-counts, require-is, ok-is}
 use Rattle.lerc_header.specs.declared.Header.{Header}
@@ -18,17 +18,12 @@ use Rattle.lerc_header.specs.Shape.{cells, block_count, Shaped}
 use Rattle.lerc_header.specs.Header.{shape_of, held, extent_of}
 use Rattle.lerc_header.proofs.Kept.{held-is, held-shaped}
 use Rattle.lerc_ranges.specs.declared.Ranges.{Ranges}
-use Rattle.lerc_validity.specs.declared.MaskAnswer.{MaskAnswer}
-use Rattle.lerc_validity.specs.Validity.{MaskInForce, bytes_of, prepare_says}
+use Rattle.lerc_validity.specs.Validity.{MaskInForce, bytes_of, prepare_says, MaskTold}
 use Rattle.lerc_validity.proofs.Prepared.{Right, prepared-right, in-force}
-use Rattle.lerc_image.specs.declared.FillAnswer.{FillAnswer}
-use Rattle.lerc_image.specs.declared.FillAnswer.TheVariants as fill-answer
-use Rattle.lerc_image.specs.declared.WalkAnswer.{WalkAnswer}
-use Rattle.lerc_image.specs.declared.WalkAnswer.TheVariants as walk-answer
 use Rattle.lerc_image.specs.Geometry.{block_of, tile_of, valid_in_tile, is_valid_cell}
 use Rattle.lerc_image.specs.Paint.{in_block, among, painted, word_of, fills}
 use Rattle.lerc_image.specs.Blocks.{Chain, block_at}
-use Rattle.lerc_image.specs.Fill.{fill_says, fill_count, fill_said, fill_image}
+use Rattle.lerc_image.specs.Fill.{fill_says, fill_count, fill_image}
 use Rattle.lerc_image.specs.Walk.{Walk, walk_says, walk_count}
 use Rattle.lerc_image.specs.Tiles.{tiles_says, tiles_image}
 use Rattle.lerc_image.proofs.Partition.{block-lt}
@@ -45,7 +40,6 @@ use Rattle.lerc.specs.Read.{Lent, masked, read_says, published, read_after}
 use Rattle.lerc_theorems.specs.Calls.{PrepareCall, HandedCall, FillCall, FillCalls, none, more, EachCall, TilesCall, WalkCall}
 use Rattle.lerc_theorems.specs.DemandThree.{Case, Opened, CaseFill, CaseFills, CaseRead, answer_to, reported_by, times, filled_among, shape, in_mask, blocks_of, reported, below}
 use Rattle.lerc_theorems.specs.DemandTwo.{Roomy}
-use Rattle.lerc_theorems.proofs.SameAnswers.{fill-same, walk_same}
 use Rattle.lerc_theorems.proofs.Calls.{prepare-call, handed-call, ranges-from, walk_call, fill-call, fill-calls, each-call, tiles-call, read-call}
 use Rattle.lerc_theorems.proofs.Longer.{MaskAlike, alike-take, tile-same, valid_same, index_same, block_same as longer-block, chain_same as longer-chain, fill-same as longer-fill, image-same as longer-image, each_same as longer-each, filled-same as longer-count}
 use Rattle.lerc_theorems.proofs.Meanings.{Means, meaning-is, mask-kept, read_is, kept-front, kept-unread}
@@ -74,20 +68,19 @@ module _ (x : Case) (o : Opened x) where
   -- ---- one fill
 
   -- on any image with room
-  module _ (image : List ℕ) (wide : cells (shape x) ≤ length image) (n : ℕ) (said : FillAnswer) (new : List ℕ) (f : CaseFill x n said image new) where
-    says : fill_said said ≡ (fill_says x.blob x.header x.ranges (in_mask x) x.list n (length image) >>= fill_count x.header x.mask n)
+  module _ (image : List ℕ) (wide : cells (shape x) ≤ length image) (n : ℕ) (said : Res ℕ) (new : List ℕ) (f : CaseFill x n said image new) where
+    says : said ≡ (fill_says x.blob x.header x.ranges (in_mask x) x.list n (length image) >>= fill_count x.header x.mask n)
     says = (fill-call f).says ∙ rw (longer-fill x.blob x.header walk.kept x.mask (in_mask x) alike x.ranges x.list n (length image))
 
-    pub accepts : n < blocks_of x → said ≡ fill-answer.Filled (valid_in_tile (shape x) (in_mask x) (tile_of (shape x) n))
+    pub accepts : n < blocks_of x → said ≡ ok (valid_in_tile (shape x) (in_mask x) (tile_of (shape x) n))
     accepts l =
-        fill-same said (fill-answer.Filled (valid_in_tile (shape x) (in_mask x) (tile_of (shape x) n)))
-        (says ∙ rw (fill-ok _ _ _ _ _ _ walk x.list o.long o.starts n (length image) l wide, tile-same (shape x) shaped x.mask (in_mask x) alike n l))
+        says ∙ rw (fill-ok _ _ _ _ _ _ walk x.list o.long o.starts n (length image) l wide, tile-same (shape x) shaped x.mask (in_mask x) alike n l)
 
-    pub refuses : blocks_of x ≤ n → (said ≡ fill-answer.Refused (refuse 11)) × (new ≡ image)
+    pub refuses : blocks_of x ≤ n → (said ≡ fail (refuse 11)) × (new ≡ image)
     unfolding fill_image
     refuses l =
         let e = fill-no _ _ _ _ _ _ walk x.list o.long o.starts n (length image) l in (
-          fill-same said (fill-answer.Refused (refuse 11)) (says ∙ rw (e)),
+          (says ∙ rw (e)),
           (fill-call f).image ∙ longer-image x.blob x.header walk.kept x.mask (in_mask x) alike x.ranges x.list n image ∙ rw (e),
         )
 
@@ -99,7 +92,7 @@ module _ (x : Case) (o : Opened x) where
         go (no l) = rw (le-ltb n (blocks_of x) (omega arith)) (refuses (omega arith)).0
 
   -- one answer after the other
-  pub answered : (ns : List ℕ) (said : List FillAnswer) (image new : List ℕ) → cells (shape x) ≤ length image → FillCalls x.blob x.header x.ranges x.mask x.list ns said image new
+  pub answered : (ns : List ℕ) (said : List (Res ℕ)) (image new : List ℕ) → cells (shape x) ≤ length image → FillCalls x.blob x.header x.ranges x.mask x.list ns said image new
       → said ≡ map (answer_to (shape x) (in_mask x)) ns
   answered ns said image new wide (none image') = refl
   answered ns said image new wide (more n rest one others old mid new' f c) =
@@ -109,13 +102,13 @@ module _ (x : Case) (o : Opened x) where
   -- the lent mask gives the same answers
   pub answer-same : (ns : List ℕ) → map (answer_to (shape x) (in_mask x)) ns ≡ map (answer_to (shape x) x.mask) ns
   answer-same [] = refl
-  answer-same (n ∷ ns) = rw (answer-same ns) (ap (λ (a : FillAnswer). a ∷ map (answer_to (shape x) x.mask) ns) (go (dec_lt n (blocks_of x))))
+  answer-same (n ∷ ns) = rw (answer-same ns) (ap (λ (a : Res ℕ). a ∷ map (answer_to (shape x) x.mask) ns) (go (dec_lt n (blocks_of x))))
     where
       go : Dec (n < blocks_of x) → answer_to (shape x) (in_mask x) n ≡ answer_to (shape x) x.mask n
       go (yes l) = rw (tile-same (shape x) shaped x.mask (in_mask x) alike n l)
       go (no l) = rw (le-ltb n (blocks_of x) (omega arith))
 
-  pub words-add : (said : ℕ → FillAnswer) (new : ℕ → List ℕ) → ((n : ℕ) → n < blocks_of x → CaseFill x n (said n) x.image (new n))
+  pub words-add : (said : ℕ → Res ℕ) (new : ℕ → List ℕ) → ((n : ℕ) → n < blocks_of x → CaseFill x n (said n) x.image (new n))
       → total (blocks_of x) (λ n. reported (said n)) ≡ x.header.valid * x.header.depth
   words-add said new f =
       total-same (blocks_of x) _ (λ n. valid_in_tile (shape x) (in_mask x) (tile_of (shape x) n)) (λ n l. ap reported (accepts x.image o.room n (said n) (new n) (f n l) l))
@@ -139,7 +132,7 @@ module _ (x : Case) (o : Opened x) where
       rw (by-times ns, ← once (blocks_of x) i words_at (λ l. rw (le-ltb i (blocks_of x) l)))
       (total-plus (blocks_of x) _ _ ∙ total-same (blocks_of x) _ _ (λ n l. sym (add-mul (cond (eqb n i) 1 0) (times n ns) (words_at n))))
 
-  pub words-once : (ns : List ℕ) (said : List FillAnswer) (new : List ℕ) → CaseFills x ns said new → ((n : ℕ) → n < blocks_of x → times n ns ≡ 1) → reported_by said ≡ x.header.valid * x.header.depth
+  pub words-once : (ns : List ℕ) (said : List (Res ℕ)) (new : List ℕ) → CaseFills x ns said new → ((n : ℕ) → n < blocks_of x → times n ns ≡ 1) → reported_by said ≡ x.header.valid * x.header.depth
   words-once ns said new f each =
       ap reported_by (answered ns said x.image new o.room f)
       ∙ by-times ns
@@ -181,7 +174,7 @@ module _ (x : Case) (o : Opened x) where
       longer-each x.blob x.header walk.kept x.mask (in_mask x) alike x.ranges x.list ns x.image
       ∙ each-is _ _ _ _ _ _ walk x.list o.long o.starts ns x.image o.room
 
-  module _ (ns : List ℕ) (said : List FillAnswer) (new : List ℕ) (f : CaseFills x ns said new) where
+  module _ (ns : List ℕ) (said : List (Res ℕ)) (new : List ℕ) (f : CaseFills x ns said new) where
     is : new ≡ filled_by ns
     is = fill-calls ns said x.image new f ∙ each ns
 
@@ -253,23 +246,23 @@ module _ (x : Case) (o : Opened x) where
       on true e = rw (index_same (shape x) shaped x.mask (in_mask x) alike c (valid-below (shape x) (in_mask x) c e))
       on false e = refl
 
-  pub by-tiles : (said : WalkAnswer) (list image : List ℕ) → TilesCall x.blob x.header x.mask x.ranges.max (get_or x.list 0 0) said x.list list x.image image
-      → (said ≡ walk-answer.Walked (blocks_of x) x.chain.end) × (list ≡ over x.chain.starts x.list) × (length image ≡ length x.image)
+  pub by-tiles : (said : Res Walk) (list image : List ℕ) → TilesCall x.blob x.header x.mask x.ranges.max (get_or x.list 0 0) said x.list list x.image image
+      → (said ≡ ok (record { blocks = (blocks_of x); end = x.chain.end })) × (list ≡ over x.chain.starts x.list) × (length image ≡ length x.image)
       × ((c : ℕ) → c < length x.image → get_or image c 0 ≡ cond (is_valid_cell (shape x) (in_mask x) c) (cell_word x.header (in_mask x) (blocks x.chain) c) (get_or x.image c 0))
   unfolding cell_word
   by-tiles said list image k =
       let p = tiles-call k in
       let i : image ≡ painted x.image (is_valid_cell (shape x) x.mask) (word_of (shape x) x.mask words) = p.image ∙ ap (λ (y : Res Chain). after y x.image (tiles_image x.header x.mask x.image)) tiled in (
-        walk_same said (walk-answer.Walked (blocks_of x) x.chain.end) (p.says ∙ ap (λ (y : Res Chain). y >>= walk_count x.header) tiled),
+        (p.says ∙ ap (λ (y : Res Chain). y >>= walk_count x.header) tiled),
         p.list ∙ ap (λ (y : Res Chain). after y x.list (λ c. over c.starts x.list)) tiled,
         ap length i ∙ length-painted x.image _ _,
         λ c l. rw (i) (painted-cell x.image (word_of (shape x) x.mask words) (is_valid_cell (shape x) x.mask) c l ∙ word_same c),
       )
 
-  pub order : (ns ms : List ℕ) (said told : List FillAnswer) (new other : List ℕ) → CaseFills x ns said new → CaseFills x ms told other → ((n : ℕ) → n < blocks_of x → among ns n ≡ among ms n) → new ≡ other
+  pub order : (ns ms : List ℕ) (said told : List (Res ℕ)) (new other : List ℕ) → CaseFills x ns said new → CaseFills x ms told other → ((n : ℕ) → n < blocks_of x → among ns n ≡ among ms n) → new ≡ other
   order ns ms said told new other f g e = is ns said new f ∙ fills-laws.fills-order (shape x) shaped (in_mask x) words ns ms x.image e ∙ sym (is ms told other g)
 
-pub listed : (b : List ℕ) (h : Header) (r : Ranges) (m old new : List ℕ) (n end : ℕ) (c : Chain) → WalkCall b h r m (walk-answer.Walked n end) old new → walk_says b h r m (length old) ≡ ok c
+pub listed : (b : List ℕ) (h : Header) (r : Ranges) (m old new : List ℕ) (n end : ℕ) (c : Chain) → WalkCall b h r m (ok (record { blocks = n; end = end })) old new → walk_says b h r m (length old) ≡ ok c
     → (n ≡ block_count (shape_of h)) × (end ≡ c.end) × (n ≤ length new) × ((i : ℕ) → i < n → get_or new i 0 ≡ get_or c.starts i 0)
 listed b h r m old new n end c w e =
     let p = walk_call w in
@@ -278,7 +271,7 @@ listed b h r m old new n end c w e =
     (i, ap (λ (y : Walk). y.end) z, rw (p.list, i) (left-long b h r m old c e), λ j l. rw p.list (left-starts b h r m old c e j (rw (← i) l)))
 
 -- an accepted fill reports the valid cells of its block
-pub reports : (b : List ℕ) (h : Header) (r : Ranges) (m list : List ℕ) (n words : ℕ) (old new : List ℕ) → FillCall b h r m list n (fill-answer.Filled words) old new
+pub reports : (b : List ℕ) (h : Header) (r : Ranges) (m list : List ℕ) (n words : ℕ) (old new : List ℕ) → FillCall b h r m list n (ok words) old new
     → words ≡ count (cells (shape_of h)) (in_block (shape_of h) m n)
 unfolding fill_says
 reports b h r m list n words old new f =
@@ -289,23 +282,23 @@ reports b h r m list n words old new f =
     w ∙ sums.tile-count (shape_of h) (held-shaped h (length b) p) m n (rw (i) at (ltb-true n y.blocks (require-is _ 11 q)))
 
 -- one call with a list of numbers is as many calls
-pub as-calls : (b : List ℕ) (h : Header) (r : Ranges) (m list ns : List ℕ) (said : List FillAnswer) (old new : List ℕ) → FillCalls b h r m list ns said old new
+pub as-calls : (b : List ℕ) (h : Header) (r : Ranges) (m list ns : List ℕ) (said : List (Res ℕ)) (old new : List ℕ) → FillCalls b h r m list ns said old new
     → (filled : ℕ) (other : List ℕ) → EachCall b h r m list ns filled old other → (filled ≡ filled_among said) × (other ≡ new)
 unfolding filled_of
 as-calls b h r m list ns said old new c filled other e = ((each-call e).says ∙ go ns said old new c, (each-call e).image ∙ sym (fill-calls ns said old new c))
   where
-    one : (a : FillAnswer) (rest : List FillAnswer) → cond (accepted (fill_said a)) 1 0 + filled_among rest ≡ filled_among (a ∷ rest)
-    one (fill-answer.Filled n) rest = refl
-    one (fill-answer.Refused why) rest = zero-add (filled_among rest)
+    one : (a : Res ℕ) (rest : List (Res ℕ)) → cond (accepted a) 1 0 + filled_among rest ≡ filled_among (a ∷ rest)
+    one (ok n) rest = refl
+    one (fail why) rest = zero-add (filled_among rest)
 
-    go : (ns : List ℕ) (said : List FillAnswer) (old new : List ℕ) → FillCalls b h r m list ns said old new → filled_of b h r m list (length old) ns ≡ filled_among said
+    go : (ns : List ℕ) (said : List (Res ℕ)) (old new : List ℕ) → FillCalls b h r m list ns said old new → filled_of b h r m list (length old) ns ≡ filled_among said
     go ns said old new (none image) = refl
     go ns said old new (more n rest a others old' mid new' f c) =
         let i : length mid ≡ length old = ap length (fill-call f).image ∙ length-fill b h r m list n old in
         let u : filled_of b h r m list (length old) rest ≡ filled_among others = ap (λ (z : ℕ). filled_of b h r m list z rest) (sym i) ∙ go rest others mid new c in
-        ap (λ (z : ℕ). z + filled_of b h r m list (length old) rest) (one-is b h r m list n old (fill-call f)) ∙ ap (λ (z : ℕ). cond (accepted (fill_said a)) 1 0 + z) u ∙ one a others
+        ap (λ (z : ℕ). z + filled_of b h r m list (length old) rest) (one-is b h r m list n old (fill-call f)) ∙ ap (λ (z : ℕ). cond (accepted a) 1 0 + z) u ∙ one a others
 
-pub mask-handed : (b : List ℕ) (h : Header) (reuse : Bool) (kept spare new m : List ℕ) (f : MaskInForce) (said : MaskAnswer)
+pub mask-handed : (b : List ℕ) (h : Header) (reuse : Bool) (kept spare new m : List ℕ) (f : MaskInForce) (said : Res MaskTold)
     → PrepareCall b h reuse kept said spare new → HandedCall kept new said m → prepare_says b h reuse kept (length spare) ≡ ok f → m ≡ bytes_of f
 mask-handed b h reuse kept spare new m f said p q e =
     handed-call q ∙ in-force f (prepare_says b h reuse kept (length spare)) said kept spare new e (prepared-right b h reuse kept (length spare) f e).part (prepare-call p)

@@ -6,42 +6,25 @@ use mathlib.Core.List.{List, [], ◌∷◌, ◌++◌}
 use Prim.Native.Nat.{ℕ, ◌+◌}
 use native.Mathlib.Nat.{zero-add}
 use native.Mathlib.Omega.{arith}
-use lib.ListN.{length, take, drop, replicate}
+use lib.ListN.{length, take, drop}
 use lib.Seq.{take-append_seam}
 use Rattle.lerc_words.specs.declared.Refusal.{Refusal}
 use Rattle.lerc_words.specs.Res.{Res, ok, fail, ◌>>=◌, require, after}
 use Rattle.lerc_words.specs.Lists.{over}
 use Rattle.lerc_words.proofs.Binding.{bind_is, require-is, ok-is, bind-fail}
 use Rattle.lerc_header.specs.declared.Header.{Header}
-use Rattle.lerc_header.specs.Limits.{depth_limit}
 use Rattle.lerc_header.specs.Header.{shape_of, header_says}
 use Rattle.lerc_header.specs.Shape.{mask_length}
-use Rattle.lerc_bits.specs.declared.CountsAnswer.TheVariants as counts
 use Rattle.lerc_bits.specs.Bits.{Counts, CountsDecoded}
-use Rattle.lerc_mask.specs.declared.RunsAnswer.TheVariants as runs
 use Rattle.lerc_mask.specs.Mask.{RunsUnrolled}
-use Rattle.lerc_block.specs.declared.BlockAnswer.TheVariants as block
 use Rattle.lerc_block.specs.Block.{Block, BlockRead}
-use Rattle.lerc_image.specs.declared.WalkAnswer.TheVariants as walked
-use Rattle.lerc_image.specs.declared.FillAnswer.TheVariants as filled
 use Rattle.lerc_image.specs.Blocks.{Chain}
 use Rattle.lerc_image.specs.Walk.{walk_says, walk_list, BlocksWalked}
 use Rattle.lerc_image.specs.Fill.{fill_says, fill_image, Filled}
 use Rattle.lerc_image.specs.Tiles.{Tiled}
 use Rattle.lerc_ranges.specs.declared.Ranges.{Ranges}
-use Rattle.lerc_ranges.specs.declared.RangesRead.{RangesRead}
-use Rattle.lerc_ranges.specs.declared.RangesAnswer.TheVariants as ranges
-use Rattle.lerc_ranges.specs.declared.Constants.{Constants}
-use Rattle.lerc_ranges.specs.declared.ConstantsAnswer.TheVariants as constants
-use Rattle.lerc_validity.specs.declared.MaskAnswer.{MaskAnswer}
-use Rattle.lerc_validity.specs.declared.MaskAnswer.TheVariants as mask
-use Rattle.lerc_validity.specs.Validity.{Prepared, MaskInForce, reused, new, which, mask_says, prepare_says, in_force}
-use Rattle.lerc_ranges.specs.Ranges.{no_ranges, ranges_said, ranges_in_says, read_ranges_says, constant_words, constants_said}
+use Rattle.lerc_validity.specs.Validity.{Prepared, MaskInForce, reused, new, which, mask_says, prepare_says, in_force, MaskTold}
 use Rattle.lerc_validity.proofs.Prepared.{mask-right, prepared-right}
-use Rattle.lerc.specs.declared.StageAnswer.{StageAnswer}
-use Rattle.lerc.specs.declared.StageAnswer.TheVariants as staged
-use Rattle.lerc.specs.declared.PublishAnswer.TheVariants as published
-use Rattle.lerc.specs.declared.ReadAnswer.TheVariants as read
 use Rattle.lerc.specs.Read.{Lent, room, Masked, masked, read_says, refused_after, WholeRead}
 use Rattle.lerc.specs.Stage.{publish_says, StageRead, Publishing}
 use Rattle.lerc_fills.specs.Each.{filled_of, fill_each}
@@ -49,16 +32,18 @@ use Rattle.lerc_fills.proofs.Turns.{length-fill}
 use Rattle.lerc_theorems.specs.Promises.{HandedBack}
 use Rattle.lerc_theorems.specs.Calls.{FillCall}
 use Rattle.lerc_theorems.specs.Refusals.{RefusalsKeep, RefusalsEmpty, NewMask, WholeKeeps}
-use Rattle.lerc_theorems.proofs.SameAnswers.{mask-same}
 use Rattle.lerc_theorems.proofs.Calls.{fill-call, each-call}
 use Rattle.lerc_theorems.proofs.Meanings.{rooms}
+use Rattle.lerc_validity.specs.declared.Mask.TheVariants as mask
+use Rattle.lerc.specs.declared.Staged.{Staged}
+use Rattle.std.specs.Prelude.{◌≢◌}
 
 -- ---- slices that are lent
 
-decoded-keeps : (m : Res Counts) {why : Refusal} {old x : List ℕ} → CountsDecoded m (counts.Refused why) old x → x ≡ old
+decoded-keeps : (m : Res Counts) {why : Refusal} {old x : List ℕ} → CountsDecoded m (fail why) old x → x ≡ old
 decoded-keeps m p = let e = bind-fail m _ (sym p.says) in p.left ∙ rw (e)
 
-unrolled-keeps : (m : Res (List ℕ)) {why : Refusal} {old x : List ℕ} → RunsUnrolled m (runs.Refused why) old x → x ≡ old
+unrolled-keeps : (m : Res (List ℕ)) {why : Refusal} {old x : List ℕ} → RunsUnrolled m (fail why) old x → x ≡ old
 unrolled-keeps m p = let e = bind-fail m _ (sym p.says) in p.left ∙ rw (e)
 
 -- an accepted mask says which it is
@@ -67,27 +52,27 @@ which-refused (ok (reused m)) e = absurd (let z : ◌≡◌ {A = ℕ} 0 1 = cc i
 which-refused (ok (new m)) e = absurd (let z : ◌≡◌ {A = ℕ} 0 1 = cc in omega arith)
 which-refused (fail r) e = cc
 
-prepared-keeps : (m : Res MaskInForce) {why : Refusal} {old x : List ℕ} → Prepared m (mask.Refused why) old x → x ≡ old
+prepared-keeps : (m : Res MaskInForce) {why : Refusal} {old x : List ℕ} → Prepared m (fail why) old x → x ≡ old
 prepared-keeps m p = let e = which-refused m (sym p.says) in p.spare ∙ rw (e)
 
-read_keeps : (m : Res Block) {why : Refusal} {old x : List ℕ} → BlockRead m (block.Refused why) old x → x ≡ old
+read_keeps : (m : Res Block) {why : Refusal} {old x : List ℕ} → BlockRead m (fail why) old x → x ≡ old
 read_keeps m p = let e = bind-fail m _ (sym p.says) in p.words ∙ rw (e)
 
-walked_keeps : (b : List ℕ) (h : Header) (g : Ranges) (m : List ℕ) {why : Refusal} {old x : List ℕ} → BlocksWalked b h g m (walked.Refused why) old x → x ≡ old
+walked_keeps : (b : List ℕ) (h : Header) (g : Ranges) (m : List ℕ) {why : Refusal} {old x : List ℕ} → BlocksWalked b h g m (fail why) old x → x ≡ old
 unfolding walk_list
 walked_keeps b h g m {old = old} p = let e = bind-fail (walk_says b h g m (length old)) _ (sym p.says) in p.list ∙ rw (e)
 
-filled_keeps : (b : List ℕ) (h : Header) (g : Ranges) (m list : List ℕ) (n : ℕ) {why : Refusal} {old x : List ℕ} → Filled b h g m list n (filled.Refused why) old x → x ≡ old
+filled_keeps : (b : List ℕ) (h : Header) (g : Ranges) (m list : List ℕ) (n : ℕ) {why : Refusal} {old x : List ℕ} → Filled b h g m list n (fail why) old x → x ≡ old
 unfolding fill_image
 filled_keeps b h g m list n {old = old} p = let e = bind-fail (fill_says b h g m list n (length old)) _ (sym p.says) in p.image ∙ rw (e)
 
-tiled-keeps : (c : Res Chain) {h : Header} {m : List ℕ} {why : Refusal} {list l image x : List ℕ} → Tiled c h m (walked.Refused why) list l image x → (l ≡ list) × (x ≡ image)
+tiled-keeps : (c : Res Chain) {h : Header} {m : List ℕ} {why : Refusal} {list l image x : List ℕ} → Tiled c h m (fail why) list l image x → (l ≡ list) × (x ≡ image)
 tiled-keeps c p = let e = bind-fail c _ (sym p.says) in (p.list ∙ rw (e), p.image ∙ rw (e))
 
 -- ---- a list of fills
 
 module _ (b : List ℕ) (h : Header) (r : Ranges) (m list : List ℕ) where
-  refused_says : (n : ℕ) {why : Refusal} {image any : List ℕ} → FillCall b h r m list n (filled.Refused why) image any → fill_says b h r m list n (length image) ≡ fail why
+  refused_says : (n : ℕ) {why : Refusal} {image any : List ℕ} → FillCall b h r m list n (fail why) image any → fill_says b h r m list n (length image) ≡ fail why
   refused_says n {image = image} f = bind-fail (fill_says b h r m list n (length image)) _ (sym (fill-call f).says)
 
   skipped : (n : ℕ) (image : List ℕ) {why : Refusal} → fill_says b h r m list n (length image) ≡ fail why → fill_image b h r m list n image ≡ image
@@ -117,10 +102,10 @@ module _ (b : List ℕ) (h : Header) (r : Ranges) (m list : List ℕ) where
 
 -- ---- staging and publishing
 
-staged-keeps : {b : List ℕ} {reuse : Bool} {l : Lent} {why : Refusal} {spare list : List ℕ} → StageRead b reuse (staged.Refused why) l spare list → list ≡ l.list
+staged-keeps : {b : List ℕ} {reuse : Bool} {l : Lent} {why : Refusal} {spare list : List ℕ} → StageRead b reuse (fail why) l spare list → list ≡ l.list
 staged-keeps {b} {reuse} {l} p = let e = bind-fail (read_says b reuse l) _ (sym p.says) in p.list ∙ rw (e)
 
-published-keeps : {b : List ℕ} {reuse : Bool} {a : StageAnswer} {l : Lent} {why : Refusal} {kept image : List ℕ} → Publishing b reuse a (published.Refused why) l kept image
+published-keeps : {b : List ℕ} {reuse : Bool} {a : Res Staged} {l : Lent} {why : Refusal} {kept image : List ℕ} → Publishing b reuse a (fail why) l kept image
     → (kept ≡ l.kept) × (image ≡ l.image)
 published-keeps {b} {reuse} {a} {l} p = let e = bind-fail (publish_says b reuse a l) _ (sym p.says) in (p.kept ∙ rw (e), p.image ∙ rw (e))
 
@@ -149,38 +134,33 @@ refusals-keep = record {
 
 -- ---- what is handed out with a refusal
 
-no-ranges : (m : Res Ranges) {r : RangesRead} {why : Refusal} → r ≡ ranges_said m → r.answer ≡ ranges.Refused why → r.ranges ≡ no_ranges
-no-ranges (ok x) e d = absurd (let y = rw (e) at d in let z : ◌≡◌ {A = ℕ} 0 1 = cc in omega arith)
-no-ranges (fail w) e d = ap (λ (x : RangesRead). x.ranges) e
+nothing_beside : {A : Type 0} {r : Res A} {why : Refusal} → r ≡ fail why → (a : A) → r ≢ ok a
+nothing_beside e a d = let z : ◌≡◌ {A = ℕ} 0 1 = cc in omega arith
 
-no_words : (m : Res (List ℕ)) {r : Constants} {why : Refusal} → r ≡ constants_said m → r.answer ≡ constants.Refused why → r.words ≡ replicate depth_limit 0
-no_words (ok x) e d = absurd (let y = rw (e) at d in let z : ◌≡◌ {A = ℕ} 0 1 = cc in omega arith)
-no_words (fail w) e d = ap (λ (x : Constants). x.words) e
-
-no-mask : (m : MaskAnswer) {why : Refusal} (old spare : List ℕ) {r : List ℕ} → r ≡ in_force m old spare → m ≡ mask.Refused why → r ≡ []
+no-mask : (m : Res MaskTold) {why : Refusal} (old spare : List ℕ) {r : List ℕ} → r ≡ in_force m old spare → m ≡ fail why → r ≡ []
 unfolding in_force
 no-mask m old spare e d = rw (d) at e
 
 pub refusals-empty : RefusalsEmpty
 refusals-empty = record {
-  ranges = λ k a r x why p. no-ranges (read_ranges_says a.0.now a.1.0) p;
-  ranges-found = λ k a r x why p. no-ranges (ranges_in_says a.0.now a.1.0) p;
-  constants = λ k a r x why p. no_words (constant_words a.1.0 a.1.1.0 a.0) p;
+  ranges = λ k a r x why p e g. nothing_beside e g;
+  ranges-found = λ k a r x why p e g. nothing_beside e g;
+  constants = λ k a r x why p e words. nothing_beside e words;
   mask = λ k a r x why p. no-mask _ _ _ p.0;
 }
 
 -- ---- the mask that is handed back
 
-module _ (b : List ℕ) (h : Header) (reuse : Bool) (old : List ℕ) (r : MaskAnswer) (spare newer : List ℕ) (p : Prepared (prepare_says b h reuse old (length spare)) r spare newer) (m : List ℕ) where
-  said-kept : prepare_says b h reuse old (length spare) ≡ ok (reused m) → (r ≡ mask.Kept (mask_length (shape_of h))) × (m ≡ take (mask_length (shape_of h)) old)
+module _ (b : List ℕ) (h : Header) (reuse : Bool) (old : List ℕ) (r : Res MaskTold) (spare newer : List ℕ) (p : Prepared (prepare_says b h reuse old (length spare)) r spare newer) (m : List ℕ) where
+  said-kept : prepare_says b h reuse old (length spare) ≡ ok (reused m) → (r ≡ ok (mask.Kept (mask_length (shape_of h)))) × (m ≡ take (mask_length (shape_of h)) old)
   said-kept e =
       let w = prepared-right b h reuse old (length spare) (reused m) e in
-      (mask-same r (mask.Kept (mask_length (shape_of h))) (p.says ∙ rw (e, w.size)), w.part.1 ∙ ap (λ (n : ℕ). take n old) w.size)
+      ((p.says ∙ rw (e, w.size)), w.part.1 ∙ ap (λ (n : ℕ). take n old) w.size)
 
-  said-spare : prepare_says b h reuse old (length spare) ≡ ok (new m) → (r ≡ mask.Spare (mask_length (shape_of h))) × (m ≡ take (mask_length (shape_of h)) newer)
+  said-spare : prepare_says b h reuse old (length spare) ≡ ok (new m) → (r ≡ ok (mask.Spare (mask_length (shape_of h)))) × (m ≡ take (mask_length (shape_of h)) newer)
   said-spare e =
       let w = prepared-right b h reuse old (length spare) (new m) e in (
-        mask-same r (mask.Spare (mask_length (shape_of h))) (p.says ∙ rw (e, w.size)),
+        (p.says ∙ rw (e, w.size)),
         sym (let i : newer ≡ over m spare = p.spare ∙ rw (e) in rw (i, ← w.size) (take-append_seam m (drop (length m) spare))),
       )
 
@@ -220,7 +200,7 @@ module _ (b : List ℕ) (reuse : Bool) (l : Lent) where
   new-length : (h : Header) (m : List ℕ) → NewMask b reuse l h m → length m ≡ mask_length (shape_of h)
   new-length h m n = (mask-right (take h.size b) h l.kept reuse (new m) (rooms h l n.room).kept n.mask).size
 
-  pub whole-keeps : (after : Lent) (why : Refusal) → WholeRead b reuse (read.Refused why) l after → WholeKeeps b reuse l after
+  pub whole-keeps : (after : Lent) (why : Refusal) → WholeRead b reuse (fail why) l after → WholeKeeps b reuse l after
   unfolding refused_after
   whole-keeps after why w = go (masked b reuse l) refl (w.lent ∙ rw (bind-fail (read_says b reuse l) _ (sym w.says)))
     where

@@ -18,38 +18,28 @@ use Rattle.lerc_numeric.specs.Numeric.{same as same'}
 use Rattle.lerc_header.specs.declared.Header.{Header}
 use Rattle.lerc_header.specs.Header.{shape_of, header_bytes, ranges_at, header_of, header_says, open_says, held, extent_of}
 use Rattle.lerc_header.specs.declared.Extent.{Extent}
-use Rattle.lerc_header.specs.declared.HeaderAnswer.TheVariants as header-answer
 use Rattle.lerc_header.specs.Shape.{block_count}
 use Rattle.lerc_header.proofs.Kept.{header-held, held-is, held-size}
 use Rattle.lerc_ranges.specs.declared.Ranges.{Ranges}
-use Rattle.lerc_ranges.specs.Ranges.{uniform_ranges, ranges_end, coded_ranges, pairs_right, wrong_number_at, ranges_says, read_ranges_says, ranges_said}
+use Rattle.lerc_ranges.specs.Ranges.{uniform_ranges, ranges_end, coded_ranges, pairs_right, wrong_number_at, ranges_says, read_ranges_says}
 use Rattle.lerc_validity.specs.Validity.{MaskInForce, unrolled, mask_in, mask_says, prepare_says, spare_with, which}
 use Rattle.lerc_block.specs.Block.{Block}
 use Rattle.lerc_sweep.specs.Sweep.{blocks_from}
-use Rattle.lerc_image.specs.declared.WalkAnswer.{WalkAnswer}
-use Rattle.lerc_image.specs.declared.WalkAnswer.TheVariants as walk-answer
-use Rattle.lerc_image.specs.declared.FillAnswer.{FillAnswer}
-use Rattle.lerc_image.specs.declared.FillAnswer.TheVariants as fill-answer
 use Rattle.lerc_image.specs.Blocks.{Chain, block_at}
 use Rattle.lerc_image.specs.Paint.{scattered}
 use Rattle.lerc_image.specs.Walk.{Walk, walk_says, walk_count, walk_of, walk_list}
 use Rattle.lerc_image.specs.Fill.{fill_says, fill_count, fill_image}
 use Rattle.lerc_image.specs.Own.{own_tiles}
 use Rattle.lerc_image.specs.Tiles.{checked_tiles, room_to_list, listed_tiles, tiles_listed, room_to_fill, filled_tiles, written_list, written_image, tiles_says, tiles_image}
-use Rattle.lerc_byte_image.specs.declared.EndAnswer.{EndAnswer}
-use Rattle.lerc_byte_image.specs.declared.EndAnswer.TheVariants as end-answer
 use Rattle.lerc_byte_image.specs.Symbols.{Coded}
-use Rattle.lerc_byte_image.specs.Image.{checked_image, ended, end_said, write_table, written_image as written_bytes}
+use Rattle.lerc_byte_image.specs.Image.{checked_image, ended, write_table, written_image as written_bytes}
 use Rattle.lerc_byte_image.proofs.Front.{image-front, image-bounds}
 use Rattle.lerc_fills.specs.Each.{filled_of, fill_each}
 use Rattle.lerc.specs.Meaning.{Meaning, meaning_from}
 use Rattle.lerc.specs.Read.{Lent, room, Masked, masked, read_says, read_count, published}
-use Rattle.lerc.specs.declared.StageAnswer.{StageAnswer}
-use Rattle.lerc.specs.declared.PublishAnswer.{PublishAnswer}
-use Rattle.lerc.specs.Stage.{staged_of, staged_spare, staged_list, publish_says, body_told, StageRead, Publishing}
+use Rattle.lerc.specs.Stage.{staged_of, staged_spare, staged_list, publish_says, body_told, StageRead, Publishing, PublishTold}
 use Rattle.lerc_theorems.specs.Calls.{WalkCall, FillCall}
 use Rattle.lerc_theorems.specs.Unread.{declared, SameDeclared, SameBelow, SameWithin, Unread}
-use Rattle.lerc_theorems.proofs.SameAnswers.{header-same, open-same, mask-same, walk_same, fill-same, end_same, read_same}
 use Rattle.lerc_theorems.proofs.Determined.{staged-same, published-same}
 use Rattle.lerc_theorems.proofs.Calls.{header-call, prepare-call, ranges-call, walk_call, fill-call, each-call, tiles-call, read-call}
 use Rattle.lerc_theorems.proofs.Bodies.{swept-in, block_in, chain-in}
@@ -57,6 +47,7 @@ use Rattle.lerc_theorems.proofs.Front.{section-same, at-agrees, chain-agrees, sw
 use Rattle.lerc_theorems.proofs.Meanings.{held_any, part_same, header-alike, header-other, cut, agree}
 use Rattle.lerc_theorems.proofs.Refusals.{masked-is}
 use Rattle.lerc_theorems.proofs.Fills.{Walking, walk_is, walking-says}
+use Rattle.lerc.specs.declared.Staged.{Staged}
 
 -- ---- a blob with its header
 
@@ -93,18 +84,18 @@ module _ (b c : List ℕ) (same : SameDeclared b c) where
         go (fail r) e = refl
 
     -- staging and publishing the one blob is staging and publishing the other
-    stage-as : {r : StageAnswer} {spare list : List ℕ} → StageRead c reuse r l spare list → StageRead b reuse r l spare list
+    stage-as : {r : Res Staged} {spare list : List ℕ} → StageRead c reuse r l spare list → StageRead b reuse r l spare list
     stage-as p = record {
       says = p.says ∙ ap (λ (x : Res Meaning). x >>= λ m. ok (staged_of m)) (sym read_as);
       spare = p.spare ∙ ap (λ (x : Res Masked). staged_spare x l.spare) (sym masked-as);
       list = p.list ∙ ap (λ (x : Res Meaning). staged_list x l.list) (sym read_as);
     }
 
-    publish-says-as : (a : StageAnswer) → publish_says c reuse a l ≡ publish_says b reuse a l
+    publish-says-as : (a : Res Staged) → publish_says c reuse a l ≡ publish_says b reuse a l
     unfolding publish_says
     publish-says-as a = rw (read_as)
 
-    publish-as : {a : StageAnswer} {r : PublishAnswer} {kept image : List ℕ} → Publishing c reuse a r l kept image → Publishing b reuse a r l kept image
+    publish-as : {a : Res Staged} {r : Res PublishTold} {kept image : List ℕ} → Publishing c reuse a r l kept image → Publishing b reuse a r l kept image
     publish-as {a} p = record {
       says = p.says ∙ ap (λ (x : Res Meaning). x >>= λ m. ok (body_told m.header m.body)) (publish-says-as a);
       kept = p.kept ∙ ap (λ (x : Res Meaning). after x l.kept (λ m. (published m l).kept)) (publish-says-as a);
@@ -271,14 +262,14 @@ module _ (b c : List ℕ) (h : Header) (r : Ranges) (m : List ℕ) (entries : �
         blocks = chain-agrees a h r.max m (block_count (shape_of h)) 0 w.from k inside.0 (omega arith) w.blocks;
       })
 
-walk-own : (b c : List ℕ) (h : Header) (r : Ranges) (m : List ℕ) (n end : ℕ) (told : WalkAnswer) (old new other : List ℕ) → h.size ≤ length c → SameWithin r.at end b c
-    → WalkCall b h r m (walk-answer.Walked n end) old new → WalkCall c h r m told old other → (told ≡ walk-answer.Walked n end) × (other ≡ new)
+walk-own : (b c : List ℕ) (h : Header) (r : Ranges) (m : List ℕ) (n end : ℕ) (told : Res Walk) (old new other : List ℕ) → h.size ≤ length c → SameWithin r.at end b c
+    → WalkCall b h r m (ok (record { blocks = n; end = end })) old new → WalkCall c h r m told old other → (told ≡ ok (record { blocks = n; end = end })) × (other ≡ new)
 unfolding walk_list
 walk-own b c h r m n end told old new other long same p q =
     let (k, e, d) = bind-counts (walk_says b h r m (length old)) _ (sym (walk_call p).says) in
     let z : end ≡ k.end = ap (λ (x : Walk). x.end) d in
     let f : walk_says c h r m (length old) ≡ ok k = walk-other b c h r m (length old) k (walk_is b h r m (length old) k e) long (rw (z) at same) in (
-      walk_same told (walk-answer.Walked n end) ((walk_call q).says ∙ ap (λ (x : Res Chain). x >>= walk_count h) (f ∙ sym e) ∙ sym (walk_call p).says),
+      ((walk_call q).says ∙ ap (λ (x : Res Chain). x >>= walk_count h) (f ∙ sym e) ∙ sym (walk_call p).says),
       (walk_call q).list ∙ ap (λ (x : Res Chain). after x old (λ y. over y.starts old)) (f ∙ sym e) ∙ sym (walk_call p).list,
     )
 
@@ -296,14 +287,14 @@ module _ (b c : List ℕ) (h : Header) (r : Ranges) (m list : List ℕ) (n room 
       let f : block_at (take h.size c) h r.max m n (get_or list n 0) ≡ ok k = at-agrees a h r.max m n (get_or list n 0) k (omega arith) (omega arith) is in
       rw (held-c b c h long held-b, f) (rw (held-b, is) at e)
 
-pub fill-own : (b c : List ℕ) (h : Header) (r : Ranges) (m list : List ℕ) (n words : ℕ) (told : FillAnswer) (old new other : List ℕ) (k : Block)
+pub fill-own : (b c : List ℕ) (h : Header) (r : Ranges) (m list : List ℕ) (n words : ℕ) (told : Res ℕ) (old new other : List ℕ) (k : Block)
     → block_at (take h.size b) h r.max m n (get_or list n 0) ≡ ok k → h.size ≤ length c → SameWithin (get_or list n 0) k.next b c
-    → FillCall b h r m list n (fill-answer.Filled words) old new → FillCall c h r m list n told old other → (told ≡ fill-answer.Filled words) × (other ≡ new)
+    → FillCall b h r m list n (ok words) old new → FillCall c h r m list n told old other → (told ≡ ok words) × (other ≡ new)
 unfolding fill_image
 fill-own b c h r m list n words told old new other k is long same p q =
     let (x, e, _) = bind-counts (fill_says b h r m list n (length old)) _ (sym (fill-call p).says) in
     let f : fill_says c h r m list n (length old) ≡ ok x = fill-other b c h r m list n (length old) k x is long same e in (
-      fill-same told (fill-answer.Filled words) ((fill-call q).says ∙ ap (λ (y : Res Block). y >>= fill_count h m n) (f ∙ sym e) ∙ sym (fill-call p).says),
+      ((fill-call q).says ∙ ap (λ (y : Res Block). y >>= fill_count h m n) (f ∙ sym e) ∙ sym (fill-call p).says),
       (fill-call q).image ∙ ap (λ (y : Res Block). after y old (λ u. scattered (shape_of h) m n u.words old)) (f ∙ sym e) ∙ sym (fill-call p).image,
     )
 
@@ -320,19 +311,19 @@ module _ (b c : List ℕ) (h : Header) (mode : ℕ) (long : h.size ≤ length c)
       let in_size : x.end ≤ h.size = omega (arith, (image-bounds (take h.size b) h mode e).1, all) in
       rw (held-c b c h long kept) (image-front (take h.size b) (take h.size c) h mode e (cut h.size b c in_size same) (rw (length-take-le h.size c long) in_size))
 
-  image-own : (end : ℕ) (told : EndAnswer) → SameWithin (mode + 1) end b c → ok end ≡ ended (checked_image b h mode) → end_said told ≡ ended (checked_image c h mode) → told ≡ end-answer.End end
+  image-own : (end : ℕ) (told : Res ℕ) → SameWithin (mode + 1) end b c → ok end ≡ ended (checked_image b h mode) → told ≡ ended (checked_image c h mode) → told ≡ ok end
   image-own end told same p q =
       let (x, e, z) = bind-counts (checked_image b h mode) _ (sym p) in
       let i : x.end ≡ end = sym z in
-      end_same told (end-answer.End end) (q ∙ ap ended (image-other x (rw (i) same) e) ∙ ap ok i)
+      (q ∙ ap ended (image-other x (rw (i) same) e) ∙ ap ok i)
 
 -- ---- each operation
 
 pub unread : Unread
 unread = record {
-  header = λ b c said told s p q. header-same said told (header-call p ∙ header-as b c s ∙ sym (header-call q));
+  header = λ b c said told s p q. (header-call p ∙ header-as b c s ∙ sym (header-call q));
   read = λ b c reuse said told old new other s p q. (
-    read_same said told ((read-call p).says ∙ ap (λ (x : Res Meaning). x >>= read_count) (read_as b c s reuse old) ∙ sym (read-call q).says),
+    ((read-call p).says ∙ ap (λ (x : Res Meaning). x >>= read_count) (read_as b c s reuse old) ∙ sym (read-call q).says),
     (read-call p).lent ∙ rw (read_as b c s reuse old, masked-as b c s reuse old) (sym (read-call q).lent),
   );
   stage = λ k a c r q x y e s p t.
@@ -340,21 +331,21 @@ unread = record {
       StageRead c.0.now z.0 q (record { kept = z.1.0.now; spare = z.1.1.0.now; list = z.1.1.1.0.now; image = z.1.1.1.1.0.now }) y.1.1.1.0.now y.1.1.1.1.0.now) (sym e) t in
       staged-same p (stage-as a.0.now c.0.now s _ _ t');
   publish = λ k a c r q x y e s p t.
-      let t' = subst (λ (z : Bool × (StageAnswer × (MutBor (List ℕ) × (Bor (List ℕ) × (Bor (List ℕ) × (MutBor (List ℕ) × Unit {0})))))).
+      let t' = subst (λ (z : Bool × (Res Staged × (MutBor (List ℕ) × (Bor (List ℕ) × (Bor (List ℕ) × (MutBor (List ℕ) × Unit {0})))))).
       Publishing c.0.now z.0 z.1.0 q (record { kept = z.1.1.0.now; spare = z.1.1.1.0.now; list = z.1.1.1.1.0.now; image = z.1.1.1.1.1.0.now }) y.1.1.1.0.now y.1.1.1.1.1.1.0.now) (sym e) t in
       published-same p (publish-as a.0.now c.0.now s _ _ t');
   prepare = λ b c h reuse kept said told old new other s p q.
       let e = prepare-as b c h s reuse kept (length old) in (
-        mask-same said told ((prepare-call p).says ∙ ap (λ (x : Res MaskInForce). x >>= which) e ∙ sym (prepare-call q).says),
+        ((prepare-call p).says ∙ ap (λ (x : Res MaskInForce). x >>= which) e ∙ sym (prepare-call q).says),
         (prepare-call p).spare ∙ ap (λ (x : Res MaskInForce). after x old (λ f. spare_with f old)) e ∙ sym (prepare-call q).spare,
       );
-  ranges = λ b c h said told s p q. ranges-call p ∙ ap ranges_said (ranges-as b c h s) ∙ sym (ranges-call q);
+  ranges = λ b c h said told s p q. ranges-call p ∙ (ranges-as b c h s) ∙ sym (ranges-call q);
   walk = λ b c h r m said told old new other s p q. (
-    walk_same said told ((walk_call p).says ∙ ap (λ (x : Res Chain). x >>= walk_count h) (walk-as b c h s r m (length old)) ∙ sym (walk_call q).says),
+    ((walk_call p).says ∙ ap (λ (x : Res Chain). x >>= walk_count h) (walk-as b c h s r m (length old)) ∙ sym (walk_call q).says),
     (walk_call p).list ∙ list-as b c h s r m old ∙ sym (walk_call q).list,
   );
   fill = λ b c h r m list n said told old new other s p q. (
-    fill-same said told ((fill-call p).says ∙ ap (λ (x : Res Block). x >>= fill_count h m n) (fill-as b c h s r m list n (length old)) ∙ sym (fill-call q).says),
+    ((fill-call p).says ∙ ap (λ (x : Res Block). x >>= fill_count h m n) (fill-as b c h s r m list n (length old)) ∙ sym (fill-call q).says),
     (fill-call p).image ∙ image-as b c h s r m list n old ∙ sym (fill-call q).image,
   );
   fill-each = λ b c h r m list ns said told old new other s p q. (
@@ -363,13 +354,13 @@ unread = record {
   );
   tiles = λ b c h m maxima at said told list new-list other-list image new-image other-image s p q.
       let e = tiles-as b c h s m maxima at (length list) (length image) in (
-        walk_same said told ((tiles-call p).says ∙ ap (λ (x : Res Chain). x >>= walk_count h) e ∙ sym (tiles-call q).says),
+        ((tiles-call p).says ∙ ap (λ (x : Res Chain). x >>= walk_count h) e ∙ sym (tiles-call q).says),
         (tiles-call p).list ∙ ap (λ (x : Res Chain). after x list (λ y. over y.starts list)) e ∙ sym (tiles-call q).list,
         (tiles-call p).image ∙ ap (λ (x : Res Chain). after x image (tiles_image h m image)) e ∙ sym (tiles-call q).image,
       );
-  open-blob = λ k a c r q x y s p t. open-same r q (p ∙ open-as a.0.now c.0.now s ∙ sym t);
+  open-blob = λ k a c r q x y s p t. (p ∙ open-as a.0.now c.0.now s ∙ sym t);
   check-tiles = λ k a c r q x y e s p t. (
-    walk_same r q (
+    (
         p
         ∙ ap (walk_of a.1.0) (checked-as a.0.now c.0.now a.1.0 s a.1.1.0.now a.1.1.1.0.now a.1.1.1.1.0)
         ∙ ap (λ (z : Header × (Bor (List ℕ) × (Bor (List ℕ) × (ℕ × Unit {0})))). walk_of z.0 (checked_tiles c.0.now z.0 z.1.0.now z.1.1.0.now z.1.1.1.0)) e
@@ -378,7 +369,7 @@ unread = record {
     refl,
   );
   check-own-tiles = λ k a c r q x y e s p t. (
-    walk_same r q (
+    (
         p
         ∙ ap (walk_of a.1.0) (own-as a.0.now c.0.now a.1.0 s a.1.1.0.now a.1.1.1.0)
         ∙ ap (λ (z : Header × (Bor (List ℕ) × (ℕ × Unit {0}))). walk_of z.0 (own_tiles c.0.now z.0 z.1.0.now z.1.1.0)) e
@@ -422,7 +413,7 @@ unread = record {
         ∙ sym t.1,
   );
   check-huffman = λ k a c r q x y e s p t. (
-    end_same r q (
+    (
         p
         ∙ ap ended (checked-image-as a.0.now c.0.now a.1.0 s a.1.1.0)
         ∙ ap (λ (z : Header × (ℕ × Unit {0})). ended (checked_image c.0.now z.0 z.1.0)) e
@@ -440,13 +431,13 @@ unread = record {
   huffman-own = λ k a c end told x y e l s p t.
       image-own a.0.now c.0.now a.1.0 a.1.1.0 l end told s p
       (t ∙ ap (λ (z : Header × (ℕ × Unit {0})). ended (checked_image c.0.now z.0 z.1.0)) (sym e));
-  header-own = λ b c h told l x s t p q. header-same told (header-answer.Read h) (header-call q ∙ header-other b c s t h l x (sym (header-call p)));
+  header-own = λ b c h told l x s t p q. (header-call q ∙ header-other b c s t h l x (sym (header-call p)));
   prepare-own = λ b c h reuse kept said told old new other l m s p q.
       let e = prepare-other b c h l m s reuse kept (length old) in (
-        mask-same said told ((prepare-call p).says ∙ ap (λ (x : Res MaskInForce). x >>= which) e ∙ sym (prepare-call q).says),
+        ((prepare-call p).says ∙ ap (λ (x : Res MaskInForce). x >>= which) e ∙ sym (prepare-call q).says),
         (prepare-call p).spare ∙ ap (λ (x : Res MaskInForce). after x old (λ f. spare_with f old)) e ∙ sym (prepare-call q).spare,
       );
-  ranges-own = λ b c h said told l m s p q. ranges-call p ∙ ap ranges_said (ranges-other b c h l m s) ∙ sym (ranges-call q);
+  ranges-own = λ b c h said told l m s p q. ranges-call p ∙ (ranges-other b c h l m s) ∙ sym (ranges-call q);
   walk-own = walk-own;
   fill-own = fill-own;
 }

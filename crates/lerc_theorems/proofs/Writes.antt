@@ -15,7 +15,6 @@ use Rattle.lerc_words.specs.Res.{Res, ok, fail, marked, require, after}
 use Rattle.lerc_words.specs.Lists.{over}
 use Rattle.lerc_words.proofs.Binding.{bind_is, require-is, and_is, ok-is, cond-elim}
 use Rattle.lerc_words.proofs.Marking.{marked-is}
-use Rattle.lerc_bits.specs.declared.CountsAnswer.TheVariants as counts
 use Rattle.lerc_bits.specs.Bits.{Counts, Span, CountsDecoded}
 use Rattle.lerc_header.specs.declared.Header.{Header}
 use Rattle.lerc_header.specs.Header.{shape_of, ranges_at, extent_of, held}
@@ -24,27 +23,23 @@ use Rattle.lerc_header.proofs.Kept.{held-is}
 use Rattle.lerc_mask.specs.Mask.{mask_bytes, coded, decoded}
 use Rattle.lerc_mask.proofs.Runs.{coded-length}
 use Rattle.lerc_ranges.specs.declared.Ranges.{Ranges}
-use Rattle.lerc_validity.specs.declared.MaskAnswer.{MaskAnswer}
-use Rattle.lerc_validity.specs.Validity.{MaskInForce, reused, new, bytes_of, find_says, prepare_says, spare_with, Prepared}
+use Rattle.lerc_validity.specs.Validity.{MaskInForce, reused, new, bytes_of, find_says, prepare_says, spare_with, Prepared, MaskTold}
 use Rattle.lerc_validity.proofs.Prepared.{prepare-found, mask-length, mask-right}
-use Rattle.lerc_block.specs.declared.BlockAnswer.TheVariants as block
 use Rattle.lerc_block.specs.Block.{Block, tile_limit, read_block_says, BlockRead}
 use Rattle.lerc_block.proofs.Accepted.{block_words}
 use Rattle.lerc_image.specs.Paint.{painted, in_block, word_of, scattered}
 use Rattle.lerc_image.proofs.Painting.{length-painted, painted-cell}
 use Rattle.lerc_ranges.specs.Ranges.{ranges_says}
-use Rattle.lerc_image.specs.declared.WalkAnswer.{WalkAnswer}
 use Rattle.lerc_image.specs.Geometry.{is_valid_cell}
 use Rattle.lerc_sweep.specs.Sweep.{Way, raw_from, blocks_from, huffman_from, swept}
 use Rattle.lerc_image.specs.Blocks.{block_at, Chain, chain}
-use Rattle.lerc_image.specs.Walk.{walk_says, walk_list, BlocksWalked}
+use Rattle.lerc_image.specs.Walk.{walk_says, walk_list, BlocksWalked, Walk}
 use Rattle.lerc_image.specs.Fill.{fill_says, fill_image}
 use Rattle.lerc_image.specs.Tiles.{block_end, head_starts, room_to_list, listed_tiles, is_listed, listed_image, room_to_fill, filled_tiles, starts_from, image_from, written_list, written_image, tiles_says, Tiled}
 use Rattle.lerc_image.proofs.Chain.{chain-lengths}
 use Rattle.lerc_byte_image.specs.Prediction.{byte_word}
 use Rattle.lerc_byte_image.specs.Image.{symbol_no, write_table, by_table, written_image as written_bytes}
 use Rattle.lerc_fills.specs.Each.{fill_each}
-use Rattle.lerc.specs.declared.ReadAnswer.TheVariants as read
 use Rattle.lerc.specs.Meaning.{Meaning, Body, starts_of, body_from, block_body, swept_body, body_says, meaning_from}
 use Rattle.lerc.specs.Read.{Lent, room, Masked, masked, read_says, published, read_after, ReadTold, read_count, WholeRead}
 use Rattle.lerc.proofs.Endings.{constant-starts, raw-starts, huffman-starts}
@@ -116,7 +111,7 @@ but-after (ok a) which word {old} d = rw (d) (but-painted old which (word a))
 
 -- ---- packed counts
 
-decode-rest : (m : Res Counts) {n next : ℕ} {old x : List ℕ} → CountsDecoded m (counts.Counts n next) old x → (i : ℕ) → n ≤ i → get_or x i 0 ≡ get_or old i 0
+decode-rest : (m : Res Counts) {n next : ℕ} {old x : List ℕ} → CountsDecoded m (ok (record { n = n; next = next })) old x → (i : ℕ) → n ≤ i → get_or x i 0 ≡ get_or old i 0
 decode-rest (fail r) d i l = absurd (let e = d.says in let z : ◌≡◌ {A = ℕ} 0 1 = cc in omega arith)
 decode-rest (ok c) {n} d i l =
     let e = d.says in
@@ -125,7 +120,7 @@ decode-rest (ok c) {n} d i l =
 
 -- ---- one block
 
-read-rest : (s : List ℕ) (at kind error top x n : ℕ) {next : ℕ} {old y : List ℕ} → BlockRead (marked at (read_block_says s at kind error top x n)) (block.Block next) old y
+read-rest : (s : List ℕ) (at kind error top x n : ℕ) {next : ℕ} {old y : List ℕ} → BlockRead (marked at (read_block_says s at kind error top x n)) (ok next) old y
     → (i : ℕ) → n ≤ i → get_or y i 0 ≡ get_or old i 0
 unfolding read_block_says
 read-rest s at kind error top x n d i l =
@@ -147,14 +142,14 @@ spare-alike : (n : ℕ) (f : MaskInForce) (spare : List ℕ) → length (bytes_o
 spare-alike n (reused m) spare l k = alike_same n refl
 spare-alike n (new m) spare l k = rw (← l) (alike-over m spare (rw (l) k))
 
-prepare-writes : (b : List ℕ) (h : Header) (reuse : Bool) (kept : List ℕ) {r : MaskAnswer} {old x : List ℕ} → Prepared (prepare_says b h reuse kept (length old)) r old x → AlikeFrom (mask_length (shape_of h)) old x
+prepare-writes : (b : List ℕ) (h : Header) (reuse : Bool) (kept : List ℕ) {r : Res MaskTold} {old x : List ℕ} → Prepared (prepare_says b h reuse kept (length old)) r old x → AlikeFrom (mask_length (shape_of h)) old x
 prepare-writes b h reuse kept {r} {old} {x} p = go (prepare_says b h reuse kept (length old)) refl p.spare
   where
     go : (m : Res MaskInForce) → prepare_says b h reuse kept (length old) ≡ m → x ≡ after m old (λ f. spare_with f old) → AlikeFrom (mask_length (shape_of h)) old x
     go (fail q) e d = alike_same (mask_length (shape_of h)) d
     go (ok f) e d = rw (d) (spare-alike (mask_length (shape_of h)) f old (mask-length b h reuse kept (length old) f e) (prepare-found b h reuse kept (length old) f e).there)
 
-find-writes : (s : List ℕ) (h : Header) (reuse : Bool) (kept : List ℕ) {r : MaskAnswer} {old x : List ℕ} → Prepared (find_says s h reuse kept (length old)) r old x → AlikeFrom (mask_length (shape_of h)) old x
+find-writes : (s : List ℕ) (h : Header) (reuse : Bool) (kept : List ℕ) {r : Res MaskTold} {old x : List ℕ} → Prepared (find_says s h reuse kept (length old)) r old x → AlikeFrom (mask_length (shape_of h)) old x
 unfolding find_says
 find-writes s h reuse kept {r} {old} {x} p = go (find_says s h reuse kept (length old)) refl p.spare
   where
@@ -175,7 +170,7 @@ module _ (b : List ℕ) (h : Header) where
       let w = walk_is b h g m room c e in
       ((chain-lengths (take h.size b) h g.max m (block_count (shape_of h)) 0 w.from c w.blocks).0, w.list)
 
-  walk-writes : (g : Ranges) (m : List ℕ) {r : WalkAnswer} {old x : List ℕ} → BlocksWalked b h g m r old x → AlikeFrom (block_count (shape_of h)) old x
+  walk-writes : (g : Ranges) (m : List ℕ) {r : Res Walk} {old x : List ℕ} → BlocksWalked b h g m r old x → AlikeFrom (block_count (shape_of h)) old x
   unfolding walk_list
   walk-writes g m {old = old} p = alike-after (block_count (shape_of h)) (walk_says b h g m (length old)) (λ c. c.starts) (walk-starts g m (length old)) p.list
 
@@ -283,7 +278,7 @@ module _ (b : List ℕ) (h : Header) where
       let (_, l) = and_is (leb x.mask (length m)) (leb x.blocks entries) p in
       ((chain-lengths (take h.size b) h maxima m (block_count (shape_of h)) 0 at c e).0, rw (i) at (leb-true x.blocks entries l))
 
-  tiles-write : (m maxima : List ℕ) (at : ℕ) {r : WalkAnswer} {list l image x : List ℕ} → Tiled (tiles_says b h m maxima at (length list) (length image)) h m r list l image x
+  tiles-write : (m maxima : List ℕ) (at : ℕ) {r : Res Walk} {list l image x : List ℕ} → Tiled (tiles_says b h m maxima at (length list) (length image)) h m r list l image x
       → AlikeFrom (block_count (shape_of h)) list l × AlikeBut (is_valid_cell (shape_of h) m) image x
   tiles-write m maxima at {list = list} {image = image} p =
       let t = tiles_says b h m maxima at (length list) (length image) in (
@@ -362,7 +357,7 @@ module _ (b : List ℕ) (reuse : Bool) (l : Lent) (x : Lent) where
         image = but-painted l.image (is_valid_cell (shape_of h) (bytes_of k.mask)) _;
       })
 
-  pub whole-writes : (h : Header) (n end : ℕ) → WholeRead b reuse (read.Whole h n end) l x → WholeWrites b reuse n l x
+  pub whole-writes : (h : Header) (n end : ℕ) → WholeRead b reuse (ok (record { header = h; blocks = n; end = end })) l x → WholeWrites b reuse n l x
   unfolding read_says meaning_from
   whole-writes h n end w =
       let (m, e, c) = bind_is (read_says b reuse l) read_count (sym w.says) in

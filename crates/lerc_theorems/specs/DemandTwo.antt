@@ -2,43 +2,34 @@
 -- Assumes nothing.
 use Rattle.std.specs.Prelude.{ℕ, ◌+◌, ◌≤◌, ◌<◌, ◌≡◌, ◌↔◌, Bool, true, false, List, [], length, get_or, take}
 use Rattle.lerc_words.specs.declared.Refusal.{Refusal}
-use Rattle.lerc_words.specs.Res.{ok, fail, refuse, accepts}
+use Rattle.lerc_words.specs.Res.{ok, fail, refuse, accepts, Res}
 use Rattle.lerc_words.specs.Lists.{over, tabulate}
 use Rattle.lerc_numeric.specs.Numeric.{same}
 use Rattle.lerc_samples.specs.Samples.{stored}
 use Rattle.lerc_header.specs.declared.Header.{Header}
-use Rattle.lerc_header.specs.declared.HeaderAnswer.{HeaderAnswer}
-use Rattle.lerc_header.specs.declared.HeaderAnswer.TheVariants as header-answer
 use Rattle.lerc_header.specs.Shape.{pixels, cells, mask_length, block_count}
 use Rattle.lerc_header.specs.Header.{shape_of, header_bytes, header_of, checksum_right, header_says}
 use Rattle.lerc_mask.specs.Mask.{valid_below}
 use Rattle.lerc_ranges.specs.declared.Ranges.{Ranges}
-use Rattle.lerc_ranges.specs.declared.RangesRead.{RangesRead}
-use Rattle.lerc_ranges.specs.declared.RangesAnswer.TheVariants as ranges-answer
-use Rattle.lerc_validity.specs.declared.MaskAnswer.{MaskAnswer}
-use Rattle.lerc_validity.specs.Validity.{MaskInForce, bytes_of, mask_says, spare_with}
-use Rattle.lerc_image.specs.declared.WalkAnswer.{WalkAnswer}
-use Rattle.lerc_image.specs.declared.WalkAnswer.TheVariants as walk-answer
-use Rattle.lerc_image.specs.declared.FillAnswer.{FillAnswer}
+use Rattle.lerc_validity.specs.Validity.{MaskInForce, bytes_of, mask_says, spare_with, MaskTold}
 use Rattle.lerc_image.specs.Geometry.{tile_size, tile_of, tile_here, cell_of, block_of, place_in, rank, is_valid_cell, position_of, next_of}
 use Rattle.lerc_image.specs.Blocks.{Chain}
-use Rattle.lerc.specs.declared.ReadAnswer.{ReadAnswer}
-use Rattle.lerc.specs.declared.ReadAnswer.TheVariants as read_answer
 use Rattle.lerc.specs.Meaning.{Meaning, blocks, end_of, starts_of, cell_word, meaning}
-use Rattle.lerc.specs.Read.{Lent, room, read_said}
+use Rattle.lerc.specs.Read.{Lent, room, ReadTold}
 use Rattle.lerc.proofs.read.Reads as read
 use Rattle.lerc_theorems.specs.Promises.{lent}
 use Rattle.lerc_theorems.specs.Calls.{HeaderCall, PrepareCall, HandedCall, RangesCall, ReadRanges, WalkCall, FillCalls, ReadCall}
 use Rattle.lerc_theorems.specs.Unread.{SameWithin, Unread}
+use Rattle.lerc_image.specs.Walk.{Walk}
 
 -- the slices have the room that an accepted header asks for
 abbrev pub Roomy : List ℕ → Lent → Type 0
 Roomy b l = (h : Header) → header_says b ≡ ok h → room h l ≡ true
 
 -- what a whole read of a blob with meaning m answers and leaves
-pub record Exact (m : Meaning) (r : ReadAnswer) (old new : Lent) : Type 0 where
+pub record Exact (m : Meaning) (r : Res ReadTold) (old new : Lent) : Type 0 where
   -- the header, the count of blocks, and the end
-  pub answer : read_said r ≡ ok (record { header = m.header; blocks = length (starts_of m.body); end = end_of m.body })
+  pub answer : r ≡ ok (record { header = m.header; blocks = length (starts_of m.body); end = end_of m.body })
   -- the mask in the kept mask's first bytes; what was made for it stands in the spare
   pub kept : new.kept ≡ over (bytes_of m.mask) old.kept
   pub spare : new.spare ≡ spare_with m.mask old.spare
@@ -53,12 +44,12 @@ pub record Exact (m : Meaning) (r : ReadAnswer) (old new : Lent) : Type 0 where
 -- Any calls of the operations one after the other, on the blob and the slices that a whole read was lent: each is accepted, the mask is the one in force, and in the end
 -- spare, list and image are as the whole read left them. `new` is what it left.
 pub record WalkAndFills (b : List ℕ) (reuse : Bool) (old new : Lent) (h : Header) (f : MaskInForce) (c : Chain) : Type 0 where
-  pub header : (said : HeaderAnswer) → HeaderCall b said → said ≡ header-answer.Read h
-  pub mask : (said : MaskAnswer) (spare m : List ℕ) → PrepareCall b h reuse old.kept said old.spare spare → HandedCall old.kept spare said m → (m ≡ bytes_of f) × (spare ≡ new.spare)
-  pub ranges : (said : RangesRead) → RangesCall b h said → said.answer ≡ ranges-answer.Read
-  pub walk : (r : Ranges) → ReadRanges b h r → (said : WalkAnswer) (list : List ℕ) → WalkCall b h r (bytes_of f) said old.list list
-      → (said ≡ walk-answer.Walked (block_count (shape_of h)) c.end) × (list ≡ new.list)
-  pub fills : (r : Ranges) → ReadRanges b h r → (answers : List FillAnswer) (image : List ℕ)
+  pub header : (said : Res Header) → HeaderCall b said → said ≡ ok h
+  pub mask : (said : Res MaskTold) (spare m : List ℕ) → PrepareCall b h reuse old.kept said old.spare spare → HandedCall old.kept spare said m → (m ≡ bytes_of f) × (spare ≡ new.spare)
+  pub ranges : (said : Res Ranges) → RangesCall b h said → accepts said ≡ true
+  pub walk : (r : Ranges) → ReadRanges b h r → (said : Res Walk) (list : List ℕ) → WalkCall b h r (bytes_of f) said old.list list
+      → (said ≡ ok (record { blocks = (block_count (shape_of h)); end = c.end })) × (list ≡ new.list)
+  pub fills : (r : Ranges) → ReadRanges b h r → (answers : List (Res ℕ)) (image : List ℕ)
       → FillCalls b h r (bytes_of f) new.list (tabulate (block_count (shape_of h)) (λ n. n)) answers old.image image → image ≡ new.image
 
 -- what accepted calls of read header, prepare mask, mask in force, read ranges and walk tell: a meaning in blocks. m is the mask handed back, n and end the walk's answer.
@@ -84,13 +75,13 @@ pub record Unstored (b : List ℕ) (reuse : Bool) (kept : List ℕ) : Type 0 whe
 
 pub record DemandTwo : Type 0 where
   -- given room, a whole read accepts exactly where the blob has a meaning
-  pub accepted-iff : (k : _) (a : _) (r : ReadAnswer) (x : _) → read.Post k a r x → Roomy a.0.now (lent a)
-      → accepts (read_said r) ≡ accepts (meaning a.0.now a.1.0 (lent a).kept)
+  pub accepted-iff : (k : _) (a : _) (r : Res ReadTold) (x : _) → read.Post k a r x → Roomy a.0.now (lent a)
+      → accepts r ≡ accepts (meaning a.0.now a.1.0 (lent a).kept)
   -- and it is refused with the number that the meaning is refused with, at its place
-  pub refused_as : (k : _) (a : _) (r : ReadAnswer) (x : _) → read.Post k a r x → Roomy a.0.now (lent a)
-      → (why : Refusal) → (r ≡ read_answer.Refused why) ↔ (meaning a.0.now a.1.0 (lent a).kept ≡ fail why)
+  pub refused_as : (k : _) (a : _) (r : Res ReadTold) (x : _) → read.Post k a r x → Roomy a.0.now (lent a)
+      → (why : Refusal) → (r ≡ fail why) ↔ (meaning a.0.now a.1.0 (lent a).kept ≡ fail why)
   -- mask, end and every valid cell are that meaning; all other cells keep their words
-  pub cells-exact : (k : _) (a : _) (r : ReadAnswer) (x : _) → read.Post k a r x → Roomy a.0.now (lent a)
+  pub cells-exact : (k : _) (a : _) (r : Res ReadTold) (x : _) → read.Post k a r x → Roomy a.0.now (lent a)
       → (m : Meaning) → meaning a.0.now a.1.0 (lent a).kept ≡ ok m → Exact m r (lent a) (lent x)
   -- the mask has its length, and as many valid pixels as the header says
   pub mask-right : (b : List ℕ) (reuse : Bool) (kept : List ℕ) (m : Meaning) → meaning b reuse kept ≡ ok m → mask_length (shape_of m.header) ≤ length kept
@@ -128,12 +119,12 @@ pub record DemandTwo : Type 0 where
       × ((m : List ℕ) (c : Chain) → cell_word h m (blocks c) (cell_of s n k) ≡ get_or (get_or c.words n []) (rank s m (tile_of s n) k) 0))
       × ((c : ℕ) → c < cells s → (block_of s c < block_count s) × (place_in s c < tile_size (tile_of s (block_of s c))) × (cell_of s (block_of s c) (place_in s c) ≡ c))
   -- a whole read of a body in blocks is a walk, and then the fill of each number
-  pub read-is-walk-and-fills : (b : List ℕ) (reuse : Bool) (r : ReadAnswer) (old new : Lent) (h : Header) (f : MaskInForce) (c : Chain) → ReadCall b reuse r old new → Roomy b old
+  pub read-is-walk-and-fills : (b : List ℕ) (reuse : Bool) (r : Res ReadTold) (old new : Lent) (h : Header) (f : MaskInForce) (c : Chain) → ReadCall b reuse r old new → Roomy b old
       → meaning b reuse old.kept ≡ ok (record { header = h; mask = f; body = blocks c }) → WalkAndFills b reuse old new h f c
   -- and a blob that is prepared, whose ranges are read and that is walked has the meaning that the walk found; the walk may be lent a longer mask
-  pub walk-is-read : (b : List ℕ) (reuse : Bool) (kept : List ℕ) (h : Header) (said : MaskAnswer) (spare prepared m q : List ℕ) (r : Ranges) (n end : ℕ) (old new : List ℕ)
-      → HeaderCall b (header-answer.Read h) → PrepareCall b h reuse kept said spare prepared → HandedCall kept prepared said m → ReadRanges b h r
-      → take (mask_length (shape_of h)) q ≡ m → WalkCall b h r q (walk-answer.Walked n end) old new → WalkMeans b reuse kept h m n end old new
+  pub walk-is-read : (b : List ℕ) (reuse : Bool) (kept : List ℕ) (h : Header) (said : Res MaskTold) (spare prepared m q : List ℕ) (r : Ranges) (n end : ℕ) (old new : List ℕ)
+      → HeaderCall b (ok h) → PrepareCall b h reuse kept said spare prepared → HandedCall kept prepared said m → ReadRanges b h r
+      → take (mask_length (shape_of h)) q ≡ m → WalkCall b h r q (ok (record { blocks = n; end = end })) old new → WalkMeans b reuse kept h m n end old new
   -- in a whole read 9 comes from a constant body alone: a block's values are clamped to a maximum that was read in the blob's own kind, and so always fit, and a Huffman image has bytes alone
   pub nine-only-constant : (b : List ℕ) (reuse : Bool) (kept : List ℕ) (why : Refusal) → meaning b reuse kept ≡ fail why → why.number ≡ 9 → Unstored b reuse kept
   -- and such a body is refused 9, at place 0

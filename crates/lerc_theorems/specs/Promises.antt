@@ -4,23 +4,32 @@
 use Rattle.std.specs.Prelude.{◌≡◌, Bool, List, [], ℕ, length, take}
 use Rattle.std.specs.Borrow.{Bor, MutBor}
 use Rattle.lerc_words.specs.declared.Refusal.{Refusal}
-use Rattle.lerc_words.specs.Res.{ok}
+use Rattle.lerc_words.specs.Res.{ok, fail}
 use Rattle.lerc_header.specs.Header.{shape_of}
 use Rattle.lerc_header.specs.Shape.{mask_length}
 use Rattle.lerc_validity.specs.Validity.{reused, new, prepare_says, first_of}
 use Rattle.lerc_words.proofs.Refusal.at.Reads as refusal-at
-use Rattle.lerc_words.proofs.WordAnswer.refusal.Reads as word-refusal
+use Rattle.lerc_words.proofs.Refusal.of.Reads as refusal-of
+use Rattle.lerc_words.proofs.marked.Reads as marked
 use Rattle.lerc_words.proofs.peek.Reads as peek
 use Rattle.lerc_words.proofs.bytes.Reads as bytes
 use Rattle.lerc_words.proofs.word.Reads as word
 use Rattle.lerc_words.proofs.words.Reads as words
-use Rattle.lerc_slices.proofs.copy_bytes.Reads as copy-bytes
-use Rattle.lerc_slices.proofs.copy_words.Reads as copy-words
-use Rattle.lerc_slices.proofs.fill_bytes.Reads as fill-bytes
-use Rattle.lerc_slices.proofs.fill_words.Reads as fill-words
+use mathlib.Core.Path.{refl}
+use denote.RattleType.{RattleType}
+use denote.Exit.{no}
+use denote.Param.{arg}
+use denote.Param.Laws.{Laws, IsCopy, arg_laws, of_field, arg_copy, of_copyable}
+use denote.Param.Shared.{copy_shared}
+use denote.Struct.Field.{u8-field, u64-field}
+use denote.Struct.Laws.{u8-laws as u8-of-field, u8-copy as u8-field-copy, u64-laws as u64-of-field, u64-copy as u64-field-copy}
+use mir.Syntax.{ty_int, w8, w64}
+use Rattle.std.specs.contracts.prelude.U8Clone.TheImpl as u8-clone
+use Rattle.std.specs.contracts.prelude.U64Clone.TheImpl as u64-clone
+use Rattle.lerc_slices.proofs.copy.Reads as copy-entries
+use Rattle.lerc_slices.proofs.fill.Reads as fill-entries
 use Rattle.lerc_slices.proofs.begins_with.Reads as begins-with
 use Rattle.lerc_slices.proofs.all_bytes.Reads as all-bytes
-use Rattle.lerc_numeric.proofs.IntegerAnswer.refusal.Reads as integer-refusal
 use Rattle.lerc_numeric.proofs.plus.Reads as plus
 use Rattle.lerc_numeric.proofs.scale.Reads as scale
 use Rattle.lerc_numeric.proofs.is_finite.Reads as is_finite
@@ -37,27 +46,18 @@ use Rattle.lerc_numeric.proofs.raised.Reads as raised
 use Rattle.lerc_numeric.proofs.steps.Reads as steps
 use Rattle.lerc_numeric.proofs.single_steps.Reads as single-steps
 use Rattle.lerc_numeric.proofs.float_ready.Reads as float-ready
-use Rattle.lerc_samples.proofs.OffsetAnswer.refusal.Reads as offset-refusal
-use Rattle.lerc_samples.proofs.SampleAnswer.refusal.Reads as sample-refusal
-use Rattle.lerc_samples.proofs.StoredAnswer.refusal.Reads as stored-refusal
 use Rattle.lerc_samples.proofs.offset_kind.Reads as offset-kind
 use Rattle.lerc_samples.proofs.read.Reads as read-sample
 use Rattle.lerc_samples.proofs.stored.Reads as stored
-use Rattle.lerc_bits.proofs.PlanAnswer.refusal.Reads as plan-refusal
-use Rattle.lerc_bits.proofs.CountsAnswer.refusal.Reads as counts-refusal
 use Rattle.lerc_bits.proofs.inspect.Reads as inspect
 use Rattle.lerc_bits.proofs.decode.Reads as decode-counts
 use Rattle.lerc_bits.proofs.decode_plan.Reads as decode-plan
 use Rattle.lerc_bits.proofs.check_plan.Reads as check-plan
 use Rattle.lerc_bits.proofs.check.Reads as check-counts
-use Rattle.lerc_header.proofs.HeaderAnswer.refusal.Reads as header-refusal
-use Rattle.lerc_header.proofs.HeldAnswer.refusal.Reads as held-refusal
 use Rattle.lerc_header.proofs.pair_right.Reads as pair-right
 use Rattle.lerc_header.proofs.Header.held.Reads as held
-use Rattle.lerc_header.proofs.OpenAnswer.refusal.Reads as open-refusal
 use Rattle.lerc_header.proofs.open_blob.Reads as open-blob
 use Rattle.lerc_header.proofs.read_header.Reads as read-header
-use Rattle.lerc_mask.proofs.RunsAnswer.refusal.Reads as runs-refusal
 use Rattle.lerc_mask.proofs.is_valid.Reads as is-valid
 use Rattle.lerc_checksum.proofs.checksum.Reads as checksum
 use Rattle.lerc_mask.proofs.count.Reads as count-valid
@@ -66,29 +66,19 @@ use Rattle.lerc_mask.proofs.ones_word.Reads as ones-word
 use Rattle.lerc_mask.proofs.decode.Reads as decode-mask
 use Rattle.lerc_mask.proofs.compare.Reads as compare-runs
 use Rattle.lerc_mask.proofs.byte_from.Reads as byte-from
-use Rattle.lerc_validity.proofs.MaskAnswer.refusal.Reads as mask-refusal
-use Rattle.lerc_ranges.proofs.RangesAnswer.refusal.Reads as ranges-refusal
-use Rattle.lerc_ranges.proofs.PairsAnswer.refusal.Reads as pairs-refusal
-use Rattle.lerc_ranges.proofs.ConstantsAnswer.refusal.Reads as constants-refusal
 use Rattle.lerc_validity.proofs.prepare_mask.Reads as prepare-mask
 use Rattle.lerc_validity.proofs.find_mask.Reads as find-mask
 use Rattle.lerc_validity.proofs.compare_mask.Reads as compare-mask
-use Rattle.lerc_validity.specs.declared.MaskAnswer.TheVariants as mask
 use Rattle.lerc_validity.proofs.mask_in_force.Reads as mask-in-force
 use Rattle.lerc_ranges.proofs.pairs.Reads as pairs
 use Rattle.lerc_ranges.proofs.ranges_in.Reads as ranges_in
 use Rattle.lerc_ranges.proofs.read_ranges.Reads as read-ranges
 use Rattle.lerc_ranges.proofs.convert.Reads as convert
-use Rattle.lerc_block.proofs.BlockAnswer.refusal.Reads as block-refusal
-use Rattle.lerc_block.proofs.plan.BlockPlanAnswer.refusal.Reads as block-plan-refusal
-use Rattle.lerc_block.proofs.plan.BlockPlanAnswer.end.Reads as block-plan-end
+use Rattle.lerc_block.proofs.plan_end.Reads as block-plan-end
 use Rattle.lerc_block.proofs.inspect_block.Reads as inspect-block
 use Rattle.lerc_block.proofs.block_end.Reads as block-end
 use Rattle.lerc_block.proofs.read_block.Reads as read-block
 use Rattle.lerc_block.proofs.check_block.Reads as check-block
-use Rattle.lerc_image.proofs.WalkAnswer.refusal.Reads as walk-refusal
-use Rattle.lerc_image.proofs.FillAnswer.refusal.Reads as fill-refusal
-use Rattle.lerc_sweep.proofs.WayAnswer.refusal.Reads as way-refusal
 use Rattle.lerc_sweep.proofs.read_sweep.Reads as read-sweep
 use Rattle.lerc_image.proofs.walk.Reads as walk
 use Rattle.lerc_image.proofs.fill.Reads as fill
@@ -97,16 +87,13 @@ use Rattle.lerc_image.proofs.check_own_tiles.Reads as check-own-tiles
 use Rattle.lerc_image.proofs.list_tiles.Reads as list-tiles
 use Rattle.lerc_image.proofs.are_listed.Reads as are-listed
 use Rattle.lerc_image.proofs.fill_tiles.Reads as fill-tiles
+use Rattle.lerc_validity.specs.declared.Mask.TheVariants as mask
 use Rattle.lerc_image.proofs.write_tiles.Reads as write-tiles
 use Rattle.lerc_image.proofs.decode_tiles.Reads as decode-tiles
-use Rattle.lerc_byte_image.proofs.EndAnswer.refusal.Reads as end-refusal
 use Rattle.lerc_byte_image.proofs.check.Reads as check-huffman
 use Rattle.lerc_byte_image.proofs.write.Reads as write-huffman
 use Rattle.lerc_fills.proofs.fill_each.Reads as fill-each
 use Rattle.lerc.specs.Read.{Lent}
-use Rattle.lerc.proofs.StageAnswer.refusal.Reads as stage-refusal
-use Rattle.lerc.proofs.PublishAnswer.refusal.Reads as publish-refusal
-use Rattle.lerc.proofs.ReadAnswer.refusal.Reads as read-refusal
 use Rattle.lerc.proofs.stage.Reads as stage
 use Rattle.lerc.proofs.publish.Reads as publish
 use Rattle.lerc.proofs.read.Reads as read
@@ -135,14 +122,14 @@ Writes Pre Post left = Fixed Pre Post (λ r. r) left
 pub record HandedBack : Type 0 where
   -- which was in force, and how long: the kept mask exactly where a mask is reused
   pub reuse : (k : _) (a : _) (r : _) (x : _) (m : List ℕ) → prepare-mask.Post k a r x → prepare_says a.0.now a.1.0 a.1.1.0 a.1.1.1.0.now (length a.1.1.1.1.0.now) ≡ ok (reused m)
-      → (r ≡ mask.Kept (mask_length (shape_of a.1.0))) × (m ≡ take (mask_length (shape_of a.1.0)) a.1.1.1.0.now)
+      → (r ≡ ok (mask.Kept (mask_length (shape_of a.1.0)))) × (m ≡ take (mask_length (shape_of a.1.0)) a.1.1.1.0.now)
   pub otherwise : (k : _) (a : _) (r : _) (x : _) (m : List ℕ) → prepare-mask.Post k a r x → prepare_says a.0.now a.1.0 a.1.1.0 a.1.1.1.0.now (length a.1.1.1.1.0.now) ≡ ok (new m)
-      → (r ≡ mask.Spare (mask_length (shape_of a.1.0))) × (m ≡ take (mask_length (shape_of a.1.0)) x.1.1.1.1.0.now)
+      → (r ≡ ok (mask.Spare (mask_length (shape_of a.1.0)))) × (m ≡ take (mask_length (shape_of a.1.0)) x.1.1.1.1.0.now)
   -- the part: where it stands, and what it holds
-  pub kept : (k : _) (a : _) (r : _) (x : _) (n : ℕ) → mask-in-force.Post k a r x → a.1.1.0 ≡ mask.Kept n → (r.ref_ptr ≡ a.0.ref_ptr) × (r.now ≡ first_of n a.0.now)
-  pub spare : (k : _) (a : _) (r : _) (x : _) (n : ℕ) → mask-in-force.Post k a r x → a.1.1.0 ≡ mask.Spare n → (r.ref_ptr ≡ a.1.0.ref_ptr) × (r.now ≡ first_of n a.1.0.now)
+  pub kept : (k : _) (a : _) (r : _) (x : _) (n : ℕ) → mask-in-force.Post k a r x → a.1.1.0 ≡ ok (mask.Kept n) → (r.ref_ptr ≡ a.0.ref_ptr) × (r.now ≡ first_of n a.0.now)
+  pub spare : (k : _) (a : _) (r : _) (x : _) (n : ℕ) → mask-in-force.Post k a r x → a.1.1.0 ≡ ok (mask.Spare n) → (r.ref_ptr ≡ a.1.0.ref_ptr) × (r.now ≡ first_of n a.1.0.now)
   -- "a part to be handed back is then empty"
-  pub refused : (k : _) (a : _) (r : _) (x : _) (why : Refusal) → mask-in-force.Post k a r x → a.1.1.0 ≡ mask.Refused why → (r.ref_ptr ≡ a.0.ref_ptr) × (r.now ≡ [])
+  pub refused : (k : _) (a : _) (r : _) (x : _) (why : Refusal) → mask-in-force.Post k a r x → a.1.1.0 ≡ fail why → (r.ref_ptr ≡ a.0.ref_ptr) × (r.now ≡ [])
 
 -- the slices that a whole read is lent, among its inputs or its outputs
 abbrev pub Read : Type 0
@@ -151,26 +138,47 @@ Read = Bor (List ℕ) × (Bool × (MutBor (List ℕ) × (MutBor (List ℕ) × (M
 abbrev pub lent : Read → Lent
 lent a = record { kept = a.1.1.0.now; spare = a.1.1.1.0.now; list = a.1.1.1.1.0.now; image = a.1.1.1.1.1.0.now }
 
+-- the types of the entries that `copy` and `fill` are called with
+abbrev pub u8 : RattleType
+u8 = arg (ty_int w8) no u8-field.row
+
+abbrev pub u8-laws : Laws u8
+u8-laws = arg_laws (ty_int w8) no u8-field.row (of_field u8-field u8-of-field refl (copy_shared u8-field u8-field-copy)) refl
+
+abbrev pub u8-copy : IsCopy u8
+u8-copy = arg_copy (ty_int w8) no u8-field.row (of_copyable u8-field u8-field-copy) refl
+
+abbrev pub u64 : RattleType
+u64 = arg (ty_int w64) no u64-field.row
+
+abbrev pub u64-laws : Laws u64
+u64-laws = arg_laws (ty_int w64) no u64-field.row (of_field u64-field u64-of-field refl (copy_shared u64-field u64-field-copy)) refl
+
+abbrev pub u64-copy : IsCopy u64
+u64-copy = arg_copy (ty_int w64) no u64-field.row (of_copyable u64-field u64-field-copy) refl
+
+-- the two functions over any answer, whatever it holds where it was accepted, if that lends nothing
+abbrev pub AnyAnswer : Type 2
+AnyAnswer = (T : RattleType) (L : Laws T) → T.lives ≡ [] → Answers (refusal-of.Pre T L) (refusal-of.Post T L) × Answers (marked.Pre T L) (marked.Post T L)
+
 -- all public functions, from the ground up; the entries for C and the program's `answer` have claims of their own
 pub record NoRoom : Type 0 where
   -- lerc_words
   pub refusal-at : Answers refusal-at.Pre refusal-at.Post
-  pub word-refusal : Answers word-refusal.Pre word-refusal.Post
   pub peek : Answers peek.Pre peek.Post
   pub bytes : Answers bytes.Pre bytes.Post
   pub word : Answers word.Pre word.Post
   pub words : Writes words.Pre words.Post (λ o. o.1.1.1.0.now)
   -- lerc_slices
-  pub copy-bytes : Writes copy-bytes.Pre copy-bytes.Post (λ o. o.1.0.now)
-  pub copy-words : Writes copy-words.Pre copy-words.Post (λ o. o.1.0.now)
-  pub fill-bytes : Writes fill-bytes.Pre fill-bytes.Post (λ o. o.1.0.now)
-  pub fill-words : Writes fill-words.Pre fill-words.Post (λ o. o.1.0.now)
+  pub copy-bytes : Writes (copy-entries.Pre u8 u8-laws u8-copy u8-clone.ghosts u8-clone.dict) (copy-entries.Post u8 u8-laws u8-copy u8-clone.ghosts u8-clone.dict) (λ o. o.1.0.now)
+  pub copy-words : Writes (copy-entries.Pre u64 u64-laws u64-copy u64-clone.ghosts u64-clone.dict) (copy-entries.Post u64 u64-laws u64-copy u64-clone.ghosts u64-clone.dict) (λ o. o.1.0.now)
+  pub fill-bytes : Writes (fill-entries.Pre u8 u8-laws u8-copy u8-clone.ghosts u8-clone.dict) (fill-entries.Post u8 u8-laws u8-copy u8-clone.ghosts u8-clone.dict) (λ o. o.1.0.now)
+  pub fill-words : Writes (fill-entries.Pre u64 u64-laws u64-copy u64-clone.ghosts u64-clone.dict) (fill-entries.Post u64 u64-laws u64-copy u64-clone.ghosts u64-clone.dict) (λ o. o.1.0.now)
   pub begins-with : Answers begins-with.Pre begins-with.Post
   pub all-bytes : Answers all-bytes.Pre all-bytes.Post
   -- lerc_checksum
   pub checksum : Answers checksum.Pre checksum.Post
   -- lerc_numeric
-  pub integer-refusal : Answers integer-refusal.Pre integer-refusal.Post
   pub plus : Answers plus.Pre plus.Post
   pub scale : Answers scale.Pre scale.Post
   pub is_finite : Answers is_finite.Pre is_finite.Post
@@ -188,30 +196,21 @@ pub record NoRoom : Type 0 where
   pub single-steps : Writes single-steps.Pre single-steps.Post (λ o. o.1.1.1.1.1.0.now)
   pub float-ready : Answers float-ready.Pre float-ready.Post
   -- lerc_samples
-  pub offset-refusal : Answers offset-refusal.Pre offset-refusal.Post
-  pub sample-refusal : Answers sample-refusal.Pre sample-refusal.Post
-  pub stored-refusal : Answers stored-refusal.Pre stored-refusal.Post
   pub offset-kind : Answers offset-kind.Pre offset-kind.Post
   pub read-sample : Answers read-sample.Pre read-sample.Post
   pub stored : Answers stored.Pre stored.Post
   -- lerc_bits
-  pub plan-refusal : Answers plan-refusal.Pre plan-refusal.Post
-  pub counts-refusal : Answers counts-refusal.Pre counts-refusal.Post
   pub inspect : Answers inspect.Pre inspect.Post
   pub decode-plan : Writes decode-plan.Pre decode-plan.Post (λ o. o.1.1.0.now)
   pub check-plan : Answers check-plan.Pre check-plan.Post
   pub decode-counts : Writes decode-counts.Pre decode-counts.Post (λ o. o.1.1.0.now)
   pub check-counts : Answers check-counts.Pre check-counts.Post
   -- lerc_header
-  pub header-refusal : Answers header-refusal.Pre header-refusal.Post
-  pub held-refusal : Answers held-refusal.Pre held-refusal.Post
-  pub open-refusal : Answers open-refusal.Pre open-refusal.Post
   pub pair-right : Answers pair-right.Pre pair-right.Post
   pub held : Answers held.Pre held.Post
   pub open-blob : Answers open-blob.Pre open-blob.Post
   pub read-header : Answers read-header.Pre read-header.Post
   -- lerc_mask
-  pub runs-refusal : Answers runs-refusal.Pre runs-refusal.Post
   pub is-valid : Answers is-valid.Pre is-valid.Post
   pub count-valid : Answers count-valid.Pre count-valid.Post
   pub count-from : Answers count-from.Pre count-from.Post
@@ -220,10 +219,6 @@ pub record NoRoom : Type 0 where
   pub compare-runs : Answers compare-runs.Pre compare-runs.Post
   pub byte-from : Answers byte-from.Pre byte-from.Post
   -- lerc_validity and lerc_ranges
-  pub mask-refusal : Answers mask-refusal.Pre mask-refusal.Post
-  pub ranges-refusal : Answers ranges-refusal.Pre ranges-refusal.Post
-  pub pairs-refusal : Answers pairs-refusal.Pre pairs-refusal.Post
-  pub constants-refusal : Answers constants-refusal.Pre constants-refusal.Post
   pub prepare-mask : Writes prepare-mask.Pre prepare-mask.Post (λ o. o.1.1.1.1.0.now)
   pub find-mask : Writes find-mask.Pre find-mask.Post (λ o. o.1.1.1.1.0.now)
   pub compare-mask : Answers compare-mask.Pre compare-mask.Post
@@ -234,19 +229,14 @@ pub record NoRoom : Type 0 where
   pub read-ranges : Answers read-ranges.Pre read-ranges.Post
   pub convert : Answers convert.Pre convert.Post
   -- lerc_block
-  pub block-refusal : Answers block-refusal.Pre block-refusal.Post
-  pub block-plan-refusal : Answers block-plan-refusal.Pre block-plan-refusal.Post
   pub block-plan-end : Answers block-plan-end.Pre block-plan-end.Post
   pub inspect-block : Answers inspect-block.Pre inspect-block.Post
   pub block-end : Answers block-end.Pre block-end.Post
   pub read-block : Writes read-block.Pre read-block.Post (λ o. o.1.1.1.1.1.1.1.0.now)
   pub check-block : Answers check-block.Pre check-block.Post
   -- lerc_sweep
-  pub way-refusal : Answers way-refusal.Pre way-refusal.Post
   pub read-sweep : Answers read-sweep.Pre read-sweep.Post
   -- lerc_image
-  pub walk-refusal : Answers walk-refusal.Pre walk-refusal.Post
-  pub fill-refusal : Answers fill-refusal.Pre fill-refusal.Post
   pub walk : Writes walk.Pre walk.Post (λ o. o.1.1.1.1.0.now)
   pub fill : Writes fill.Pre fill.Post (λ o. o.1.1.1.1.1.1.0.now)
   pub check-tiles : Answers check-tiles.Pre check-tiles.Post
@@ -257,15 +247,11 @@ pub record NoRoom : Type 0 where
   pub write-tiles : Writes {S = List ℕ × List ℕ} write-tiles.Pre write-tiles.Post (λ o. (o.1.1.1.1.1.0.now, o.1.1.1.1.1.1.0.now))
   pub decode-tiles : Writes {S = List ℕ × List ℕ} decode-tiles.Pre decode-tiles.Post (λ o. (o.1.1.1.1.1.0.now, o.1.1.1.1.1.1.0.now))
   -- lerc_byte_image
-  pub end-refusal : Answers end-refusal.Pre end-refusal.Post
   pub check-huffman : Answers check-huffman.Pre check-huffman.Post
   pub write-huffman : Writes write-huffman.Pre write-huffman.Post (λ o. o.1.1.1.1.1.0.now)
   -- lerc_fills
   pub fill-each : Writes fill-each.Pre fill-each.Post (λ o. o.1.1.1.1.1.1.0.now)
   -- lerc
-  pub stage-refusal : Answers stage-refusal.Pre stage-refusal.Post
-  pub publish-refusal : Answers publish-refusal.Pre publish-refusal.Post
-  pub read-refusal : Answers read-refusal.Pre read-refusal.Post
   -- spare and list; image and kept mask are lent to be looked at alone
   pub stage : Writes {S = List ℕ × List ℕ} stage.Pre stage.Post (λ o. (o.1.1.1.0.now, o.1.1.1.1.0.now))
   -- kept mask and image; spare and list are lent to be looked at alone

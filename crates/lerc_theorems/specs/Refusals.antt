@@ -1,41 +1,30 @@
 -- What a refusal leaves: "It leaves every lent slice unchanged, except: where the mask section was accepted and no mask was reused,
 -- the spare's first (pixels+7)/8 bytes hold the new mask."
 -- Assumes nothing.
-use Rattle.std.specs.Prelude.{◌≡◌, Bool, true, List, [], ◌∷◌, ◌++◌, ℕ, length, take, replicate}
+use Rattle.std.specs.Prelude.{◌≡◌, Bool, true, List, [], ◌∷◌, ◌++◌, ℕ, length, take, ◌≢◌}
 use Rattle.lerc_words.specs.declared.Refusal.{Refusal}
-use Rattle.lerc_words.specs.Res.{ok}
+use Rattle.lerc_words.specs.Res.{ok, fail}
 use Rattle.lerc_words.specs.Lists.{over}
-use Rattle.lerc_bits.specs.declared.CountsAnswer.TheVariants as counts
 use Rattle.lerc_bits.proofs.decode_plan.Reads as decode-plan
 use Rattle.lerc_bits.proofs.decode.Reads as decode-counts
 use Rattle.lerc_header.specs.declared.Header.{Header}
 use Rattle.lerc_header.specs.Header.{shape_of, header_says}
-use Rattle.lerc_header.specs.Limits.{depth_limit}
 use Rattle.lerc_header.specs.Shape.{mask_length}
-use Rattle.lerc_mask.specs.declared.RunsAnswer.TheVariants as runs
 use Rattle.lerc_mask.proofs.decode.Reads as decode-mask
-use Rattle.lerc_validity.specs.declared.MaskAnswer.TheVariants as mask
 use Rattle.lerc_ranges.specs.declared.Ranges.{Ranges}
-use Rattle.lerc_ranges.specs.declared.RangesAnswer.TheVariants as ranges
-use Rattle.lerc_ranges.specs.declared.ConstantsAnswer.TheVariants as constants
 use Rattle.lerc_validity.specs.Validity.{new, mask_says}
-use Rattle.lerc_ranges.specs.Ranges.{no_ranges}
+use Rattle.lerc_ranges.specs.Ranges.{}
 use Rattle.lerc_validity.proofs.prepare_mask.Reads as prepare-mask
 use Rattle.lerc_validity.proofs.find_mask.Reads as find-mask
 use Rattle.lerc_validity.proofs.mask_in_force.Reads as mask-in-force
 use Rattle.lerc_ranges.proofs.read_ranges.Reads as read-ranges
 use Rattle.lerc_ranges.proofs.ranges_in.Reads as ranges_in
 use Rattle.lerc_ranges.proofs.convert.Reads as convert
-use Rattle.lerc_block.specs.declared.BlockAnswer.TheVariants as block
 use Rattle.lerc_block.proofs.read_block.Reads as read-block
-use Rattle.lerc_image.specs.declared.WalkAnswer.TheVariants as walked
-use Rattle.lerc_image.specs.declared.FillAnswer.TheVariants as filled
 use Rattle.lerc_image.proofs.walk.Reads as walk
 use Rattle.lerc_image.proofs.fill.Reads as fill
 use Rattle.lerc_image.proofs.decode_tiles.Reads as decode-tiles
 use Rattle.lerc_fills.proofs.fill_each.Reads as each
-use Rattle.lerc.specs.declared.StageAnswer.TheVariants as staged
-use Rattle.lerc.specs.declared.PublishAnswer.TheVariants as published
 use Rattle.lerc.specs.Read.{Lent, room}
 use Rattle.lerc.proofs.stage.Reads as stage
 use Rattle.lerc.proofs.publish.Reads as publish
@@ -47,35 +36,35 @@ RefusalKeeps {K} {A} {R} {O} Post Refused before left = (k : K) (a : A) (x : O) 
 
 -- every public function that is lent a slice to write and can refuse, whole read and the spare of staging apart
 pub record RefusalsKeep : Type 0 where
-  pub decode-plan : RefusalKeeps decode-plan.Post counts.Refused (λ a. a.1.1.0.now) (λ o. o.1.1.0.now)
-  pub decode-counts : RefusalKeeps decode-counts.Post counts.Refused (λ a. a.1.1.0.now) (λ o. o.1.1.0.now)
-  pub decode-mask : RefusalKeeps decode-mask.Post runs.Refused (λ a. a.1.1.1.0.now) (λ o. o.1.1.1.0.now)
-  pub prepare-mask : RefusalKeeps prepare-mask.Post mask.Refused (λ a. a.1.1.1.1.0.now) (λ o. o.1.1.1.1.0.now)
-  pub find-mask : RefusalKeeps find-mask.Post mask.Refused (λ a. a.1.1.1.1.0.now) (λ o. o.1.1.1.1.0.now)
-  pub read-block : RefusalKeeps read-block.Post block.Refused (λ a. a.1.1.1.1.1.1.1.0.now) (λ o. o.1.1.1.1.1.1.1.0.now)
-  pub walk : RefusalKeeps walk.Post walked.Refused (λ a. a.1.1.1.1.0.now) (λ o. o.1.1.1.1.0.now)
-  pub fill : RefusalKeeps fill.Post filled.Refused (λ a. a.1.1.1.1.1.1.0.now) (λ o. o.1.1.1.1.1.1.0.now)
+  pub decode-plan : RefusalKeeps decode-plan.Post fail (λ a. a.1.1.0.now) (λ o. o.1.1.0.now)
+  pub decode-counts : RefusalKeeps decode-counts.Post fail (λ a. a.1.1.0.now) (λ o. o.1.1.0.now)
+  pub decode-mask : RefusalKeeps decode-mask.Post fail (λ a. a.1.1.1.0.now) (λ o. o.1.1.1.0.now)
+  pub prepare-mask : RefusalKeeps prepare-mask.Post fail (λ a. a.1.1.1.1.0.now) (λ o. o.1.1.1.1.0.now)
+  pub find-mask : RefusalKeeps find-mask.Post fail (λ a. a.1.1.1.1.0.now) (λ o. o.1.1.1.1.0.now)
+  pub read-block : RefusalKeeps read-block.Post fail (λ a. a.1.1.1.1.1.1.1.0.now) (λ o. o.1.1.1.1.1.1.1.0.now)
+  pub walk : RefusalKeeps walk.Post fail (λ a. a.1.1.1.1.0.now) (λ o. o.1.1.1.1.0.now)
+  pub fill : RefusalKeeps fill.Post fail (λ a. a.1.1.1.1.1.1.0.now) (λ o. o.1.1.1.1.1.1.0.now)
   -- of a list of fills a refused number, wherever it stands in the list, is as good as left out
-  pub fill-each : (b : List ℕ) (h : Header) (r : Ranges) (m list ms : List ℕ) (n : ℕ) (ns : List ℕ) (why : Refusal) (image any : List ℕ) → FillCall b h r m list n (filled.Refused why) image any
+  pub fill-each : (b : List ℕ) (h : Header) (r : Ranges) (m list ms : List ℕ) (n : ℕ) (ns : List ℕ) (why : Refusal) (image any : List ℕ) → FillCall b h r m list n (fail why) image any
       → (said told : ℕ) (new other : List ℕ) → EachCall b h r m list (ms ++ n ∷ ns) said image new → EachCall b h r m list (ms ++ ns) told image other → (said ≡ told) × (new ≡ other)
   -- and where none was filled, the image is as it was
   pub none_filled : (k : _) (a : _) (x : _) → each.Post k a 0 x → x.1.1.1.1.1.1.0.now ≡ a.1.1.1.1.1.1.0.now
   -- the list, and the image
-  pub tiles-list : RefusalKeeps decode-tiles.Post walked.Refused (λ a. a.1.1.1.1.1.0.now) (λ o. o.1.1.1.1.1.0.now)
-  pub tiles-image : RefusalKeeps decode-tiles.Post walked.Refused (λ a. a.1.1.1.1.1.1.0.now) (λ o. o.1.1.1.1.1.1.0.now)
-  pub stage-list : RefusalKeeps stage.Post staged.Refused (λ a. a.1.1.1.1.0.now) (λ o. o.1.1.1.1.0.now)
+  pub tiles-list : RefusalKeeps decode-tiles.Post fail (λ a. a.1.1.1.1.1.0.now) (λ o. o.1.1.1.1.1.0.now)
+  pub tiles-image : RefusalKeeps decode-tiles.Post fail (λ a. a.1.1.1.1.1.1.0.now) (λ o. o.1.1.1.1.1.1.0.now)
+  pub stage-list : RefusalKeeps stage.Post fail (λ a. a.1.1.1.1.0.now) (λ o. o.1.1.1.1.0.now)
   -- "its refusal changes no lent slice"
-  pub publish-kept : RefusalKeeps publish.Post published.Refused (λ a. a.1.1.1.0.now) (λ o. o.1.1.1.0.now)
-  pub publish-image : RefusalKeeps publish.Post published.Refused (λ a. a.1.1.1.1.1.1.0.now) (λ o. o.1.1.1.1.1.1.0.now)
+  pub publish-kept : RefusalKeeps publish.Post fail (λ a. a.1.1.1.0.now) (λ o. o.1.1.1.0.now)
+  pub publish-image : RefusalKeeps publish.Post fail (λ a. a.1.1.1.1.1.1.0.now) (λ o. o.1.1.1.1.1.1.0.now)
 
 -- "A refusal carries its number, and 0 for each count and offset; a part to be handed back is then empty."
--- An answer that is an enum holds nothing but number and place where it is a refusal; these are the others.
+-- An answer holds nothing but number and place where it is a refusal: of those that had ranges or words beside it this is said once more.
 pub record RefusalsEmpty : Type 0 where
-  pub ranges-found : (k : _) (a : _) (r : _) (x : _) (why : Refusal) → ranges_in.Post k a r x → r.answer ≡ ranges.Refused why → r.ranges ≡ no_ranges
-  pub ranges : (k : _) (a : _) (r : _) (x : _) (why : Refusal) → read-ranges.Post k a r x → r.answer ≡ ranges.Refused why → r.ranges ≡ no_ranges
-  pub constants : (k : _) (a : _) (r : _) (x : _) (why : Refusal) → convert.Post k a r x → r.answer ≡ constants.Refused why → r.words ≡ replicate depth_limit 0
+  pub ranges-found : (k : _) (a : _) (r : _) (x : _) (why : Refusal) → ranges_in.Post k a r x → r ≡ fail why → (g : Ranges) → r ≢ ok g
+  pub ranges : (k : _) (a : _) (r : _) (x : _) (why : Refusal) → read-ranges.Post k a r x → r ≡ fail why → (g : Ranges) → r ≢ ok g
+  pub constants : (k : _) (a : _) (r : _) (x : _) (why : Refusal) → convert.Post k a r x → r ≡ fail why → (words : List ℕ) → r ≢ ok words
   -- the mask that is handed back, where preparing it was refused
-  pub mask : (k : _) (a : _) (r : _) (x : _) (why : Refusal) → mask-in-force.Post k a r x → a.1.1.0 ≡ mask.Refused why → r.now ≡ []
+  pub mask : (k : _) (a : _) (r : _) (x : _) (why : Refusal) → mask-in-force.Post k a r x → a.1.1.0 ≡ fail why → r.now ≡ []
 
 -- ---- whole read
 

@@ -3,7 +3,7 @@
 -- Assumes nothing.
 use Rattle.std.specs.Prelude.{◌≡◌, ◌≢◌, ◌⊎◌, Bool, true, false, List, ℕ, ◌+◌, ◌-◌, ◌*◌, ◌^◌, ◌≤◌, ◌<◌, min, length, get_or, take, drop}
 use Rattle.lerc_words.specs.declared.Refusal.{Refusal}
-use Rattle.lerc_words.specs.Res.{ok, refuse, placed, word_at, little}
+use Rattle.lerc_words.specs.Res.{ok, refuse, placed, word_at, little, Res}
 use Rattle.lerc_numeric.specs.Numeric.{negative, finite, mag, less, same}
 use Rattle.lerc_numeric.specs.Kinds.{type_size}
 use Rattle.lerc_checksum.specs.Checksum.{checksum}
@@ -19,13 +19,13 @@ use Rattle.lerc_sweep.specs.Sweep.{raw_from, blocks_from, huffman_from, has_mode
 use Rattle.lerc_image.specs.Geometry.{tile_of, valid_in_tile}
 use Rattle.lerc_image.specs.Blocks.{Chain, chain}
 use Rattle.lerc_image.specs.Own.{own_mask}
-use Rattle.lerc.specs.declared.StageAnswer.{StageAnswer}
 use Rattle.lerc.specs.Meaning.{Meaning}
 use Rattle.lerc.specs.Read.{Lent, room, Masked, masked, read_says}
 use Rattle.lerc.specs.Stage.{was_staged}
 use Rattle.lerc_theorems.specs.MaskTable.{CodedWrong}
 use Rattle.lerc_theorems.specs.HuffmanTable.{HuffmanRefused}
 use Rattle.lerc_theorems.specs.BlockTable.{At, ConstantsRefused, BlockRefused}
+use Rattle.lerc.specs.declared.Staged.{Staged}
 
 -- ---- tests that fail. Demands with one number have no order among themselves, but for ranges that are read: there the place tells which comes first
 
@@ -282,6 +282,6 @@ pub data WholeRefused (b : List ℕ) (reuse : Bool) (l : Lent) : Refusal → Typ
   whole-body : {n : Refusal} (k : Masked) → masked b reuse l ≡ ok k → BodyRefused (take k.header.size b) k.header (bytes_of k.mask) n → WholeRefused b reuse l n
 
 -- publishing: what the blob itself earns, then 3 for an answer, a spare or a list that staging did not give
-pub data PublishRefused (b : List ℕ) (reuse : Bool) (given : StageAnswer) (l : Lent) : Refusal → Type 0 where
+pub data PublishRefused (b : List ℕ) (reuse : Bool) (given : Res Staged) (l : Lent) : Refusal → Type 0 where
   publish-blob : {n : Refusal} → WholeRefused b reuse l n → PublishRefused b reuse given l n
   publish-given : (m : Meaning) → read_says b reuse l ≡ ok m → was_staged m given l ≡ false → PublishRefused b reuse given l (refuse 3)

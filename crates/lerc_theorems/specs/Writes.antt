@@ -2,7 +2,6 @@
 -- Assumes nothing.
 use Rattle.std.specs.Prelude.{◌≡◌, Bool, false, ◌||◌, List, [], ◌∷◌, ℕ, ◌≤◌, length, get_or}
 use Rattle.lerc_words.specs.Res.{ok}
-use Rattle.lerc_bits.specs.declared.CountsAnswer.TheVariants as counts
 use Rattle.lerc_bits.proofs.decode_plan.Reads as decode-plan
 use Rattle.lerc_bits.proofs.decode.Reads as decode-counts
 use Rattle.lerc_header.specs.declared.Shape.{Shape}
@@ -13,7 +12,6 @@ use Rattle.lerc_mask.proofs.decode.Reads as decode-mask
 use Rattle.lerc_validity.specs.Validity.{bytes_of}
 use Rattle.lerc_validity.proofs.prepare_mask.Reads as prepare-mask
 use Rattle.lerc_validity.proofs.find_mask.Reads as find-mask
-use Rattle.lerc_block.specs.declared.BlockAnswer.TheVariants as block
 use Rattle.lerc_block.proofs.read_block.Reads as read-block
 use Rattle.lerc_image.specs.Geometry.{is_valid_cell}
 use Rattle.lerc_image.specs.Paint.{in_block}
@@ -46,10 +44,10 @@ in_some s m (n ∷ ns) c = in_block s m n c || in_some s m ns c
 -- the inputs are a tuple in the order of a function's parameters, the outputs the same at exit
 pub record WritesOnly : Type 0 where
   -- the first n entries; an array has its length by its type
-  pub decode-plan : (k : _) (a : _) (n next : ℕ) (x : _) → decode-plan.Post k a (counts.Counts n next) x → (i : ℕ) → n ≤ i → get_or x.1.1.0.now i 0 ≡ get_or a.1.1.0.now i 0
-  pub decode-counts : (k : _) (a : _) (n next : ℕ) (x : _) → decode-counts.Post k a (counts.Counts n next) x → (i : ℕ) → n ≤ i → get_or x.1.1.0.now i 0 ≡ get_or a.1.1.0.now i 0
+  pub decode-plan : (k : _) (a : _) (n next : ℕ) (x : _) → decode-plan.Post k a (ok (record { n = n; next = next })) x → (i : ℕ) → n ≤ i → get_or x.1.1.0.now i 0 ≡ get_or a.1.1.0.now i 0
+  pub decode-counts : (k : _) (a : _) (n next : ℕ) (x : _) → decode-counts.Post k a (ok (record { n = n; next = next })) x → (i : ℕ) → n ≤ i → get_or x.1.1.0.now i 0 ≡ get_or a.1.1.0.now i 0
   -- as many entries as the tile has valid pixels
-  pub read-block : (k : _) (a : _) (next : ℕ) (x : _) → read-block.Post k a (block.Block next) x → (i : ℕ) → a.1.1.1.1.1.1.0 ≤ i
+  pub read-block : (k : _) (a : _) (next : ℕ) (x : _) → read-block.Post k a (ok next) x → (i : ℕ) → a.1.1.1.1.1.1.0 ≤ i
       → get_or x.1.1.1.1.1.1.1.0.now i 0 ≡ get_or a.1.1.1.1.1.1.1.0.now i 0
   pub decode-mask : (k : _) (a : _) (r : _) (x : _) → decode-mask.Post k a r x → AlikeFrom (mask_bytes a.1.0) a.1.1.1.0.now x.1.1.1.0.now
   pub prepare-mask : (k : _) (a : _) (r : _) (x : _) → prepare-mask.Post k a r x → AlikeFrom (mask_length (shape_of a.1.0)) a.1.1.1.1.0.now x.1.1.1.1.0.now

@@ -26,10 +26,9 @@ use Rattle.lerc_mask.specs.Mask.{valid_below, coded, mask_field}
 use Rattle.lerc_mask.proofs.Pixels.{valid-uniform-0, valid-uniform-255}
 use Rattle.lerc_mask.proofs.Steps.{bytes-part, bytes-repeat}
 use Rattle.lerc_mask.proofs.Runs.{coded-is, coded-length, coded-bytes, coded-six}
-use Rattle.lerc_validity.specs.declared.MaskAnswer.{MaskAnswer}
-use Rattle.lerc_validity.specs.declared.MaskAnswer.TheVariants.{Kept, Spare, Refused}
+use Rattle.lerc_validity.specs.declared.Mask.TheVariants.{Kept, Spare}
 use Rattle.lerc_validity.specs.declared.compared.MaskFound.{MaskFound}
-use Rattle.lerc_validity.specs.Validity.{MaskInForce, reused, new, bytes_of, uniform, kept, unrolled, mask_in, mask_says, prepare_says, mask_said, Prepared, Compared, first_of, in_force}
+use Rattle.lerc_validity.specs.Validity.{MaskInForce, reused, new, bytes_of, uniform, kept, unrolled, mask_in, mask_says, prepare_says, MaskTold, Prepared, Compared, first_of, in_force}
 
 -- a reused mask is the first part of the kept one
 abbrev pub Part : List ℕ → MaskInForce → Type 0
@@ -169,36 +168,21 @@ first-whole n s h = rw (le-leb n (length s) h)
 first-over : (m old : List ℕ) → first_of (length m) (over m old) ≡ m
 first-over m old = first-whole (length m) (over m old) (rw (length-append) (omega arith)) ∙ take-append_seam m (drop (length m) old)
 
-said-is : (a b : MaskAnswer) → mask_said a ≡ ok b → a ≡ b
-said-is (Kept n) b e = cc
-said-is (Spare n) b e = cc
-said-is (Refused r) b e = absurd (let z : ◌≡◌ {A = ℕ} 0 1 = cc in omega arith)
-
 -- what is handed back after an acceptance is the mask in force
-pub in-force : (f : MaskInForce) (m : Res MaskInForce) (r : MaskAnswer) (old spare newer : List ℕ) → m ≡ ok f → Part old f → Prepared m r spare newer → in_force r old newer ≡ bytes_of f
+pub in-force : (f : MaskInForce) (m : Res MaskInForce) (r : Res MaskTold) (old spare newer : List ℕ) → m ≡ ok f → Part old f → Prepared m r spare newer → in_force r old newer ≡ bytes_of f
 unfolding in_force
 in-force (reused n) m r old spare newer e p u =
-    let a : r ≡ Kept (length n) = said-is r (Kept (length n)) (rw (e) at u.says) in
+    let a : r ≡ ok (Kept (length n)) = rw (e) at u.says in
     rw (a) (first-whole (length n) old p.0 ∙ sym p.1)
 in-force (new n) m r old spare newer e p u =
-    let a : r ≡ Spare (length n) = said-is r (Spare (length n)) (rw (e) at u.says) in
+    let a : r ≡ ok (Spare (length n)) = rw (e) at u.says in
     let d : newer ≡ over n spare = rw (e) at u.spare in
     rw (a, d) (first-over n spare)
 
 -- ---- the promise leaves no room
 
-same-said : (a b : MaskAnswer) → mask_said a ≡ mask_said b → a ≡ b
-same-said (Refused r) (Refused q) e = let z : r ≡ q = cc in rw (z)
-same-said (Refused r) (Kept n) e = absurd (let z : ◌≡◌ {A = ℕ} 0 1 = cc in omega arith)
-same-said (Refused r) (Spare n) e = absurd (let z : ◌≡◌ {A = ℕ} 0 1 = cc in omega arith)
-same-said (Kept n) b e = sym (said-is b (Kept n) (sym e))
-same-said (Spare n) b e = sym (said-is b (Spare n) (sym e))
+pub prepared-same : {m : Res MaskInForce} {a b : Res MaskTold} {old x y : List ℕ} → Prepared m a old x → Prepared m b old y → (a ≡ b) × (x ≡ y)
+prepared-same p q = (p.says ∙ sym q.says, p.spare ∙ sym q.spare)
 
-pub prepared-same : {m : Res MaskInForce} {a b : MaskAnswer} {old x y : List ℕ} → Prepared m a old x → Prepared m b old y → (a ≡ b) × (x ≡ y)
-prepared-same {m} {a} {b} p q = (same-said a b (p.says ∙ sym q.says), p.spare ∙ sym q.spare)
-
-pub compared_same : {m : Res MaskInForce} {a b : MaskFound} {spare : List ℕ} → Compared m a spare → Compared m b spare → a ≡ b
-compared_same {m} {a} {b} p q =
-    let e = same-said a.answer b.answer (p.says ∙ sym q.says) in
-    let f = p.same ∙ sym q.same in
-    λ i. record { answer = e i; same = f i }
+pub compared_same : {m : Res MaskInForce} {a b : Res MaskFound} {spare : List ℕ} → Compared m a spare → Compared m b spare → a ≡ b
+compared_same p q = p.says ∙ sym q.says

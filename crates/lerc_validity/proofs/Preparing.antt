@@ -17,25 +17,26 @@ use Rattle.lerc_header.specs.declared.Extent.{Extent}
 use Rattle.lerc_header.specs.Header.{shape_of, held, header_bytes, ranges_at}
 use Rattle.lerc_header.proofs.Kept.{held-is, held-size}
 use Rattle.lerc_header.specs.Shape.{pixels, mask_length}
-use Rattle.lerc_mask.specs.declared.RunsAnswer.{RunsAnswer}
-use Rattle.lerc_mask.specs.declared.RunsAnswer.TheVariants as runs
-use Rattle.lerc_mask.specs.Mask.{valid_below, mask_field, coded, decoded, runs_said, RunsUnrolled}
+use Rattle.lerc_mask.specs.Mask.{valid_below, mask_field, coded, decoded, RunsUnrolled}
 use Rattle.lerc_mask.proofs.Pixels.{valid-take}
 use Rattle.lerc_mask.proofs.Runs.{coded-bare, decoded-coded}
-use Rattle.lerc_validity.specs.declared.MaskAnswer.{MaskAnswer}
-use Rattle.lerc_validity.specs.declared.MaskAnswer.TheVariants.{Kept, Spare, Refused}
-use Rattle.lerc_validity.specs.Validity.{MaskInForce, reused, new, uniform, kept, unrolled, mask_in, mask_says, find_says, prepare_says, spare_with, mask_said, which, Prepared, from_runs}
+use Rattle.lerc_validity.specs.declared.Mask.TheVariants.{Kept, Spare}
+use Rattle.lerc_validity.specs.Validity.{MaskInForce, reused, new, uniform, kept, unrolled, mask_in, mask_says, find_says, prepare_says, spare_with, MaskTold, which, Prepared, from_runs}
 
 -- ---- the promise, for each answer
 
-pub refused : {m : Res MaskInForce} {r : Refusal} {old : List ℕ} → m ≡ fail r → Prepared m (Refused r) old old
+pub refused : {m : Res MaskInForce} {r : Refusal} {old : List ℕ} → m ≡ fail r → Prepared m (fail r) old old
 refused e = rw e (record { says = refl; spare = refl })
 
-pub spared : {m : Res MaskInForce} (bytes : List ℕ) (n : ℕ) {old newer : List ℕ} → m ≡ ok (new bytes) → length bytes ≡ n → newer ≡ over bytes old → Prepared m (Spare n) old newer
+pub spared : {m : Res MaskInForce} (bytes : List ℕ) (n : ℕ) {old newer : List ℕ} → m ≡ ok (new bytes) → length bytes ≡ n → newer ≡ over bytes old → Prepared m (ok (Spare n)) old newer
 spared bytes n e l d = rw (e, d) (record { says = rw (l); spare = refl })
 
-pub reuses : {m : Res MaskInForce} (bytes : List ℕ) (n : ℕ) {old : List ℕ} → m ≡ ok (reused bytes) → length bytes ≡ n → Prepared m (Kept n) old old
+pub reuses : {m : Res MaskInForce} (bytes : List ℕ) (n : ℕ) {old : List ℕ} → m ≡ ok (reused bytes) → length bytes ≡ n → Prepared m (ok (Kept n)) old old
 reuses bytes n e l = rw e (record { says = rw (l); spare = refl })
+
+pub prepared-no : (m : Res MaskInForce) {r : Refusal} {old newer : List ℕ} → Prepared m (fail r) old newer → m ≡ fail r
+prepared-no (ok f) p = absurd (let e = p.says in let z : ◌≡◌ {A = ℕ} 0 1 = cc in omega arith)
+prepared-no (fail q) {r} p = let e = p.says in let z : q ≡ r = cc in ap fail z
 
 -- with a place on the answer
 pub told_at : (p : ℕ) (m : Res MaskInForce) → marked p (m >>= which) ≡ (marked p m >>= which)
@@ -43,7 +44,7 @@ told_at p (ok (reused m)) = refl
 told_at p (ok (new m)) = refl
 told_at p (fail r) = refl
 
-pub prepared-at : {m : Res MaskInForce} {r q : MaskAnswer} (p : ℕ) {old newer : List ℕ} → Prepared m r old newer → mask_said q ≡ marked p (mask_said r) → Prepared (marked p m) q old newer
+pub prepared-at : {m : Res MaskInForce} {r q : Res MaskTold} (p : ℕ) {old newer : List ℕ} → Prepared m r old newer → q ≡ marked p r → Prepared (marked p m) q old newer
 prepared-at {m} p {old} d e = record {
   says = e ∙ ap (marked p) d.says ∙ told_at p m;
   spare = d.spare ∙ sym (marked-after p m old (λ f. spare_with f old));
@@ -80,12 +81,16 @@ module _ (h : Header) (reuse : Bool) (old : List ℕ) where
 
 -- ---- a mask of runs
 
+pub from_runs-is : (a : Res ℕ) {r : Res ℕ} → r ≡ marked 0 a → (r >>= λ n. ok (Spare n)) ≡ from_runs a
+from_runs-is (ok n) e = rw (e)
+from_runs-is (fail q) e = rw (e)
+
 -- what the answer says, whatever is done with the bytes
-pub runs-says : (p : ℕ) (m : Res (List ℕ)) → Bare m → (a : RunsAnswer) → runs_said a ≡ (marked p m >>= λ bytes. ok (length bytes)) → mask_said (from_runs a) ≡ (m >>= (λ bytes. ok (new bytes)) >>= which)
-runs-says p (ok bytes) i (runs.Mask n) u = let e : n ≡ length bytes = cc in rw (e)
-runs-says p (ok bytes) i (runs.Refused r) u = absurd (let z : ◌≡◌ {A = ℕ} 0 1 = cc in omega arith)
-runs-says p (fail q) i (runs.Mask n) u = absurd (let z : ◌≡◌ {A = ℕ} 0 1 = cc in omega arith)
-runs-says p (fail q) i (runs.Refused r) u =
+pub runs-says : (p : ℕ) (m : Res (List ℕ)) → Bare m → (a : Res ℕ) → a ≡ (marked p m >>= λ bytes. ok (length bytes)) → from_runs a ≡ (m >>= (λ bytes. ok (new bytes)) >>= which)
+runs-says p (ok bytes) i (ok n) u = let e : n ≡ length bytes = cc in rw (e)
+runs-says p (ok bytes) i (fail r) u = absurd (let z : ◌≡◌ {A = ℕ} 0 1 = cc in omega arith)
+runs-says p (fail q) i (ok n) u = absurd (let z : ◌≡◌ {A = ℕ} 0 1 = cc in omega arith)
+runs-says p (fail q) i (fail r) u =
     let e : r ≡ placed p q = cc (u) in
     let z : placed 0 q ≡ q = cc (i) in
     rw (e) (ap fail z)
@@ -94,10 +99,10 @@ runs_after : (m : Res (List ℕ)) (old : List ℕ) → after m old (λ bytes. ov
 runs_after (ok bytes) old = refl
 runs_after (fail r) old = refl
 
-runs-told : (p : ℕ) (m : Res (List ℕ)) → Bare m → (a : RunsAnswer) {old newer : List ℕ} → RunsUnrolled (marked p m) a old newer → Prepared (m >>= λ bytes. ok (new bytes)) (from_runs a) old newer
+runs-told : (p : ℕ) (m : Res (List ℕ)) → Bare m → (a : Res ℕ) {old newer : List ℕ} → RunsUnrolled (marked p m) a old newer → Prepared (m >>= λ bytes. ok (new bytes)) (from_runs a) old newer
 runs-told p m i a {old} u = record { says = runs-says p m i a u.says; spare = u.left ∙ marked-after p m old (λ bytes. over bytes old) ∙ runs_after m old }
 
-pub unroll-told : (s : List ℕ) (h : Header) (room : ℕ) (a : RunsAnswer) {old newer : List ℕ} → mask_length (shape_of h) ≤ room
+pub unroll-told : (s : List ℕ) (h : Header) (room : ℕ) (a : Res ℕ) {old newer : List ℕ} → mask_length (shape_of h) ≤ room
     → RunsUnrolled (decoded (take h.mask (drop header_bytes s)) (pixels (shape_of h)) h.valid room) a old newer → Prepared (unrolled s h) (from_runs a) old newer
 unfolding unrolled
 unroll-told s h room a l u =

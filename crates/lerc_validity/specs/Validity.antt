@@ -1,18 +1,15 @@
 -- The mask in force, and preparing it.
 -- Assumes nothing.
 use Rattle.std.specs.Prelude.{ℕ, ◌≡◌, Bool, true, cond, ◌&&◌, List, [], length, take, drop, replicate, leb, eqb}
-use Rattle.lerc_words.specs.declared.Refusal.{Refusal}
-use Rattle.lerc_words.specs.Res.{Res, ok, fail, ◌>>=◌, refuse, placed, marked, require, after}
+use Rattle.lerc_words.specs.Res.{Res, ok, fail, ◌>>=◌, placed, marked, require, after}
 use Rattle.lerc_words.specs.Lists.{over}
-use Rattle.lerc_slices.specs.Slices.{begins_with, accepts_with}
+use Rattle.lerc_slices.specs.Slices.{begins_with}
 use Rattle.lerc_header.specs.declared.Header.{Header}
 use Rattle.lerc_header.specs.Header.{shape_of, header_bytes, ranges_at, held}
 use Rattle.lerc_header.specs.Shape.{pixels, mask_length}
-use Rattle.lerc_mask.specs.declared.RunsAnswer.{RunsAnswer}
-use Rattle.lerc_mask.specs.declared.RunsAnswer.TheVariants as runs
 use Rattle.lerc_mask.specs.Mask.{valid_below, coded, mask_field}
-use Rattle.lerc_validity.specs.declared.MaskAnswer.{MaskAnswer}
-use Rattle.lerc_validity.specs.declared.MaskAnswer.TheVariants.{Kept, Spare, Refused}
+use Rattle.lerc_validity.specs.declared.Mask.{Mask}
+use Rattle.lerc_validity.specs.declared.Mask.TheVariants.{Kept, Spare}
 use Rattle.lerc_validity.specs.declared.compared.MaskFound.{MaskFound}
 
 -- a reused mask, or a new one
@@ -75,29 +72,25 @@ abbrev pub spare_with : MaskInForce → List ℕ → List ℕ
 spare_with (reused m) spare = spare
 spare_with (new m) spare = over m spare
 
-abbrev pub mask_said : MaskAnswer → Res MaskAnswer
-mask_said (Kept n) = ok (Kept n)
-mask_said (Spare n) = ok (Spare n)
-mask_said (Refused r) = fail r
-
-abbrev pub refusal_of_mask : MaskAnswer → Refusal
-refusal_of_mask (Kept n) = refuse 0
-refusal_of_mask (Spare n) = refuse 0
-refusal_of_mask (Refused r) = r
-
 -- which, and how long
-abbrev pub which : MaskInForce → Res MaskAnswer
-which (reused m) = ok (Kept (length m))
-which (new m) = ok (Spare (length m))
+abbrev pub MaskTold : Type 0
+MaskTold = Mask
 
-pub record Prepared (m : Res MaskInForce) (r : MaskAnswer) (old new : List ℕ) : Type 0 where
-  pub says : mask_said r ≡ (m >>= which)
+abbrev pub told : MaskInForce → MaskTold
+told (reused m) = Kept (length m)
+told (new m) = Spare (length m)
+
+abbrev pub which : MaskInForce → Res MaskTold
+which f = ok (told f)
+
+pub record Prepared (m : Res MaskInForce) (r : Res MaskTold) (old new : List ℕ) : Type 0 where
+  pub says : r ≡ (m >>= which)
   pub spare : new ≡ after m old (λ f. spare_with f old)
 
 -- what a private function promises: the answer of a section's reader, with no place on a refusal, since all of a mask's have one
-abbrev pub from_runs : RunsAnswer → MaskAnswer
-from_runs (runs.Mask n) = Spare n
-from_runs (runs.Refused r) = Refused (placed 0 r)
+abbrev pub from_runs : Res ℕ → Res MaskTold
+from_runs (ok n) = ok (Spare n)
+from_runs (fail r) = fail (placed 0 r)
 
 -- ---- compare a mask
 
@@ -106,10 +99,9 @@ abbrev pub holds_mask : MaskInForce → List ℕ → Bool
 holds_mask (reused m) spare = true
 holds_mask (new m) spare = begins_with m spare
 
--- the same answer, and whether the spare holds the mask; after a refusal it does not
-pub record Compared (m : Res MaskInForce) (r : MaskFound) (spare : List ℕ) : Type 0 where
-  pub says : mask_said r.answer ≡ (m >>= which)
-  pub same : r.same ≡ accepts_with m (λ f. holds_mask f spare)
+-- the same answer, and beside the mask whether the spare holds it
+pub record Compared (m : Res MaskInForce) (r : Res MaskFound) (spare : List ℕ) : Type 0 where
+  pub says : r ≡ (m >>= λ f. ok (record { mask = told f; same = holds_mask f spare }))
 
 -- ---- the mask handed back
 
@@ -118,13 +110,13 @@ abbrev pub first_of : ℕ → List ℕ → List ℕ
 first_of n s = cond (leb n (length s)) (take n s) []
 
 -- "handed back as a part of the kept mask (reuse) or of the spare (otherwise)"; after a refusal it "is then empty"
-unfoldable pub in_force : MaskAnswer → List ℕ → List ℕ → List ℕ
-in_force (Kept n) old spare = first_of n old
-in_force (Spare n) old spare = first_of n spare
-in_force (Refused r) old spare = []
+unfoldable pub in_force : Res MaskTold → List ℕ → List ℕ → List ℕ
+in_force (ok (Kept n)) old spare = first_of n old
+in_force (ok (Spare n)) old spare = first_of n spare
+in_force (fail r) old spare = []
 
 -- the place of the slice that it is the front of; nothing, after a refusal, stands at the kept mask's
-abbrev pub stands_in : {P : Type 0} → MaskAnswer → P → P → P
-stands_in (Kept n) old spare = old
-stands_in (Spare n) old spare = spare
-stands_in (Refused r) old spare = old
+abbrev pub stands_in : {P : Type 0} → Res MaskTold → P → P → P
+stands_in (ok (Kept n)) old spare = old
+stands_in (ok (Spare n)) old spare = spare
+stands_in (fail r) old spare = old

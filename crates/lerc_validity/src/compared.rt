@@ -1,75 +1,63 @@
 // The mask in force, compared with what the spare holds; nothing is written.
 ghost use Rattle.std.specs.Prelude.{◌≡◌, List, ℕ, ◌≤◌, length};
-ghost use Rattle.lerc_words.specs.Res.{accepts};
 ghost use Rattle.lerc_header.specs.Header.{shape_of, ranges_at};
 ghost use Rattle.lerc_header.specs.Shape as Sizes;
 ghost use Rattle.lerc_header.specs.Shape.{mask_length};
-ghost use Rattle.lerc_validity.specs.Validity as Mask;
+ghost use Rattle.lerc_validity.specs.Validity as Masks;
 
-use super::{MaskAnswer, from_runs, take_kept};
+use super::{Mask, take_kept};
 use lerc_header::{HEADER, Header};
 use lerc_mask::MASK_FIELD;
 use lerc_words::Refusal;
 
 // Which mask is in force, and whether the spare holds it where it is a new one.
-#[derive(Clone, Copy)]
+#[derive(Clone, Copy, Debug, PartialEq, Eq)]
 pub struct MaskFound {
-    pub answer: MaskAnswer,
+    pub mask: Mask,
     pub same: bool,
 }
 
-// it was not refused
-fn is_given(answer: MaskAnswer) -> bool
-    ensures { result ≡ accepts (Mask.mask_said answer) }
-{
-    match answer {
-        MaskAnswer::Kept(_n) => true,
-        MaskAnswer::Spare(_n) => true,
-        MaskAnswer::Refused(_why) => false,
-    }
-}
-
 // as `put_uniform`
-fn meet_uniform(h: Header, n: usize, byte: u8, spare: &[u8]) -> MaskFound
+fn meet_uniform(h: Header, n: usize, byte: u8, spare: &[u8]) -> Result<MaskFound, Refusal>
     requires { (n ≡ mask_length (shape_of h)) × (n ≤ length spare.now) }
-    ensures { Mask.Compared (Mask.uniform h byte) result spare.now }
+    ensures { Masks.Compared (Masks.uniform h byte) result spare.now }
 {
     if h.mask != 0 {
-        return MaskFound {
-            answer: MaskAnswer::Refused(Refusal { number: 6, at: 0 }),
-            same: false,
-        };
+        return Err(Refusal { number: 6, at: 0 });
     }
-    MaskFound {
-        answer: MaskAnswer::Spare(n),
+    Ok(MaskFound {
+        mask: Mask::Spare(n),
         same: lerc_slices::all_bytes(byte, &spare[..n]),
-    }
+    })
 }
 
 // the kept mask, whatever the spare holds
-fn meet_kept(h: Header, pixels: usize, n: usize, reuse: bool, kept: &[u8]) -> MaskFound
+fn meet_kept(
+    h: Header,
+    pixels: usize,
+    n: usize,
+    reuse: bool,
+    kept: &[u8],
+) -> Result<MaskFound, Refusal>
     requires { (pixels ≡ Sizes.pixels (shape_of h)) × (n ≡ mask_length (shape_of h)) × (n ≤ length kept.now) }
-    ensures { (spare : List ℕ) → Mask.Compared (Mask.kept h reuse kept.now) result spare }
+    ensures { (spare : List ℕ) → Masks.Compared (Masks.kept h reuse kept.now) result spare }
 {
-    let answer = take_kept(h, pixels, n, reuse, kept);
-    MaskFound {
-        answer: answer,
-        same: is_given(answer),
-    }
+    let mask = take_kept(h, pixels, n, reuse, kept)?;
+    Ok(MaskFound { mask, same: true })
 }
 
-// as `unroll`
-fn meet_runs(s: &[u8], h: Header, pixels: usize, spare: &[u8]) -> MaskFound
+// as `unroll`; the place is taken off a refusal
+fn meet_runs(s: &[u8], h: Header, pixels: usize, spare: &[u8]) -> Result<MaskFound, Refusal>
     requires { (pixels ≡ Sizes.pixels (shape_of h)) × (ranges_at h ≤ length s.now) × (mask_length (shape_of h) ≤ length spare.now) }
-    ensures { Mask.Compared (Mask.unrolled s.now h) result spare.now }
+    ensures { Masks.Compared (Masks.unrolled s.now h) result spare.now }
 {
     let end = HEADER + h.mask as usize;
     let found = lerc_mask::compare(&s[HEADER..end], pixels, h.valid as usize, spare);
-    let answer = found.answer;
-    MaskFound {
-        answer: from_runs(answer),
-        same: found.same,
-    }
+    let runs = lerc_words::marked(found, 0)?;
+    Ok(MaskFound {
+        mask: Mask::Spare(runs.length),
+        same: runs.same,
+    })
 }
 
 // as `find`
@@ -81,9 +69,9 @@ fn meet(
     reuse: bool,
     kept: &[u8],
     spare: &[u8],
-) -> MaskFound
+) -> Result<MaskFound, Refusal>
     requires { (pixels ≡ Sizes.pixels (shape_of h)) × (n ≡ mask_length (shape_of h)) × (ranges_at h ≤ length s.now) × (n ≤ length kept.now) × (n ≤ length spare.now) }
-    ensures { Mask.Compared (Mask.mask_in s.now h reuse kept.now) result spare.now }
+    ensures { Masks.Compared (Masks.mask_in s.now h reuse kept.now) result spare.now }
 {
     if h.valid == 0 {
         return meet_uniform(h, n, 0, spare);
@@ -98,28 +86,24 @@ fn meet(
 }
 
 // As `find_mask`, but the spare is compared and not written.
-pub fn compare_mask(s: &[u8], h: Header, reuse: bool, kept: &[u8], spare: &[u8]) -> MaskFound
-    ensures { Mask.Compared (Mask.find_says s.now h reuse kept.now (length spare.now)) result spare.now }
+pub fn compare_mask(
+    s: &[u8],
+    h: Header,
+    reuse: bool,
+    kept: &[u8],
+    spare: &[u8],
+) -> Result<MaskFound, Refusal>
+    ensures { Masks.Compared (Masks.find_says s.now h reuse kept.now (length spare.now)) result spare.now }
 {
     let pixels = h.rows as usize * h.columns as usize;
     let n = (pixels + 7) / 8;
     let room = (n <= kept.len()) & (n <= spare.len());
     if !room {
-        return MaskFound {
-            answer: MaskAnswer::Refused(Refusal { number: 5, at: 0 }),
-            same: false,
-        };
+        return Err(Refusal { number: 5, at: 0 });
     }
     if s.len() < HEADER + h.mask as usize {
-        return MaskFound {
-            answer: MaskAnswer::Refused(Refusal { number: 1, at: 0 }),
-            same: false,
-        };
+        return Err(Refusal { number: 1, at: 0 });
     }
     let found = meet(s, h, pixels, n, reuse, kept, spare);
-    let answer = found.answer;
-    MaskFound {
-        answer: answer.at(MASK_FIELD),
-        same: found.same,
-    }
+    lerc_words::marked(found, MASK_FIELD)
 }

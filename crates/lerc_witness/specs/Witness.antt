@@ -29,8 +29,6 @@ use Rattle.lerc.specs.Meaning.{raw_body, block_body, swept_body, constant_body, 
 use Rattle.lerc.specs.Read.{Lent, room, masked, read_says, published, refused_after, read_after}
 use Rattle.lerc_slices.specs.Slices.{begins_with}
 use Rattle.lerc.specs.declared.Staged.{Staged}
-use Rattle.lerc.specs.declared.StageAnswer.{StageAnswer}
-use Rattle.lerc.specs.declared.StageAnswer.TheVariants as stage-answer
 use Rattle.lerc.specs.Stage.{kind_number, stage_says, same_staged, publish_says}
 
 pub record Fields : Type 0 where
@@ -408,12 +406,12 @@ three-blocks = row 1 3 ten twelve [] (0x0A ∷ 0x0C ∷ 0x00 ∷ 0x00 ∷ 0x03 �
 abbrev pub broken-blob : List ℕ
 broken-blob = row 8 2 ten twelve (0x01 ∷ 0x00 ∷ 0xA0 ∷ 0x00 ∷ 0x80 ∷ []) (0x0A ∷ 0x0C ∷ 0x00 ∷ 0x00 ∷ 0x05 ∷ [])
 
-abbrev pub answered : Res Staged → StageAnswer
-answered (ok s) = stage-answer.Staged s
-answered (fail r) = stage-answer.Refused r
+abbrev pub answered : Res Staged → Res Staged
+answered (ok s) = ok s
+answered (fail r) = fail r
 
 -- what staging answers, with slices as a whole read is lent them
-abbrev pub staged_as : List ℕ → StageAnswer
+abbrev pub staged_as : List ℕ → Res Staged
 staged_as b = answered (stage_says b false (lent 3 4))
 
 -- kind of body, count of blocks, end
@@ -433,7 +431,7 @@ stagings =
     ∷ []
 
 -- an answer, published with this spare and this list
-abbrev pub publishing : List ℕ → StageAnswer → List ℕ → List ℕ → Refusal
+abbrev pub publishing : List ℕ → Res Staged → List ℕ → List ℕ → Refusal
 publishing b a spare list = refusal_of (publish_says b false a (record { kept = 7 ∷ []; spare = spare; list = list; image = replicate 4 7 }))
 
 abbrev pub publishings : List Refusal
@@ -447,7 +445,7 @@ publishings =
     ∷ publishing whole-blob (staged_as whole-blob) (255 ∷ 7 ∷ []) (75 ∷ 7 ∷ 7 ∷ [])
     ∷ publishing three-blocks (staged_as three-blocks) (255 ∷ 7 ∷ []) (74 ∷ 76 ∷ 78 ∷ [])
     -- a refused answer, and that of another blob
-    ∷ publishing whole-blob (stage-answer.Refused (refuse 0)) (255 ∷ 7 ∷ []) (74 ∷ 7 ∷ 7 ∷ [])
+    ∷ publishing whole-blob (fail (refuse 0)) (255 ∷ 7 ∷ []) (74 ∷ 7 ∷ 7 ∷ [])
     ∷ publishing whole-blob (staged_as constant-blob) (255 ∷ 7 ∷ []) (74 ∷ 7 ∷ 7 ∷ [])
     -- the list of a body without blocks
     ∷ publishing raw-blob (staged_as raw-blob) (160 ∷ 7 ∷ []) (9 ∷ 9 ∷ 9 ∷ [])

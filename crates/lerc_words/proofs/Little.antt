@@ -9,10 +9,8 @@ use native.Mathlib.Omega.{arith}
 use native.Mathlib.Nat.{pow-suc, pow-succ', pow-zero, pow-le-pow_right, mul_assoc, mul-zero, zero-add, add_assoc, add-zero, suc-add, add-suc, one-mul, add-mul-mod_self_left, add-mul-div_left, div-eq_of_lt, mod-eq_of_lt, one-le-pow}
 use lib.ListN.{length, get_or, get_or-eq_default}
 use lib.Seq.{get_or-append-add}
-use Rattle.lerc_words.specs.Res.{ok, fail, refuse, placed, marked, little, word_at, word_says, word_said, refusal_of_word}
+use Rattle.lerc_words.specs.Res.{Res, ok, fail, refuse, placed, marked, little, word_at, word_says}
 use Rattle.lerc_words.proofs.Marking.{marked-is, Bare, bare-then, bare-no}
-use Rattle.lerc_words.specs.declared.WordAnswer.{WordAnswer}
-use Rattle.lerc_words.specs.declared.WordAnswer.TheVariants as word
 use Rattle.lerc_words.specs.declared.Refusal.{Refusal}
 use lib.Bits.{bit_and, and_mask}
 use lib.Pow.{pow-add, pow-lt}
@@ -207,23 +205,22 @@ pub word_at-bare : (n : ℕ) (s : List ℕ) (at : ℕ) → Bare (word_at n s at)
 unfolding word_at
 word_at-bare n s at = bare-then (leb (at + n) (length s)) 1 _ refl
 
-answered : (s : List ℕ) (at size : ℕ) {r : WordAnswer} {m : WordAnswer} → size ≤ 8 → word_said r ≡ marked at (word_says s at size) → r ≡ m → marked at (word_at size s at) ≡ word_said m
-answered s at size h e d = ap (marked at) (sym (word-at s at size h)) ∙ sym e ∙ ap word_said d
+module _ (s : List ℕ) (at size : ℕ) {r : Res ℕ} (h : size ≤ 8) (e : r ≡ marked at (word_says s at size)) where
+  answered : {m : Res ℕ} → r ≡ m → marked at (word_at size s at) ≡ m
+  answered d = ap (marked at) (sym (word-at s at size h)) ∙ sym e ∙ d
 
-module _ (s : List ℕ) (at size : ℕ) {r : WordAnswer} (h : size ≤ 8) (e : word_said r ≡ marked at (word_says s at size)) where
-  pub read_ok : {v : ℕ} → r ≡ word.Word v → word_at size s at ≡ ok v
-  read_ok d = marked-is at _ (answered s at size h e d)
+  pub read_ok : {v : ℕ} → r ≡ ok v → word_at size s at ≡ ok v
+  read_ok d = marked-is at _ (answered d)
 
   -- refused, and the place taken off
-  pub read_no : {q why : Refusal} → r ≡ word.Refused q → why ≡ placed 0 (refusal_of_word r) → word_at size s at ≡ fail why
-  read_no d f = bare-no at _ (word_at-bare size s at) (answered s at size h e d) (f ∙ ap (λ x. placed 0 (refusal_of_word x)) d)
+  pub read_no : {q : Refusal} → r ≡ fail q → word_at size s at ≡ fail (placed 0 q)
+  read_no d = bare-no at _ (word_at-bare size s at) (answered d) refl
 
   -- refused: 1, at the word's first byte
-  pub read-cut : {q : Refusal} → r ≡ word.Refused q → word_at size s at ≡ fail (refuse 1)
-  read-cut d = word_at-no size s at (word_at-fails size s at (read_no d refl))
+  pub read-cut : {q : Refusal} → r ≡ fail q → word_at size s at ≡ fail (refuse 1)
+  read-cut d = word_at-no size s at (word_at-fails size s at (read_no d))
 
-  pub read-why : {q why : Refusal} → r ≡ word.Refused q → why ≡ refusal_of_word r → why ≡ placed at (refuse 1)
-  read-why {q} d f =
-      let g : marked at (fail (refuse 1)) ≡ word_said (word.Refused q) = ap (marked at) (sym (read-cut d)) ∙ answered s at size h e d in
-      let z : q ≡ placed at (refuse 1) = cc in
-      f ∙ ap refusal_of_word d ∙ z
+  pub read-why : {q : Refusal} → r ≡ fail q → q ≡ placed at (refuse 1)
+  read-why {q} d =
+      let g : marked at (fail (refuse 1)) ≡ fail q = ap (marked at) (sym (read-cut d)) ∙ answered d in
+      cc

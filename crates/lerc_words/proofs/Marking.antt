@@ -7,6 +7,8 @@ use Prim.Native.Nat.{ℕ}
 use native.Mathlib.Omega.{arith}
 use Rattle.lerc_words.specs.Res.{Res, ok, fail, ◌>>=◌, placed, marked, require, after, accepts}
 use Rattle.lerc_words.specs.declared.Refusal.{Refusal}
+use Rattle.std.specs.Result.{IsErrAnd}
+use Rattle.std.proofs.lemmas.Result.{err_from_is_err_and}
 
 -- ---- from the answer to the marked one, and back
 
@@ -77,3 +79,8 @@ bare-no p (fail q) b {r} {why} e f =
     let g : placed p q ≡ r = cc in
     let h : placed 0 q ≡ q = cc in
     ap fail (sym h ∙ ap (placed 0) g ∙ sym f)
+
+-- ---- what the exit of a `?` returns
+
+pub exits : {A : Type 0} {why : Refusal} (r : Res A) → IsErrAnd r (λ y. y ≡ why) → r ≡ fail why
+exits r h = let p = err_from_is_err_and r h in p.1 ∙ ap fail p.2

@@ -12,7 +12,7 @@ abbrev pub tabulate : {A : Type 0} → ℕ → (ℕ → A) → List A
 tabulate n f = from n 0 f
 
 -- new entries in front, the rest as it was
-abbrev pub over : List ℕ → List ℕ → List ℕ
+abbrev pub over : {A : Type 0} → List A → List A → List A
 over front old = front ++ drop (length front) old
 
 -- how many i below n have the property

@@ -2,14 +2,18 @@
 -- that is what `>>=` means, and no other definition says anything about order.
 -- Assumes nothing.
 use Rattle.std.specs.Prelude.{ℕ, zero, suc, ◌+◌, ◌*◌, Bool, true, false, List, [], ◌∷◌, length, get_or, leb}
+use Rattle.std.specs.Prelude.{Result, Ok, Err}
 use Rattle.lerc_words.specs.declared.Refusal.{Refusal}
-use Rattle.lerc_words.specs.declared.WordAnswer.{WordAnswer}
-use Rattle.lerc_words.specs.declared.WordAnswer.TheVariants.{Word, Refused}
 
 -- "A refusal carries its number", and "a place with each number"
-pub data Res (A : Type 0) : Type 0 where
-  ok : A → Res A
-  fail : Refusal → Res A
+abbrev pub Res : Type 0 → Type 0
+Res A = Result A Refusal
+
+pattern abbrev pub ok : {A : Type 0} → A → Res A
+ok a = Ok a
+
+pattern abbrev pub fail : {A : Type 0} → Refusal → Res A
+fail why = Err why
 
 infixl 20 ◌>>=◌
 -- "the first failing read decides the number"
@@ -48,6 +52,11 @@ abbrev pub after : {A : Type 0} → Res A → List ℕ → (A → List ℕ) → 
 after (ok a) old new = new a
 after (fail r) old new = old
 
+-- why it was refused; number 0 where it was not
+abbrev pub refusal_of : {A : Type 0} → Res A → Refusal
+refusal_of (ok a) = refuse 0
+refusal_of (fail why) = why
+
 abbrev pub accepts : {A : Type 0} → Res A → Bool
 accepts (ok a) = true
 accepts (fail r) = false
@@ -62,16 +71,6 @@ unfoldable pub word_at : ℕ → List ℕ → ℕ → Res ℕ
 word_at n s at = do
   _ ← require (leb (at + n) (length s)) 1
   ok (little n s at)
-
--- ---- the answer of `word`
-
-abbrev pub word_said : WordAnswer → Res ℕ
-word_said (Word v) = ok v
-word_said (Refused r) = fail r
-
-abbrev pub refusal_of_word : WordAnswer → Refusal
-refusal_of_word (Word v) = refuse 0
-refusal_of_word (Refused r) = r
 
 -- a word has at most eight bytes
 unfoldable pub word_says : List ℕ → ℕ → ℕ → Res ℕ

@@ -2,10 +2,10 @@
 #![tactic(auto)]
 
 ghost use Rattle.std.specs.Prelude.{◌≡◌, ℕ, ◌+◌, ◌-◌, ◌*◌, ◌^◌, ◌≤◌, ◌<◌, min, length};
-ghost use Rattle.lerc_words.specs.Res.{little, placed, marked, word_said, word_says, refusal_of_word};
+ghost use Rattle.lerc_words.specs.Res.{little, placed, marked, refusal_of, word_says};
 ghost use Rattle.lerc_words.specs.Lists.{tabulate};
 
-#[derive(Clone, Copy)]
+#[derive(Clone, Copy, Debug, PartialEq, Eq)]
 pub struct Refusal {
     pub number: u32,
     // where in the bytes; 0 where no place is told
@@ -22,46 +22,40 @@ impl Refusal {
             at: place,
         }
     }
-}
 
-#[derive(Clone, Copy)]
-pub enum WordAnswer {
-    Word(u64),
-    Refused(Refusal),
-}
-
-impl WordAnswer {
     // why it was refused; number 0 where it was not
-    pub fn refusal(self) -> Refusal
-        ensures { result ≡ refusal_of_word self }
+    pub fn of<A>(answer: &Result<A, Refusal>) -> Refusal
+        ensures { result ≡ refusal_of answer.now }
     {
-        match self {
-            WordAnswer::Word(_v) => Refusal { number: 0, at: 0 },
-            WordAnswer::Refused(why) => why,
+        match answer {
+            Ok(_a) => Refusal { number: 0, at: 0 },
+            Err(why) => *why,
         }
     }
 }
 
-// four bytes, the first the lowest
-fn quad(a: u8, b: u8, c: u8, d: u8) -> u64
-    ensures { result ≡ a + 256 * (b + 256 * (c + 256 * d)) }
+// the same answer, refused at a place
+pub fn marked<A>(answer: Result<A, Refusal>, place: usize) -> Result<A, Refusal>
+    ensures { result ≡ marked place answer }
 {
-    a as u64 + 256 * (b as u64 + 256 * (c as u64 + 256 * (d as u64)))
+    answer.map_err(|why| why.at(place))
 }
 
-fn wide(x: u8) -> u64
-    ensures { result ≡ x }
-{
-    x as u64
-}
-
-// eight bytes from `at` on, which are there
+// eight bytes from `at` on, which are there; by bytes, which compile to one load
 fn eight(s: &[u8], at: usize) -> u64
     requires { at + 8 ≤ length s.now }
     ensures { result ≡ little 8 s.now at }
 {
-    quad(s[at], s[at + 1], s[at + 2], s[at + 3])
-        + 4294967296 * quad(s[at + 4], s[at + 5], s[at + 6], s[at + 7])
+    u64::from_le_bytes([
+        s[at],
+        s[at + 1],
+        s[at + 2],
+        s[at + 3],
+        s[at + 4],
+        s[at + 5],
+        s[at + 6],
+        s[at + 7],
+    ])
 }
 
 // the bytes from `at` to the end, of which there are fewer than eight
@@ -70,10 +64,8 @@ fn tail(s: &[u8], at: usize) -> u64
     ensures { result ≡ little 8 s.now at }
 {
     let mut v: u64 = 0;
-    let mut k = s.len();
-    while at < k {
-        k -= 1;
-        v = v * 256 + wide(s[k]);
+    for k in (at..s.len()).rev() {
+        v = v * 256 + u64::from(s[k]);
     }
     v
 }
@@ -104,19 +96,19 @@ pub fn bytes(s: &[u8], at: usize, size: usize) -> u64
 }
 
 // the word of `size` bytes at `at`; more than eight bytes, or past the end: 1 at its first byte
-pub fn word(s: &[u8], at: usize, size: usize) -> WordAnswer
-    ensures { word_said result ≡ marked at (word_says s.now at size) }
+pub fn word(s: &[u8], at: usize, size: usize) -> Result<u64, Refusal>
+    ensures { result ≡ marked at (word_says s.now at size) }
 {
     if 8 < size {
-        return WordAnswer::Refused(Refusal { number: 1, at });
+        return Err(Refusal { number: 1, at });
     }
     if s.len() < size {
-        return WordAnswer::Refused(Refusal { number: 1, at });
+        return Err(Refusal { number: 1, at });
     }
     if s.len() - size < at {
-        return WordAnswer::Refused(Refusal { number: 1, at });
+        return Err(Refusal { number: 1, at });
     }
-    WordAnswer::Word(bytes(s, at, size))
+    Ok(bytes(s, at, size))
 }
 
 // how many of n words have eight bytes from their first on; none of words that have more than eight
@@ -136,7 +128,7 @@ fn inside(end: usize, at: usize, size: usize, n: usize) -> usize
         return n;
     }
     let few = (end - 8 - at) / size + 1;
-    if few < n { few } else { n }
+    few.min(n)
 }
 
 // the bits of `size` bytes, at most eight
@@ -156,13 +148,10 @@ fn words_inside(s: &[u8], at: usize, size: usize, out: &mut [u64])
     ensures { out.new ≡ tabulate (length out.old) (λ k. little (min size 8) s.now (at + k * size)) }
 {
     let low = low_bits(size);
-    let n = out.len();
     let mut place = at;
-    let mut k = 0;
-    while k < n {
-        out[k] = eight(s, place) & low;
+    for word in out.iter_mut() {
+        *word = eight(s, place) & low;
         place += size;
-        k += 1;
     }
 }
 
@@ -171,11 +160,7 @@ fn onward(place: usize, size: usize, end: usize) -> usize
     requires { place ≤ end }
     ensures { result ≡ min (place + size) end }
 {
-    if end - place < size {
-        end
-    } else {
-        place + size
-    }
+    place + size.min(end - place)
 }
 
 // words that may pass the end, where the place stays
@@ -183,13 +168,10 @@ fn words_rest(s: &[u8], at: usize, size: usize, out: &mut [u64])
     ensures { out.new ≡ tabulate (length out.old) (λ k. little (min size 8) s.now (at + k * size)) }
 {
     let end = s.len();
-    let n = out.len();
-    let mut place = onward(0, at, end);
-    let mut k = 0;
-    while k < n {
-        out[k] = bytes(s, place, size);
+    let mut place = at.min(end);
+    for word in out.iter_mut() {
+        *word = bytes(s, place, size);
         place = onward(place, size, end);
-        k += 1;
     }
 }
 

@@ -1,7 +1,7 @@
 use Rattle.lerc.proofs.is_answer.Goals as goal
 
-pub returns-in-Staged : goal.returns-in-Staged
-returns-in-Staged c = rw c.in-Staged.is c.same_staged.ensures
+pub returns-in-Ok : goal.returns-in-Ok
+returns-in-Ok c = rw c.in-Ok.is c.same_staged.ensures
 
-pub returns-in-Refused : goal.returns-in-Refused
-returns-in-Refused c = rw c.in-Refused.is
+pub returns-in-Err : goal.returns-in-Err
+returns-in-Err c = rw c.in-Err.is

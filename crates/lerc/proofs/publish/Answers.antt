@@ -3,26 +3,25 @@ use Rattle.lerc.proofs.Endings.{header-no, room-no, read_no}
 use Rattle.lerc.proofs.Publishes.{publish-no}
 use Rattle.lerc.specs.Read.{Lent}
 use Rattle.lerc_header.proofs.Kept.{open_no, open-ok}
-use Rattle.lerc_header.specs.Header.{open_said, refusal_of_open}
-use mathlib.Core.Path.{◌∙◌, sym, ap}
+use Rattle.lerc_words.proofs.Marking.{exits}
+use mathlib.Core.Path.{◌∙◌, sym}
 use Rattle.lerc.proofs.publish.Goals as goal
 
-pub returns-in_default : goal.returns-in_default
-returns-in_default c =
+pub returns-in_err-again : goal.returns-in_err-again
+returns-in_err-again c =
     let a = c.args in
     let b = a.blob.now in
     let l : Lent = record { kept = a.kept.now; spare = a.spare.now; list = a.list.now; image = a.image.now } in
-    let told = c.in_default.is in
-    rw (c.refusal.ensures ∙ ap refusal_of_open told)
-    (publish-no b a.reuse a.given l (read_no b a.reuse l (header-no b a.reuse l (open_no b (sym c.open_blob-opened.ensures ∙ ap open_said told)))))
+    rw (exits _ c.from_residual.ensures.1)
+    (publish-no b a.reuse a.given l (read_no b a.reuse l (header-no b a.reuse l (open_no b (sym c.in_err-again.ensures)))))
 
-pub returns-then-not-has_room : goal.returns-then-not-has_room
-returns-then-not-has_room c =
+pub returns-else-has_room : goal.returns-else-has_room
+returns-else-has_room c =
     let a = c.args in
     let b = a.blob.now in
     let l : Lent = record { kept = a.kept.now; spare = a.spare.now; list = a.list.now; image = a.image.now } in
-    let (e, k) = open-ok b (sym c.open_blob-opened.ensures ∙ ap open_said c.in-Open.is) in
-    let none = sym (room-is _ _ l k) ∙ sym c.has_room.ensures ∙ c.if-not-has_room.true in
+    let (e, k) = open-ok b (sym c.in_ok-again.ensures) in
+    let none = sym (room-is _ _ l k) ∙ sym c.has_room.ensures ∙ c.if-has_room.false in
     publish-no b a.reuse a.given l (read_no b a.reuse l (room-no b a.reuse l e none))
 
 pub publish_masked-requires : goal.publish_masked-requires
@@ -30,8 +29,8 @@ publish_masked-requires c =
     let a = c.args in
     let b = a.blob.now in
     let l : Lent = record { kept = a.kept.now; spare = a.spare.now; list = a.list.now; image = a.image.now } in
-    let (e, k) = open-ok b (sym c.open_blob-opened.ensures ∙ ap open_said c.in-Open.is) in
-    (e, sym (room-is _ _ l k) ∙ sym c.has_room.ensures ∙ c.if-not-has_room.false)
+    let (e, k) = open-ok b (sym c.in_ok-again.ensures) in
+    (e, sym (room-is _ _ l k) ∙ sym c.has_room.ensures ∙ c.if-has_room.true)
 
-pub returns : goal.returns
-returns c = c.publish_masked.ensures
+pub returns-then-has_room : goal.returns-then-has_room
+returns-then-has_room c = c.publish_masked.ensures

@@ -1,26 +1,23 @@
-use mathlib.Core.Path.{◌∙◌, ap}
+use mathlib.Core.Path.{refl}
+use Rattle.lerc_words.proofs.Marking.{exits}
 use Rattle.lerc.specs.Read.{Lent}
-use Rattle.lerc.specs.Stage.{refusal_of_stage}
 use Rattle.lerc.proofs.Both.{read-refused, read-not, read_done}
 use Rattle.lerc.proofs.read.Goals as goal
 
-pub returns-in_default : goal.returns-in_default
-returns-in_default c =
+pub returns-in_err-found : goal.returns-in_err-found
+returns-in_err-found c =
     let a = c.args in
     let l : Lent = record { kept = a.kept.now; spare = a.spare.now; list = a.list.now; image = a.image.now } in
-    let told = c.in_default.is in
-    rw (c.refusal.ensures ∙ ap refusal_of_stage told) (read-refused a.blob.now a.reuse l (rw (told) at c.stage-given.ensures))
+    rw (exits _ c.from_residual.ensures.1) (read-refused a.blob.now a.reuse l c.in_err-found.ensures)
 
-pub returns-in_default-done : goal.returns-in_default-done
-returns-in_default-done c =
+pub returns-in_err-done : goal.returns-in_err-done
+returns-in_err-done c =
     let a = c.args in
     let l : Lent = record { kept = a.kept.now; spare = a.spare.now; list = a.list.now; image = a.image.now } in
-    let t = rw c.in-Staged.is at c.stage-given.ensures in
-    absurd (read-not a.blob.now a.reuse l t c.publish-done.ensures c.in_default-done.is)
+    absurd (read-not a.blob.now a.reuse l c.in_ok-found.ensures c.in_err-done.ensures refl)
 
 pub returns : goal.returns
 returns c =
     let a = c.args in
     let l : Lent = record { kept = a.kept.now; spare = a.spare.now; list = a.list.now; image = a.image.now } in
-    let t = rw c.in-Staged.is at c.stage-given.ensures in
-    read_done a.blob.now a.reuse l t c.publish-done.ensures c.in-Published.is
+    read_done a.blob.now a.reuse l c.in_ok-found.ensures c.in_ok-done.ensures refl

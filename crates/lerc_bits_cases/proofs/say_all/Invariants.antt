@@ -1,9 +1,6 @@
--- The loop stays within s, and each turn passes a record.
-use Rattle.std.proofs.Common.{◌-◌, ◌≤◌, length}
+-- Each turn passes a record.
+use Rattle.std.proofs.Common.{length}
 use Rattle.lerc_bits_cases.proofs.say_all.Given as goal
 
-abbrev pub invariant-loop-at : goal.invariant-loop-at
-invariant-loop-at g l = l.at ≤ length l.s
-
-abbrev pub decreases-loop-at : goal.decreases-loop-at
-decreases-loop-at g l = length l.s - l.at
+abbrev pub decreases-loop-rest : goal.decreases-loop-rest
+decreases-loop-rest g l = length l.rest

@@ -1,9 +1,8 @@
-use mathlib.Core.Path.{refl}
+use mathlib.Core.Path.{sym}
 use native.Mathlib.Omega.{arith}
-use Rattle.lerc_samples.specs.Samples.{stored_said, refusal_of_stored}
-use Rattle.lerc_block.proofs.Returns.{said_ok, said-no}
+use Rattle.lerc_words.proofs.Marking.{exits}
 use Rattle.lerc_block.proofs.StepWords.{converted-all, converted-no}
-use Rattle.lerc_words.proofs.Each.{staged-none, staged-length, staged-more, staged-fails, staged_done}
+use Rattle.lerc_words.proofs.Each.{staged-none, staged-more, staged-fails, staged_done}
 use Rattle.lerc_block.specs.Steps.{step_word}
 use Rattle.lerc_block.proofs.convert.Goals as goal
 
@@ -12,30 +11,15 @@ loop-k-init c =
     let a = c.args in
     staged-none (step_word a.kind a.error a.top a.offset) a.counts.now a.out.now (omega arith)
 
-pub shape_of-out-in_default : goal.shape_of-out-in_default
-shape_of-out-in_default c =
+pub returns-in_err-out : goal.returns-in_err-out
+returns-in_err-out c =
     let a = c.args in
-    staged-length (step_word a.kind a.error a.top a.offset) a.counts.now c.loop-k.k a.out.now c.loop-k.out c.loop-k.invariant
-
-pub returns-in_default : goal.returns-in_default
-returns-in_default c =
-    let a = c.args in
-    converted-no (staged-fails (step_word a.kind a.error a.top a.offset) a.counts.now c.loop-k.k a.out.now c.loop-k.out c.loop-k.invariant c.loop-k-test.true (said-no stored_said c.step-a.ensures c.in_default.is refusal_of_stored c.refusal-why.ensures refl))
-
-pub bounds-out-k : goal.bounds-out-k
-bounds-out-k c =
-    let a = c.args in
-    omega (arith, staged-length (step_word a.kind a.error a.top a.offset) a.counts.now c.loop-k.k a.out.now c.loop-k.out c.loop-k.invariant)
+    converted-no (exits _ c.from_residual.ensures.1) (staged-fails (step_word a.kind a.error a.top a.offset) a.counts.now c.loop-k.k a.out.now c.loop-k.out c.loop-k.invariant (omega arith) (sym c.in_err-out.ensures))
 
 pub loop-k-preserved : goal.loop-k-preserved
 loop-k-preserved c =
     let a = c.args in
-    staged-more (step_word a.kind a.error a.top a.offset) a.counts.now c.loop-k.k a.out.now c.loop-k.out c.loop-k.invariant _ c.loop-k-test.true (said_ok stored_said c.step-a.ensures c.in-Word.is refl)
-
-pub shape_of-out : goal.shape_of-out
-shape_of-out c =
-    let a = c.args in
-    staged-length (step_word a.kind a.error a.top a.offset) a.counts.now c.loop-k.k a.out.now c.loop-k.out c.loop-k.invariant
+    staged-more (step_word a.kind a.error a.top a.offset) a.counts.now c.loop-k.k a.out.now c.loop-k.out c.loop-k.invariant _ (omega arith) (sym c.in_ok-out.ensures)
 
 pub returns : goal.returns
 returns c =

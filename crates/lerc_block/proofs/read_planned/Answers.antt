@@ -17,8 +17,8 @@ use Rattle.lerc_block.proofs.read_planned.Goals as goal
 pub slice_bounds-words-end-in-Raw : goal.slice_bounds-words-end-in-Raw
 slice_bounds-words-end-in-Raw c = simp length-take (omega arith)
 
-pub slice_bounds-fill_words-end-in-Zero : goal.slice_bounds-fill_words-end-in-Zero
-slice_bounds-fill_words-end-in-Zero c = simp length-take (omega arith)
+pub slice_bounds-fill-end-in-Zero : goal.slice_bounds-fill-end-in-Zero
+slice_bounds-fill-end-in-Zero c = simp length-take (omega arith)
 
 pub read_steps-requires : goal.read_steps-requires
 read_steps-requires c =
@@ -37,7 +37,7 @@ unfolding planned_block form_words
 returns-in-Zero c =
     let a = c.args in
     rw c.in-Zero.is
-    (given (replicate a.n 0) a.n refl (length-replicate a.n 0) (front-filled 0 a.n a.words.now (omega arith) c.fill_words.ensures))
+    (given (replicate a.n 0) a.n refl (length-replicate a.n 0) (front-filled 0 a.n a.words.now (omega arith) c.fill.ensures))
 
 pub returns-in-Level : goal.returns-in-Level
 unfolding planned_block form_words level_block

@@ -12,4 +12,4 @@ returns-then-place-lt1 c =
 pub returns : goal.returns
 returns c =
     let p = c.args.place.now in
-    somewhere p c.fill-fill_why.result (rw (le-leb 1 (length p) c.if-place-lt1.false) c.fill-fill_why.ensures)
+    somewhere p c.of-fill_why.result (rw (le-leb 1 (length p) c.if-place-lt1.false, c.of-fill_why.ensures) c.fill.ensures)

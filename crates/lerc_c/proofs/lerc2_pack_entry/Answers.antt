@@ -12,4 +12,4 @@ returns-then-place-lt1 c =
 pub returns : goal.returns
 returns c =
     let p = c.args.place.now in
-    somewhere p c.read_entry-entry_why.result (rw (le-leb 1 (length p) c.if-place-lt1.false) c.read_entry-entry_why.ensures)
+    somewhere p c.of-entry_why.result (rw (le-leb 1 (length p) c.if-place-lt1.false, c.of-entry_why.ensures) c.read_entry.ensures)

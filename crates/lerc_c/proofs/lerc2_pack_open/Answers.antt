@@ -12,4 +12,4 @@ returns-then-place-lt1 c =
 pub returns : goal.returns
 returns c =
     let p = c.args.place.now in
-    somewhere p c.open_pack-open_why.result (rw (le-leb 1 (length p) c.if-place-lt1.false) c.open_pack-open_why.ensures)
+    somewhere p c.of-open_why.result (rw (le-leb 1 (length p) c.if-place-lt1.false, c.of-open_why.ensures) c.open_pack.ensures)

@@ -12,4 +12,4 @@ returns-then-place-lt1 c =
 pub returns : goal.returns
 returns c =
     let p = c.args.place.now in
-    somewhere p c.write_pack-write_why.result (rw (le-leb 1 (length p) c.if-place-lt1.false) c.write_pack-write_why.ensures)
+    somewhere p c.of-write_why.result (rw (le-leb 1 (length p) c.if-place-lt1.false, c.of-write_why.ensures) c.write_pack.ensures)

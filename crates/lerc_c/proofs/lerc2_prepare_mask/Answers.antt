@@ -12,4 +12,4 @@ returns-then-place-lt1 c =
 pub returns : goal.returns
 returns c =
     let p = c.args.place.now in
-    somewhere p c.prepare_mask-mask_why.result (rw (le-leb 1 (length p) c.if-place-lt1.false) c.prepare_mask-mask_why.ensures)
+    somewhere p c.of-mask_why.result (rw (le-leb 1 (length p) c.if-place-lt1.false, c.of-mask_why.ensures) c.prepare_mask.ensures)

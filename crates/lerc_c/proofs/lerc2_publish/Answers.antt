@@ -12,4 +12,4 @@ returns-then-place-lt1 c =
 pub returns : goal.returns
 returns c =
     let p = c.args.place.now in
-    somewhere p c.publish-publish_why.result (rw (le-leb 1 (length p) c.if-place-lt1.false) c.publish-publish_why.ensures)
+    somewhere p c.of-publish_why.result (rw (le-leb 1 (length p) c.if-place-lt1.false, c.of-publish_why.ensures) c.publish.ensures)

@@ -14,4 +14,4 @@ returns-then-place-lt1 c =
 pub returns : goal.returns
 returns c =
     let p = c.args.place.now in
-    somewhere p c.read-read_why.result (rw (le-leb 1 (length p) c.if-place-lt1.false) c.read-read_why.ensures)
+    somewhere p c.of-read_why.result (rw (le-leb 1 (length p) c.if-place-lt1.false, c.of-read_why.ensures) c.read.ensures)

@@ -12,4 +12,4 @@ returns-then-place-lt1 c =
 pub returns : goal.returns
 returns c =
     let p = c.args.place.now in
-    somewhere p c.read_header-header_why.result (rw (le-leb 1 (length p) c.if-place-lt1.false) c.read_header-header_why.ensures)
+    somewhere p c.of-header_why.result (rw (le-leb 1 (length p) c.if-place-lt1.false, c.of-header_why.ensures) c.read_header.ensures)

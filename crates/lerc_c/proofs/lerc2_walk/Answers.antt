@@ -12,4 +12,4 @@ returns-then-place-lt1 c =
 pub returns : goal.returns
 returns c =
     let p = c.args.place.now in
-    somewhere p c.walk-walk_why.result (rw (le-leb 1 (length p) c.if-place-lt1.false) c.walk-walk_why.ensures)
+    somewhere p c.of-walk_why.result (rw (le-leb 1 (length p) c.if-place-lt1.false, c.of-walk_why.ensures) c.walk.ensures)

@@ -1,61 +1,51 @@
-use mathlib.Core.Path.{◌≡◌, ◌∙◌, ap}
-use native.Mathlib.Omega.{arith}
-use Rattle.lerc_block.specs.Block.{refusal_of_block, block_said, next_block}
-use Rattle.lerc_image.specs.Blocks.{block_at}
+use mathlib.Core.Path.{◌∙◌, ap, refl}
+use Rattle.lerc_words.proofs.Marking.{exits}
+use Rattle.lerc_block.specs.Block.{next_block}
 use Rattle.lerc_image.specs.Parts.{BlockTile}
 use Rattle.lerc_image.proofs.Reading.{said-refused}
 use Rattle.lerc_image.proofs.Rows.{carried_none}
-use Rattle.lerc_image.proofs.Standing.{here-depth, here-read, here-carried, standing-within, standing-tile, standing-count, standing-few}
+use Rattle.lerc_image.proofs.Standing.{here-depth, here-read, here-carried, standing-within, standing-tile, standing-count}
 use Rattle.lerc_image.proofs.Walking.{walking-none, walking-all, walking-no, walking-next}
 use Rattle.lerc_image.proofs.check_blocks.Goals as goal
-use Rattle.lerc_image.proofs.check_blocks.Goals.{After-check_at-got, After-current-t}
+use Rattle.lerc_image.proofs.check_blocks.Goals.{After-current-t}
 
 -- block n and its tile
 tile : (c : After-current-t) →
     let a = c.args in
-    BlockTile a.h a.e.shape c.loop-n.n c.current-t.result
-tile c = standing-tile c.loop-n.invariant.0.stands c.loop-n-test.true c.current-t.ensures
+    BlockTile a.h a.e.shape c.loop.counter c.current-t.result
+tile c = standing-tile c.loop.invariant.0.stands c.loop-test.true c.current-t.ensures
 
--- what was judged is block n
-judged : (c : After-check_at-got) →
-    let a = c.args in
-    block_said c.check_at-got.result ≡ next_block (block_at a.s.now a.h a.maxima.now a.mask.now c.loop-n.n c.loop-n.next)
-judged c = c.check_at-got.ensures ∙ ap next_block (here-read (tile (goal.at.After-check_at-got c).After-current-t) _ _ _ _ c.valid_here-valid.ensures)
-
-pub loop-n-init : goal.loop-n-init
-loop-n-init c = (rw c.start-p.ensures (walking-none _ _ _ _ c.requires), carried_none _ _ _)
+pub loop-init : goal.loop-init
+loop-init c = (rw c.start-p.ensures (walking-none _ _ _ _ c.requires), carried_none _ _ _)
 
 pub current-t-requires : goal.current-t-requires
-current-t-requires c = let w = c.loop-n.invariant.0.stands in record { shaped = w.asked.shaped; has_tile = standing-within w c.loop-n-test.true }
+current-t-requires c = let w = c.loop.invariant.0.stands in record { shaped = w.asked.shaped; has_tile = standing-within w c.loop-test.true }
 
 pub valid_here-valid-requires : goal.valid_here-valid-requires
 valid_here-valid-requires c =
-    standing-count c.loop-n.invariant.0.stands c.loop-n-test.true c.current-t.ensures c.all_valid-full.ensures c.loop-n.invariant.1
+    standing-count c.loop.invariant.0.stands c.loop-test.true c.current-t.ensures c.all_valid-full.ensures c.loop.invariant.1
 
-pub check_at-got-requires : goal.check_at-got-requires
-check_at-got-requires c = here-depth (tile (goal.at.check_at-got-requires c).After-current-t)
+pub check_at-requires : goal.check_at-requires
+check_at-requires c = here-depth (tile (goal.at.check_at-requires c).After-current-t)
 
-pub returns-in_default : goal.returns-in_default
-returns-in_default c =
-    let told = c.in_default.is in
-    let j = (goal.at.returns-in_default c).After-check_at-got in
-    rw (c.refusal.ensures ∙ ap refusal_of_block told) (walking-no c.loop-n.invariant.0 c.loop-n-test.true (said-refused (judged j) told))
+pub returns-in_err-next : goal.returns-in_err-next
+returns-in_err-next c =
+    let t = tile (goal.at.returns-in_err-next c).After-current-t in
+    let judged = c.in_err-next.ensures ∙ ap next_block (here-read t _ _ _ _ c.valid_here-valid.ensures) in
+    exits _ c.from_residual.ensures.1 ∙ walking-no c.loop.invariant.0 c.loop-test.true (said-refused judged refl)
 
 pub advance-p-requires : goal.advance-p-requires
 advance-p-requires c =
-    let w = c.loop-n.invariant.0.stands in
-    record { shaped = w.asked.shaped; has_tile = standing-within w c.loop-n-test.true }
+    let w = c.loop.invariant.0.stands in
+    record { shaped = w.asked.shaped; has_tile = standing-within w c.loop-test.true }
 
-pub overflow_add-n : goal.overflow_add-n
-overflow_add-n c =
-    omega (arith, standing-few c.loop-n.invariant.0.stands c.loop-n-test.true)
-
-pub loop-n-preserved : goal.loop-n-preserved
-loop-n-preserved c =
-    let j = (goal.at.loop-n-preserved c).After-check_at-got in (
-      rw c.advance-p.ensures (walking-next c.loop-n.invariant.0 c.loop-n-test.true (judged j) c.in-Block.is),
-      here-carried (tile (goal.at.loop-n-preserved c).After-current-t) _ c.valid_here-valid.ensures,
+pub loop-preserved : goal.loop-preserved
+loop-preserved c =
+    let t = tile (goal.at.loop-preserved c).After-current-t in
+    let judged = c.in_ok-next.ensures ∙ ap next_block (here-read t _ _ _ _ c.valid_here-valid.ensures) in (
+      rw c.advance-p.ensures (walking-next c.loop.invariant.0 c.loop-test.true judged refl),
+      here-carried t _ c.valid_here-valid.ensures,
     )
 
 pub returns : goal.returns
-returns c = walking-all c.loop-n.invariant.0 c.loop-n-test.false
+returns c = walking-all c.loop.invariant.0 c.loop-test.false

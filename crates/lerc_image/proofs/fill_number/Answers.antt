@@ -1,7 +1,7 @@
 mod Number
-use mathlib.Core.Path.{◌∙◌, ap}
+use mathlib.Core.Path.{◌∙◌, ap, refl}
 use native.Mathlib.Omega.{arith}
-use Rattle.lerc_block.specs.Block.{refusal_of_block}
+use Rattle.lerc_words.proofs.Marking.{exits}
 use Rattle.lerc_image.specs.Geometry.{valid_in_tile}
 use Rattle.lerc_image.proofs.Reading.{filled-refused, filled-accepted}
 use lib.ListN.{length-take}
@@ -31,17 +31,15 @@ tile c =
 pub count_valid-valid-requires : goal.count_valid-valid-requires
 count_valid-valid-requires c = here_in (tile c)
 
-pub put_at-got-requires : goal.put_at-got-requires
-put_at-got-requires c =
-    let t = (goal.at.put_at-got-requires c).After-current-t in
+pub put_at-requires : goal.put_at-requires
+put_at-requires c =
+    let t = (goal.at.put_at-requires c).After-current-t in
     let a = c.requires in
     (tile t, c.count_valid-valid.ensures, number-room a)
 
-pub returns-in_default : goal.returns-in_default
-returns-in_default c =
-    let told = c.in_default.is in
-    rw (c.refusal.ensures ∙ ap refusal_of_block told) (filled-refused c.put_at-got.ensures told)
+pub returns-in_err-put_at : goal.returns-in_err-put_at
+returns-in_err-put_at c = rw (exits c.from_residual.result c.from_residual.ensures.1) (filled-refused c.in_err-put_at.ensures refl)
 
 pub returns : goal.returns
 returns c =
-    filled-accepted c.put_at-got.ensures c.in-Block.is (c.count_valid-valid.ensures ∙ ap (valid_in_tile _ _) (tile (goal.at.returns c).After-current-t).tile)
+    filled-accepted c.in_ok-put_at.ensures refl (c.count_valid-valid.ensures ∙ ap (valid_in_tile _ _) (tile (goal.at.returns c).After-current-t).tile)

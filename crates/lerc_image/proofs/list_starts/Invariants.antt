@@ -1,19 +1,14 @@
 pub mod Turn
 use mathlib.Core.Path.{◌≡◌, ◌∙◌, sym, ap}
-use Prim.Native.Nat.{◌-◌}
 use native.Mathlib.Omega.{arith}
 use lib.ListN.{length-set}
 use borrow.Author.Rules.{rules}
 use Rattle.lerc_words.specs.Res.{marked}
 use Rattle.lerc_words.proofs.Marking.{marked-is, marked-fails}
-use Rattle.lerc_block.specs.Block.{block_said}
 use Rattle.lerc_image.specs.Tiles.{block_end}
 use Rattle.lerc_image.proofs.Standing.{here_in, here_end, Standing, standing-none, standing-tile, standing-within, standing-few, standing-next}
 use Rattle.lerc_image.proofs.list_starts.Invariants.Turn.{Heads, heads-begin, heads-all, heads-no, heads-next}
 use Rattle.lerc_image.proofs.list_starts.Given as goal
 
 abbrev pub invariant-loop-k : goal.invariant-loop-k
-invariant-loop-k l = Standing l.h l.e l.p l.k × Heads l.s l.h l.mask l.e.blocks l.at l.initial.list l.list l.k l.start
-
-abbrev pub decreases-loop-k : goal.decreases-loop-k
-decreases-loop-k l = l.e.blocks - l.k
+invariant-loop-k l = Standing l.h l.fn.e l.p l.k × Heads l.s l.h l.mask l.fn.e.blocks l.at l.initial.list l.list l.k l.start

@@ -20,4 +20,4 @@ returns c =
     let a = c.args in
     let byte : get_or a.mask.now (a.pixel / 8) 0 < 256 = omega (arith, c.type_inv.mask (a.pixel / 8)) in
     let up = moved_up (get_or a.mask.now (a.pixel / 8) 0) (a.pixel % 8) byte (mod-lt a.pixel (omega arith)) in
-    rw c.wide.ensures (ap (λ (n : ℕ). eqb (n % 2) 1) up)
+    rw c.from.ensures (ap (λ (n : ℕ). eqb (n % 2) 1) up)

@@ -22,13 +22,13 @@ overflow_add-end c =
     let f = rw c.in-Copy.is at c.read_step-run.ensures.1 in
     omega arith
 
-pub slice_bounds-copy_bytes-end : goal.slice_bounds-copy_bytes-end
-slice_bounds-copy_bytes-end c =
+pub slice_bounds-copy-end : goal.slice_bounds-copy-end
+slice_bounds-copy-end c =
     let f = rw c.in-Copy.is at c.read_step-run.ensures.1 in
     omega arith
 
-pub slice_bounds-copy_bytes-end-in-Copy : goal.slice_bounds-copy_bytes-end-in-Copy
-slice_bounds-copy_bytes-end-in-Copy c =
+pub slice_bounds-copy-end-in-Copy : goal.slice_bounds-copy-end-in-Copy
+slice_bounds-copy-end-in-Copy c =
     let f = rw c.in-Copy.is at c.read_step-run.ensures.1 in
     omega arith
 
@@ -47,8 +47,8 @@ bounds-s-at c =
     let f = rw c.in-Repeat.is at c.read_step-run.ensures.1 in
     omega arith
 
-pub slice_bounds-fill_bytes-end : goal.slice_bounds-fill_bytes-end
-slice_bounds-fill_bytes-end c =
+pub slice_bounds-fill-end : goal.slice_bounds-fill-end
+slice_bounds-fill-end c =
     let f = rw c.in-Repeat.is at c.read_step-run.ensures.1 in
     omega arith
 
@@ -66,7 +66,7 @@ returns-in-Copy c =
     let f = rw c.in-Copy.is at c.read_step-run.ensures.1 in
     let l = length-copied a.s.now (a.at + 2) n f.1 in
     let d : a.at + 2 + n - (a.at + 2) ≡ n = omega arith in
-    (rw (e, l), rw (c.copy_bytes.ensures, e, l, d) (part-copied a.out.now (take n (drop (a.at + 2) a.s.now)) a.made n (omega arith) l))
+    (rw (e, l), rw (c.copy.ensures, e, l, d) (part-copied a.out.now (take n (drop (a.at + 2) a.s.now)) a.made n (omega arith) l))
 
 pub returns-in-Repeat : goal.returns-in-Repeat
 unfolding put_on put_out
@@ -75,7 +75,7 @@ returns-in-Repeat c =
     let a = c.args in
     let n = c.in-Repeat.n in
     let f = rw c.in-Repeat.is at c.read_step-run.ensures.1 in
-    (rw (e, length-replicate), rw (c.fill_bytes.ensures, e, length-replicate) (part_filled a.out.now _ a.made n (omega arith)))
+    (rw (e, length-replicate), rw (c.fill.ensures, e, length-replicate) (part_filled a.out.now _ a.made n (omega arith)))
 
 pub returns-in-End : goal.returns-in-End
 unfolding put_on put_out

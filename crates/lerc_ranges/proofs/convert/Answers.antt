@@ -1,12 +1,13 @@
+use Rattle.lerc_words.proofs.Marking.{exits}
 use Prim.Native.Nat.{◌<◌}
 use lib.Seq.{get_or-take}
 use Rattle.lerc_words.specs.Res.{ok, fail}
 use Prim.Native.Nat.{◌≤◌}
-use mathlib.Core.Path.{◌≡◌, ◌∙◌, sym, ap}
+use mathlib.Core.Path.{◌≡◌, ◌∙◌, sym}
 use lib.ListN.{length, get_or, take, replicate, length-take, length-replicate}
 use native.Mathlib.Omega.{arith}
 use Rattle.lerc_words.proofs.Each.{staged-none, staged-more, staged-fails, staged_done}
-use Rattle.lerc_samples.specs.Samples.{stored, stored_said, refusal_of_stored}
+use Rattle.lerc_samples.specs.Samples.{stored}
 use Rattle.lerc_header.specs.Limits.{depth_limit}
 use Rattle.lerc_ranges.specs.Ranges.{constant_words}
 use Rattle.lerc_ranges.proofs.convert.Goals as goal
@@ -19,17 +20,16 @@ loop-i-init c =
 pub bounds-values-i : goal.bounds-values-i
 bounds-values-i c = omega (arith, c.within-n.ensures)
 
-pub returns-in_default : goal.returns-in_default
+pub returns-in_err-words : goal.returns-in_err-words
 unfolding constant_words
-returns-in_default c =
-    let w = c.in_default.is in
+returns-in_err-words c =
     let a = c.args in
     let xs = take a.depth a.values in
     let i = c.loop-i.i in
     let k : i < a.depth = omega (arith, c.within-n.ensures) in
     let h : i < length xs = simp (length-take) (omega (arith, c.well_formed, c.within-n.ensures)) in
-    let e : stored a.kind (get_or xs i 0) ≡ fail c.refusal.result = rw (get_or-take) (sym c.stored-got.ensures ∙ ap stored_said w ∙ ap fail (sym (c.refusal.ensures ∙ ap refusal_of_stored w))) in
-    rw (staged-fails (stored a.kind) xs i (replicate depth_limit 0) c.loop-i.words c.loop-i.invariant h e)
+    let e : stored a.kind (get_or xs i 0) ≡ fail c.in_err-words.field-0.0 = rw (get_or-take) (sym c.in_err-words.ensures) in
+    exits _ c.from_residual.ensures.1 ∙ rw (staged-fails (stored a.kind) xs i (replicate depth_limit 0) c.loop-i.words c.loop-i.invariant h e)
 
 pub bounds-words-i : goal.bounds-words-i
 bounds-words-i c = omega (arith, c.within-n.ensures)
@@ -41,8 +41,8 @@ loop-i-preserved c =
     let i = c.loop-i.i in
     let k : i < a.depth = omega (arith, c.within-n.ensures) in
     let h : i < length xs = simp (length-take) (omega (arith, c.well_formed, c.within-n.ensures)) in
-    let e : stored a.kind (get_or xs i 0) ≡ ok c.in-Word.w = rw (get_or-take) (sym c.stored-got.ensures ∙ ap stored_said c.in-Word.is) in
-    staged-more (stored a.kind) xs i (replicate depth_limit 0) c.loop-i.words c.loop-i.invariant c.in-Word.w h e
+    let e : stored a.kind (get_or xs i 0) ≡ ok c.in_ok-words.field-0 = rw (get_or-take) (sym c.in_ok-words.ensures) in
+    staged-more (stored a.kind) xs i (replicate depth_limit 0) c.loop-i.words c.loop-i.invariant c.in_ok-words.field-0 h e
 
 pub returns : goal.returns
 unfolding constant_words

@@ -1,4 +1,3 @@
-use Prim.Native.Nat.{◌-◌}
 use lib.ListN.{take, replicate}
 use Rattle.lerc_words.proofs.Each.{Staged}
 use Rattle.lerc_samples.specs.Samples.{stored}
@@ -7,6 +6,3 @@ use Rattle.lerc_ranges.proofs.convert.Given as goal
 
 abbrev pub invariant-loop-i : goal.invariant-loop-i
 invariant-loop-i l = Staged (stored l.kind) (take l.depth l.values) l.i (replicate depth_limit 0) l.words
-
-abbrev pub decreases-loop-i : goal.decreases-loop-i
-decreases-loop-i l = l.n - l.i

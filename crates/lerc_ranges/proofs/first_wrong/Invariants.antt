@@ -1,4 +1,3 @@
-use Prim.Native.Nat.{◌≤◌, ◌-◌}
 use mathlib.Core.Path.{◌≡◌}
 use mathlib.Core.Bool.{true}
 use Rattle.lerc_ranges.specs.Ranges.{pairs_right}
@@ -6,7 +5,4 @@ use Rattle.lerc_ranges.proofs.first_wrong.Given as goal
 
 -- every pair before i is right
 abbrev pub invariant-loop-i : goal.invariant-loop-i
-invariant-loop-i l = (l.i ≤ l.depth) × (pairs_right l.i l.r ≡ true)
-
-abbrev pub decreases-loop-i : goal.decreases-loop-i
-decreases-loop-i l = l.depth - l.i
+invariant-loop-i l = (pairs_right l.i l.r ≡ true)

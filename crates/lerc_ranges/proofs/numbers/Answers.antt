@@ -8,7 +8,7 @@ use Rattle.lerc_ranges.proofs.ByDepth.{by-depth-none, by-depth-more, number-peek
 use Rattle.lerc_ranges.proofs.numbers.Goals as goal
 
 pub loop-i-init : goal.loop-i-init
-loop-i-init c = (omega arith, by-depth-none _ _)
+loop-i-init c = by-depth-none _ _
 
 pub overflow_mul-i : goal.overflow_mul-i
 overflow_mul-i c =
@@ -27,9 +27,9 @@ loop-i-preserved c =
     let b : Bytes s = λ i. omega (arith, c.type_inv.s i) in
     let e : c.number.result ≡ number_at a.kind s a.at c.loop-i.i = rw (c.number.ensures, c.peek.ensures, c.size-step.ensures) (number-peek a.kind s a.at c.loop-i.i b) in
     let h : c.loop-i.i < depth_limit = omega arith in
-    (omega arith, rw (c.loop-i.invariant.1, e) (by-depth-more c.loop-i.i (number_at a.kind s a.at) a.rest h))
+    rw (c.loop-i.invariant, e) (by-depth-more c.loop-i.i (number_at a.kind s a.at) a.rest h)
 
 pub returns : goal.returns
 returns c =
     let e : c.loop-i.i ≡ c.args.depth = omega arith in
-    rw (c.loop-i.invariant.1, e)
+    rw (c.loop-i.invariant, e)

@@ -1,16 +1,15 @@
-use mathlib.Core.Path.{◌≡◌, sym}
-use native.Mathlib.Omega.{arith}
-use Rattle.lerc_ranges.proofs.ByDepth.{pairs-none, pairs-more}
+use Rattle.std.proofs.Common.{rules, tests, ◌≡◌, arith, true, false}
+use Rattle.std.proofs.lemmas.Iterator.{cases_from_all, YieldsList-from_slice, YieldsList-from_zip}
+use lib.ListN.{take}
+use Rattle.lerc_header.specs.Header.{pair_right}
+use Rattle.lerc_ranges.specs.Ranges.{pairs_right}
+use Rattle.lerc_ranges.proofs.Zipped.{all-pairs}
 use Rattle.lerc_ranges.proofs.pairs_right.Goals as goal
 
-pub loop-i-init : goal.loop-i-init
-loop-i-init c = (omega arith, sym (pairs-none _))
-
-pub loop-i-preserved : goal.loop-i-preserved
-loop-i-preserved c =
-    (omega arith, rw (pairs-more, c.loop-i.invariant.1, c.pair_right-all.ensures))
-
 pub returns : goal.returns
+unfolding pairs_right
 returns c =
-    let e : c.loop-i.i ≡ c.args.depth = omega arith in
-    rw (c.loop-i.invariant.1, e)
+    let a = c.args in
+    all-pairs pair_right a.depth a.r.min a.r.max (omega arith) (omega arith) c.all.result
+    (cases_from_all c.all.new.self _ _ (λ p. pair_right p.0 p.1 ≡ true) (λ p. pair_right p.0 p.1 ≡ false) c.all.ensures.ran
+    (YieldsList-from_zip {s = c.zip.result} (YieldsList-from_slice (take a.depth a.r.min) cc) (YieldsList-from_slice (take a.depth a.r.max) cc)) (λ x q k. search (rules, tests)) (λ x q k. search (rules, tests)))

@@ -6,17 +6,16 @@ use Rattle.lerc_ranges.proofs.ranges_in.Goals as goal
 
 pub returns-then-h-gt-DEPTHS : goal.returns-then-h-gt-DEPTHS
 unfolding ranges_in_says
-returns-then-h-gt-DEPTHS c = rw (c.refused.ensures, lt-leb _ depth_limit c.if-h-gt-DEPTHS.true)
+returns-then-h-gt-DEPTHS c = rw (lt-leb _ depth_limit c.if-h-gt-DEPTHS.true)
 
 pub returns-then-same : goal.returns-then-same
 unfolding ranges_in_says ranges_says
-returns-then-same c = rw (c.uniform-ranges.ensures, le-leb _ _ c.if-h-gt-DEPTHS.false, sym c.same.ensures ∙ c.if-same.true)
+returns-then-same c = rw (c.uniform.ensures, le-leb _ _ c.if-h-gt-DEPTHS.false, sym c.same.ensures ∙ c.if-same.true)
 
 pub returns-then-s-h : goal.returns-then-s-h
 unfolding ranges_in_says ranges_says
 returns-then-s-h c =
     rw (
-      c.refused-then-s-h.ensures,
       le-leb _ _ c.if-h-gt-DEPTHS.false,
       sym c.same.ensures ∙ c.if-same.false,
       lt-leb _ _ (rw c.width-width.ensures.0 at c.if-s-h.true),
@@ -31,7 +30,6 @@ pub returns-then-not-pairs_right : goal.returns-then-not-pairs_right
 unfolding ranges_in_says ranges_says
 returns-then-not-pairs_right c =
     rw (
-      c.refused-then-not-pairs_right.ensures,
       c.wrong_number.ensures,
       le-leb _ _ c.if-h-gt-DEPTHS.false,
       sym c.same.ensures ∙ c.if-same.false,

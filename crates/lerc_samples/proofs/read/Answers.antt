@@ -1,12 +1,14 @@
+use mathlib.Core.Path.{refl, ◌∙◌}
+use Rattle.lerc_words.proofs.Marking.{exits}
 use Rattle.lerc_samples.proofs.Words.{sample-ok, sample-no}
 use Rattle.lerc_samples.proofs.read.Goals as goal
 
-pub returns-in_default : goal.returns-in_default
-returns-in_default c =
+pub returns-in_err-w : goal.returns-in_err-w
+returns-in_err-w c =
     let a = c.args in
-    sample-no a.kind _ a.s.now a.at c.size.ensures _ c.word-got.ensures _ _ c.in_default.is c.refusal-why.ensures
+    exits _ c.from_residual.ensures.1 ∙ sample-no a.kind _ a.s.now a.at c.size.ensures c.in_err-w.ensures _ refl
 
 pub returns : goal.returns
 returns c =
     let a = c.args in
-    sample-ok a.kind _ a.s.now a.at c.size.ensures _ c.word-got.ensures _ _ c.in-Word.is c.number.ensures
+    sample-ok a.kind _ a.s.now a.at c.size.ensures c.in_ok-w.ensures _ _ refl c.number.ensures

@@ -6,7 +6,7 @@ use Rattle.lerc_text.proofs.Putting.{put-none, put_then, put-length, cells-none,
 use Rattle.lerc_text.proofs.put_cells.Goals as goal
 
 pub loop-cell-init : goal.loop-cell-init
-loop-cell-init c = (omega arith, rw (cells-none) (put-none _ _ _ c.least-p.ensures))
+loop-cell-init c = (omega arith, rw (cells-none) (put-none _ _ _ c.min-p.ensures))
 
 pub loop-cell-preserved : goal.loop-cell-preserved
 loop-cell-preserved c =

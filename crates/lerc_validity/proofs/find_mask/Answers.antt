@@ -36,4 +36,4 @@ find-found-requires c =
 pub returns : goal.returns
 returns c =
     let a = c.args in
-    rw (find-says a.s.now a.h a.reuse a.kept.now (length a.spare.now) c.if-not-room.false c.if-s-h.false) (prepared-at mask_field c.find-found.ensures c.at.ensures)
+    rw (find-says a.s.now a.h a.reuse a.kept.now (length a.spare.now) c.if-not-room.false c.if-s-h.false) (prepared-at mask_field c.find-found.ensures c.marked.ensures)

@@ -1,11 +1,10 @@
-use mathlib.Core.Path.{◌∙◌, sym, ap}
-use Rattle.lerc_words.specs.declared.Refusal.{Refusal}
-use Rattle.lerc_validity.specs.declared.MaskAnswer.TheVariants.{Refused}
-use Rattle.lerc_validity.specs.Validity.{from_runs}
+use mathlib.Core.Path.{◌∙◌}
+use Rattle.lerc_words.proofs.Marking.{exits}
+use Rattle.lerc_validity.proofs.Preparing.{from_runs-is}
 use Rattle.lerc_validity.proofs.from_runs.Goals as goal
 
-pub returns-in-Mask : goal.returns-in-Mask
-returns-in-Mask c = ap from_runs (sym c.in-Mask.is)
+pub returns-in_err-n : goal.returns-in_err-n
+returns-in_err-n c = exits _ c.from_residual.ensures.1 ∙ from_runs-is c.args.answer c.in_err-n.ensures
 
-pub returns-in-Refused : goal.returns-in-Refused
-returns-in-Refused c = ap (λ (r : Refusal). Refused r) c.at.ensures ∙ ap from_runs (sym c.in-Refused.is)
+pub returns : goal.returns
+returns c = from_runs-is c.args.answer c.in_ok-n.ensures

@@ -12,12 +12,12 @@ returns-then-h-ne0 c =
     let a = c.args in
     refused (uniform-no a.h a.byte c.if-h-ne0.true)
 
-pub slice_bounds-fill_bytes-end-2 : goal.slice_bounds-fill_bytes-end-2
-slice_bounds-fill_bytes-end-2 c = simp length-take (omega arith)
+pub slice_bounds-fill-end-2 : goal.slice_bounds-fill-end-2
+slice_bounds-fill-end-2 c = simp length-take (omega arith)
 
 pub returns : goal.returns
 returns c =
     let a = c.args in
     let n = c.requires.0 in
-    let filled = front-filled a.byte a.n a.spare.now (omega arith) c.fill_bytes.ensures in
+    let filled = front-filled a.byte a.n a.spare.now (omega arith) c.fill.ensures in
     spared (replicate (mask_length (shape_of a.h)) a.byte) a.n (uniform-ok a.h a.byte c.if-h-ne0.false) (length-replicate _ _ ∙ sym n) (rw (length-replicate, ← n) filled)

@@ -14,12 +14,7 @@ returns-then-size-eq0 c =
 pub overflow_add-few : goal.overflow_add-few
 overflow_add-few c = let a = c.args in omega (arith, div-le_self (a.end - 8 - a.at) a.size)
 
-pub returns-then-few-n : goal.returns-then-few-n
-returns-then-few-n c =
+pub returns : goal.returns
+returns c =
     let a = c.args in
-    (omega arith, λ k l. (omega arith, row_inside a.end a.at a.size k (omega arith) c.if-end-at.false l))
-
-pub returns-else-few-n : goal.returns-else-few-n
-returns-else-few-n c =
-    let a = c.args in
-    (omega arith, λ k l. (omega arith, row_inside a.end a.at a.size k (omega arith) c.if-end-at.false (omega arith)))
+    (omega arith, λ k l. (omega arith, row_inside a.end a.at a.size k (omega arith) c.if-end-at.false (omega (arith, c.min.ensures))))

@@ -29,7 +29,7 @@ overflow_mul-v c =
 
 pub overflow_add-v : goal.overflow_add-v
 overflow_add-v c =
-    omega (arith, room (goal.at.overflow_add-v c).In-loop-k, c.wide.ensures, c.type_inv.s (c.loop-k.k - 1))
+    omega (arith, room (goal.at.overflow_add-v c).In-loop-k, c.from.ensures, c.type_inv.s (c.loop-k.k - 1))
 
 pub loop-k-preserved : goal.loop-k-preserved
 loop-k-preserved c =
@@ -38,7 +38,7 @@ loop-k-preserved c =
     let k = c.loop-k.k in
     let e : length s - (k - 1) ≡ suc (length s - k) = omega arith in
     let d : suc (k - 1) ≡ k = omega arith in
-    (omega arith, omega arith, rw (c.wide.ensures, c.loop-k.invariant.2, e, little-suc, d) (omega arith))
+    (omega arith, omega arith, rw (c.from.ensures, c.loop-k.invariant.2, e, little-suc, d) (omega arith))
 
 pub returns : goal.returns
 returns c =

@@ -6,6 +6,3 @@ use Rattle.lerc_words.proofs.tail.Given as goal
 
 abbrev pub invariant-loop-k : goal.invariant-loop-k
 invariant-loop-k l = (l.k ≤ length l.s) × (min l.at (length l.s) ≤ l.k) × (l.v ≡ little (length l.s - l.k) l.s l.k)
-
-abbrev pub decreases-loop-k : goal.decreases-loop-k
-decreases-loop-k l = l.k

@@ -1,4 +1,4 @@
-use Rattle.lerc.proofs.Writing.{holds-refused, holds-empty, holds-constant, holds-raw, holds-huffman, blocks-hold}
+use Rattle.lerc.proofs.Writing.{holds-empty, holds-constant, holds-raw, holds-huffman, blocks-hold}
 use Rattle.lerc.proofs.body.is_listed.Goals as goal
 
 pub returns-in-Blocks : goal.returns-in-Blocks
@@ -16,6 +16,3 @@ returns-in-Raw c = holds-raw c.requires.0 c.args.list.now c.in-Raw.is
 
 pub returns-in-Huffman : goal.returns-in-Huffman
 returns-in-Huffman c = holds-huffman c.requires.0 c.args.list.now c.in-Huffman.is
-
-pub returns-in-Refused : goal.returns-in-Refused
-returns-in-Refused c = holds-refused c.requires.0 c.args.list.now c.in-Refused.is

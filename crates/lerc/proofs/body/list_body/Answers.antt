@@ -1,4 +1,4 @@
-use Rattle.lerc.proofs.Writing.{list-refused, list-empty, list-constant, list-raw, list-huffman, blocks-listed}
+use Rattle.lerc.proofs.Writing.{list-empty, list-constant, list-raw, list-huffman, blocks-listed}
 use Rattle.lerc.proofs.body.list_body.Goals as goal
 
 pub returns-in-Blocks : goal.returns-in-Blocks
@@ -16,6 +16,3 @@ returns-in-Raw c = list-raw c.requires.0 c.args.list.now c.in-Raw.is
 
 pub returns-in-Huffman : goal.returns-in-Huffman
 returns-in-Huffman c = list-huffman c.requires.0 c.args.list.now c.in-Huffman.is
-
-pub returns-in-Refused : goal.returns-in-Refused
-returns-in-Refused c = list-refused c.requires.0 c.args.list.now c.in-Refused.is

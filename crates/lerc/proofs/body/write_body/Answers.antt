@@ -3,7 +3,7 @@ use mathlib.Core.Path.{◌≡◌, sym}
 use native.Mathlib.Omega.{arith}
 use lib.ListN.{length}
 use Rattle.lerc_header.specs.Limits.{depth_limit}
-use Rattle.lerc.proofs.Writing.{shaped, raw-asked, image-refused, image-none, image-constant, image-written, image-huffman, blocks-filled}
+use Rattle.lerc.proofs.Writing.{shaped, raw-asked, image-none, image-constant, image-written, image-huffman, blocks-filled}
 use borrow.Author.Rules.{rules}
 use Rattle.lerc.proofs.body.write_body.Goals as goal
 
@@ -44,8 +44,3 @@ pub returns-in-Empty : goal.returns-in-Empty
 returns-in-Empty c =
     let told = c.in-Empty.is in
     image-none c.requires.body c.args.image.now told
-
-pub returns-in-Refused : goal.returns-in-Refused
-returns-in-Refused c =
-    let told = c.in-Refused.is in
-    image-refused c.requires.body c.args.image.now told

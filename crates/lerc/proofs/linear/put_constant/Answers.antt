@@ -8,8 +8,8 @@ use Rattle.lerc_slices.proofs.Parts.{part-copied}
 use Rattle.lerc_image.proofs.Pixels.{cell-put, cells-pasted}
 use Rattle.lerc.proofs.linear.put_constant.Goals as goal
 
-pub slice_bounds-copy_words-end : goal.slice_bounds-copy_words-end
-slice_bounds-copy_words-end c =
+pub slice_bounds-copy-end : goal.slice_bounds-copy-end
+slice_bounds-copy-end c =
     let a = c.args in
     let l : length (take a.depth a.words.now) ≡ a.depth = simp length-take (omega arith) in
     sym l
@@ -28,7 +28,7 @@ returns-else-depth-eq1 c =
     let words = a.words.now in
     let l : length (take a.depth words) ≡ a.depth = simp length-take (omega arith) in
     let front : take a.depth (take a.depth words) ≡ take a.depth words = take-take a.depth a.depth words (omega arith) in
-    rw c.copy_words.ensures
+    rw c.copy.ensures
     (part-copied im (take a.depth words) a.base a.depth (omega arith) l
     ∙ ap (λ (x : List ℕ). take a.base im ++ x ++ drop (a.base + a.depth) im) front
     ∙ cells-pasted im words a.base a.depth (omega arith) (omega arith))

@@ -15,14 +15,14 @@ pub loop-d-init : goal.loop-d-init
 loop-d-init c =
     let a = c.args in
     let w : ℕ → ℕ = λ i. little a.size a.s.now (a.at + (i - a.base) * a.size) in
-    (omega arith, rw (zero-mul a.size, add-zero), cells-none a.image.now w a.base)
+    (rw (zero-mul a.size, add-zero), cells-none a.image.now w a.base)
 
 pub bounds-image-base : goal.bounds-image-base
 bounds-image-base c =
     let a = c.args in
     let im = a.image.now in
     let w : ℕ → ℕ = λ i. little a.size a.s.now (a.at + (i - a.base) * a.size) in
-    rw (c.loop-d.invariant.2, length-painted im w (within a.base c.loop-d.d)) (omega arith)
+    rw (c.loop-d.invariant.1, length-painted im w (within a.base c.loop-d.d)) (omega arith)
 
 pub overflow_add-from : goal.overflow_add-from
 overflow_add-from c =
@@ -39,14 +39,14 @@ loop-d-preserved c =
     let h : a.base + d < length im = omega arith in
     let e : a.base + d - a.base ≡ d = omega arith in
     let f : min a.size 8 ≡ a.size = omega arith in
-    let word = (rw (f) at c.bytes.ensures) ∙ ap (λ (i : ℕ). little a.size a.s.now i) c.loop-d.invariant.1 in
-    (omega arith, rw (c.loop-d.invariant.1, add-one) (omega (arith, suc-mul d a.size)), rw (c.loop-d.invariant.2, word) (rw (e) at (cell-more im w a.base d h)))
+    let word = (rw (f) at c.bytes.ensures) ∙ ap (λ (i : ℕ). little a.size a.s.now i) c.loop-d.invariant.0 in
+    (rw (c.loop-d.invariant.0, add-one) (omega (arith, suc-mul d a.size)), rw (c.loop-d.invariant.1, word) (rw (e) at (cell-more im w a.base d h)))
 
 pub shape_of-image : goal.shape_of-image
 shape_of-image c =
     let a = c.args in
     let w : ℕ → ℕ = λ i. little a.size a.s.now (a.at + (i - a.base) * a.size) in
-    rw c.loop-d.invariant.2 (length-painted a.image.now w (within a.base c.loop-d.d))
+    rw c.loop-d.invariant.1 (length-painted a.image.now w (within a.base c.loop-d.d))
 
 pub returns : goal.returns
-returns c = let e : c.loop-d.d ≡ c.args.depth = omega arith in rw (← e) c.loop-d.invariant.2
+returns c = let e : c.loop-d.d ≡ c.args.depth = omega arith in rw (← e) c.loop-d.invariant.1

@@ -23,13 +23,13 @@ pub loop-p-init : goal.loop-p-init
 loop-p-init c =
     let a = c.args in
     let e : 0 * a.h.depth ≡ 0 = zero-mul a.h.depth in
-    (omega arith, sym e, rw (e) (upto-none a.h a.mask.now a.image.now (depth_word a.h a.words.now)))
+    (sym e, rw (e) (upto-none a.h a.mask.now a.image.now (depth_word a.h a.words.now)))
 
 pub put_constant-requires : goal.put_constant-requires
 put_constant-requires c =
     let a = c.args in
     let i = c.loop-p.invariant in
-    let e : length c.loop-p.image ≡ length a.image.now = rw i.2 (length-painted a.image.now (depth_word a.h a.words.now) (valid_upto a.h a.mask.now (c.loop-p.p * a.h.depth))) in
+    let e : length c.loop-p.image ≡ length a.image.now = rw i.1 (length-painted a.image.now (depth_word a.h a.words.now) (valid_upto a.h a.mask.now (c.loop-p.p * a.h.depth))) in
     let f = pixel-fits a.h a.mask.now c.loop-p.p (omega arith) (length a.image.now) c.requires.1 in
     let few = c.requires.0.depth.1 in
     (omega (arith, few, c.requires.2), omega arith)
@@ -38,11 +38,6 @@ pub overflow_add-base : goal.overflow_add-base
 overflow_add-base c =
     let a = c.args in
     let f = pixel-fits a.h a.mask.now c.loop-p.p (omega arith) 4194304 c.requires.0.few in
-    omega arith
-
-pub overflow_add-p : goal.overflow_add-p
-overflow_add-p c =
-    let f = pixels-few c.args.h c.requires.0 in
     omega arith
 
 pub loop-p-preserved : goal.loop-p-preserved
@@ -58,26 +53,25 @@ loop-p-preserved c =
     let e : (p + 1) * h.depth ≡ p * h.depth + h.depth = rw (add-one) (omega (arith, suc-mul p h.depth)) in
     let counted = c.count.ensures in
     let every : c.count.result ≡ h.rows * h.columns → pixel_valid m p ≡ true = λ q. count-full (h.rows * h.columns) (pixel_valid m) (sym counted ∙ q) p here in (
-      omega arith,
-      rw (e, i.1),
+      rw (e, i.0),
       rw (e) (elim c.if-full.branch [
-        | then-full w ↦ w.image-is ∙ w.put_constant.ensures ∙ rw (i.2, i.1) (pixel-adds h m p here im (depth_word h words) (λ k. get_or words (k - p * h.depth) 0)
+        | then-full w ↦ w.image-is ∙ w.put_constant.ensures ∙ rw (i.1, i.0) (pixel-adds h m p here im (depth_word h words) (λ k. get_or words (k - p * h.depth) 0)
             (elim w.then-full.branch [
               | then-full-via-then-full k ↦ every k.if-full.true
               | then-full-via-else-full+then-is_valid k ↦ sym k.is_valid.ensures ∙ k.if-is_valid.true
             ])
             (λ k x y. rw (pixel-depth p h.depth k x y)))
-        | else-full+else-is_valid w ↦ w.image-is ∙ i.2 ∙ pixel-skips h m p here im (depth_word h words) (sym w.is_valid.ensures ∙ w.if-is_valid.false)
+        | else-full+else-is_valid w ↦ w.image-is ∙ i.1 ∙ pixel-skips h m p here im (depth_word h words) (sym w.is_valid.ensures ∙ w.if-is_valid.false)
       ]),
     )
 
 pub shape_of-image : goal.shape_of-image
 shape_of-image c =
     let a = c.args in
-    rw c.loop-p.invariant.2 (length-painted a.image.now (depth_word a.h a.words.now) (valid_upto a.h a.mask.now (c.loop-p.p * a.h.depth)))
+    rw c.loop-p.invariant.1 (length-painted a.image.now (depth_word a.h a.words.now) (valid_upto a.h a.mask.now (c.loop-p.p * a.h.depth)))
 
 pub returns : goal.returns
 returns c =
     let a = c.args in
     let e : c.loop-p.p ≡ a.h.rows * a.h.columns = omega arith in
-    c.loop-p.invariant.2 ∙ rw (e) (upto_all a.h a.mask.now a.image.now (depth_word a.h a.words.now))
+    c.loop-p.invariant.1 ∙ rw (e) (upto_all a.h a.mask.now a.image.now (depth_word a.h a.words.now))

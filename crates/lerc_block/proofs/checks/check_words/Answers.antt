@@ -1,12 +1,11 @@
-use mathlib.Core.Path.{◌∙◌, sym}
+use mathlib.Core.Path.{◌∙◌, sym, refl}
 use native.Mathlib.Omega.{arith}
 use Rattle.lerc_words.proofs.Little.{Bytes}
-use Rattle.lerc_block.proofs.Usual.{both, found-next}
+use Rattle.lerc_block.proofs.Usual.{found-next}
 use Rattle.lerc_block.proofs.checks.check_words.Goals as goal
 
 pub returns-then-usual-n : goal.returns-then-usual-n
 returns-then-usual-n c =
     let bytes : Bytes c.args.s.now = λ j. omega (arith, c.type_inv.s j) in
-    let (l, e) = both _ _ _ c.if-usual-n.true in
-    found-next c.args.s.now c.args.at c.args.kind c.args.x c.usual_head-usual.ensures l bytes c.args.error c.args.maximum c.args.n
-    (sym c.steps_fit.ensures ∙ c.if-steps_fit.true) e
+    found-next c.args.s.now c.args.at c.args.kind c.args.x (c.in-Some.ensures _ refl) bytes c.args.error c.args.maximum c.args.n
+    (sym c.steps_fit.ensures ∙ c.if-steps_fit.true) c.if-usual-n.true

@@ -2,15 +2,12 @@ use mathlib.Core.Path.{refl}
 use Prim.Native.Nat.{◌+◌, ◌*◌, ◌%◌, ◌≤◌, ◌<◌}
 use native.Mathlib.Omega.{arith}
 use lib.ListN.{get_or}
-use Rattle.lerc_block.proofs.Usual.{other, bits-few, byte-is, usual-steps}
+use Rattle.lerc_block.proofs.Usual.{some-is, bits-few, byte-is, usual-steps}
 use Rattle.lerc_block.proofs.heads.usual_counts.Goals as goal
 use Rattle.lerc_block.proofs.heads.usual_counts.Goals.{Else-h-ne4}
 
 pub overflow_cast-h : goal.overflow_cast-h
 overflow_cast-h c = let a = c.args in omega (arith, c.type_inv.s a.at)
-
-pub returns-then-h-ne4 : goal.returns-then-h-ne4
-returns-then-h-ne4 c l = other c.other.ensures l
 
 pub overflow_cast-n : goal.overflow_cast-n
 overflow_cast-n c = let a = c.args in omega (arith, c.type_inv.s (a.at + 1))
@@ -31,12 +28,9 @@ overflow_add-end c = omega (arith, small (goal.at.overflow_add-end c).Else-h-ne4
 pub overflow_add-end-2 : goal.overflow_add-end-2
 overflow_add-end-2 c = omega (arith, small (goal.at.overflow_add-end-2 c).Else-h-ne4, c.requires, c.well_formed)
 
-pub returns-then-s-end : goal.returns-then-s-end
-returns-then-s-end c l = other c.other-then-s-end.ensures l
-
 pub returns : goal.returns
-returns c l =
+returns c h e =
     let k = (goal.at.returns c).Else-h-ne4 in
     let s = c.args.s.now in
     let at = c.args.at in
-    usual-steps s at c.requires _ _ (byte-is s at (omega (arith, c.requires))) (byte-is s (at + 1) (omega (arith, c.requires))) c.if-h-ne4.false (byte k) c.args.offset _ refl (omega (arith, c.if-s-end.false))
+    rw (some-is e) (usual-steps s at c.requires _ _ (byte-is s at (omega (arith, c.requires))) (byte-is s (at + 1) (omega (arith, c.requires))) c.if-h-ne4.false (byte k) c.args.offset _ refl (omega (arith, c.if-s-end.false)))

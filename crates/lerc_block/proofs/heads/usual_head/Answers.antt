@@ -1,5 +1,5 @@
 use Prim.Native.Nat.{◌+◌, ◌*◌, ◌/◌, ◌%◌, ◌^◌, ◌≤◌, min}
-use mathlib.Core.Path.{◌≡◌, ◌∙◌, sym, ap, refl}
+use mathlib.Core.Path.{◌≡◌, ◌∙◌, sym, ap}
 use native.Mathlib.Omega.{arith}
 use lib.ListN.{length, get_or}
 use lib.Pow.{pow_pos}
@@ -7,41 +7,22 @@ use Rattle.lerc_words.specs.Res.{ok, little, word_at}
 use Rattle.lerc_words.proofs.Little.{Bytes, unit, word_at-ok}
 use Rattle.lerc_numeric.specs.Kinds.{type_size}
 use Rattle.lerc_numeric.proofs.Integers.{size-le}
-use Rattle.lerc_samples.specs.Samples.{offset_kind, offset_said}
-use Rattle.lerc_block.proofs.Returns.{said_ok}
-use Rattle.lerc_block.proofs.Usual.{other, few_bytes, byte-is, usual-block}
+use Rattle.lerc_samples.specs.Samples.{offset_kind}
+use Rattle.lerc_block.proofs.Usual.{few_bytes, byte-is, usual-block}
 use Rattle.lerc_block.proofs.heads.usual_head.Goals as goal
 use Rattle.lerc_block.proofs.heads.usual_head.Goals.{After-size-size, Else-size-gt4, Joined-size-gt4, then-size-gt4, else-size-gt4}
 
-pub returns-then-len-lt-ROOM : goal.returns-then-len-lt-ROOM
-returns-then-len-lt-ROOM c n l = other c.other.ensures l
-
-pub returns-then-len-at : goal.returns-then-len-at
-returns-then-len-at c n l = other c.other-then-len-at.ensures l
-
 pub overflow_cast-flag : goal.overflow_cast-flag
 overflow_cast-flag c = let a = c.args in omega (arith, c.type_inv.s a.at)
-
-pub returns-then-flag-ne1 : goal.returns-then-flag-ne1
-returns-then-flag-ne1 c n l = other c.other-then-flag-ne1.ensures l
-
-pub returns-then-flag-x : goal.returns-then-flag-x
-returns-then-flag-x c n l = other c.other-then-flag-x.ensures l
 
 pub overflow_cast-flag-2 : goal.overflow_cast-flag-2
 overflow_cast-flag-2 c =
     let a = c.args in
     omega (arith, c.type_inv.s a.at)
 
-pub returns-in_default : goal.returns-in_default
-returns-in_default c n l = other c.other-in_default.ensures l
-
-pub returns-then-not-finite_word : goal.returns-then-not-finite_word
-returns-then-not-finite_word c n l = other c.other-then-not-finite_word.ensures l
-
 -- ---- an offset has at most eight bytes, for which there is room
 few : (k : After-size-size) → k.size-size.result ≤ 8
-few k = rw k.size-size.ensures (size-le k.in-Kind.k)
+few k = rw k.size-size.ensures (size-le k.in-Ok.k)
 
 room : (k : After-size-size) →
     k.args.at + 11 ≤ length k.args.s.now
@@ -61,7 +42,7 @@ pub nonzero_rem-word : goal.nonzero_rem-word
 nonzero_rem-word c = let e = (goal.at.nonzero_rem-word c).Else-size-gt4 in rw (base-is e) (pow_pos (8 * c.size-size.result))
 
 word_read : (j : Joined-size-gt4) →
-    word_at (type_size j.in-Kind.k) j.args.s.now (j.args.at + 1) ≡ ok j.if-size-gt4.word
+    word_at (type_size j.in-Ok.k) j.args.s.now (j.args.at + 1) ≡ ok j.if-size-gt4.word
 word_read j =
     let z = (goal.at.Joined-size-gt4 j).After-size-size in
     let s = j.args.s.now in
@@ -73,11 +54,11 @@ word_read j =
     rw (← j.size-size.ensures) (word_at-ok size s (j.args.at + 1) (omega (arith, few z, room z)) ∙ ap ok (sym v))
 
 pub returns : goal.returns
-returns c n l =
+returns c h e n =
     let k = (goal.at.returns c).Joined-size-gt4 in
     let z = (goal.at.returns c).After-size-size in
     let s = c.args.s.now in
     let at = c.args.at in
-    let named : offset_kind c.args.kind (get_or s at 0 / 64) ≡ ok c.in-Kind.k = said_ok offset_said c.offset_kind-a.ensures c.in-Kind.is refl in
+    let named : offset_kind c.args.kind (get_or s at 0 / 64) ≡ ok c.in-Ok.k = sym c.in-Ok.ensures in
     usual-block s at c.args.kind c.args.x (get_or s at 0) (byte-is s at (omega (arith, room z))) c.if-flag-ne1.false c.if-flag-x.false named (word_read k)
-    (sym c.finite_word.ensures ∙ c.if-not-finite_word.false) (rw c.size-size.ensures at (c.usual_counts.ensures l)) n
+    (sym c.finite_word.ensures ∙ c.if-not-finite_word.false) (rw c.size-size.ensures at (c.usual_counts.ensures h e)) n

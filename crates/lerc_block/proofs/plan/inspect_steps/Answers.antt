@@ -1,15 +1,15 @@
-use mathlib.Core.Path.{◌∙◌, ap}
-use Rattle.lerc_words.specs.Res.{placed}
-use Rattle.lerc_bits.proofs.Returns.{inspect-ok, inspect-no}
+use mathlib.Core.Path.{◌∙◌, sym}
+use Rattle.lerc_words.proofs.Marking.{exits}
+use Rattle.lerc_bits.proofs.Returns.{inspect-bare}
 use Rattle.lerc_block.proofs.Planning.{steps-ok, steps-no}
 use Rattle.lerc_block.proofs.plan.inspect_steps.Goals as goal
 
-pub returns-in_default : goal.returns-in_default
-returns-in_default c =
+pub returns-in_err-counts : goal.returns-in_err-counts
+returns-in_err-counts c =
     let a = c.args in
-    steps-no a.s.now a.at a.offset (inspect-no a.s.now a.at c.inspect-a.ensures c.in_default.is (c.at.ensures ∙ ap (placed 0) c.refusal-why.ensures))
+    exits _ c.from_residual.ensures.1 ∙ steps-no a.s.now a.at a.offset (sym (c.in_err-counts.ensures ∙ inspect-bare a.s.now a.at c.inspect.ensures))
 
 pub returns : goal.returns
 returns c =
     let a = c.args in
-    steps-ok a.s.now a.at a.offset (inspect-ok a.s.now a.at c.inspect-a.ensures c.in-Plan.is)
+    steps-ok a.s.now a.at a.offset (sym (c.in_ok-counts.ensures ∙ inspect-bare a.s.now a.at c.inspect.ensures))

@@ -1,10 +1,7 @@
-use Prim.Native.Nat.{◌-◌}
-use lib.ListN.{length}
-use Rattle.lerc_block.proofs.WholeWords.{LargestYet}
+use Prim.Native.Nat.{ℕ, ◌≤◌, ◌<◌}
+use lib.ListN.{get_or}
 use Rattle.lerc_block.proofs.whole.largest.Given as goal
 
-abbrev pub invariant-loop-k : goal.invariant-loop-k
-invariant-loop-k l = LargestYet l.counts l.k l.most
-
-abbrev pub decreases-loop-k : goal.decreases-loop-k
-decreases-loop-k l = length l.counts - l.k
+-- no count before this place is above `most`
+abbrev pub invariant-loop-count : goal.invariant-loop-count
+invariant-loop-count l = (i : ℕ) → i < l.count-index → get_or l.counts i 0 ≤ l.most

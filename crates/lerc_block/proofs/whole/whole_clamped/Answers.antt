@@ -4,7 +4,7 @@ use native.Mathlib.Omega.{arith}
 use lib.ListN.{length, get_or}
 use lib.Pow.{pow_pos}
 use Rattle.lerc_words.proofs.Tables.{table-over}
-use Rattle.lerc_words.proofs.Filling.{filling-none, filling-length, filling-more, filling-done}
+use Rattle.lerc_words.proofs.Filling.{filling-none, filling-more, filling-done}
 use Rattle.lerc_block.proofs.WholeWords.{low-is, product-fits, lowest}
 use Rattle.lerc_block.proofs.whole.whole_clamped.Goals as goal
 use Rattle.lerc_block.proofs.whole.whole_clamped.Goals.{In-loop-k}
@@ -14,9 +14,6 @@ overflow_sub-low c = rw (low-is c.args.size c.requires.3) (pow_pos (8 * c.args.s
 
 pub loop-k-init : goal.loop-k-init
 loop-k-init c = filling-none _ (length c.args.counts.now) c.args.out.now c.requires.0
-
-pub overflow_cast-q : goal.overflow_cast-q
-overflow_cast-q c = omega (arith, c.type_inv.counts c.loop-k.k)
 
 -- no step is large
 small : (c : In-loop-k) → let a = c.args in a.step * get_or a.counts.now c.loop-k.k 0 ≤ 2 ^ 52
@@ -28,15 +25,9 @@ overflow_mul-step c = omega (arith, small (goal.at.overflow_mul-step c).In-loop-
 pub overflow_add-base : goal.overflow_add-base
 overflow_add-base c = omega (arith, small (goal.at.overflow_add-base c).In-loop-k, c.requires.1)
 
-pub bounds-out-k : goal.bounds-out-k
-bounds-out-k c = omega (arith, filling-length c.loop-k.invariant, c.requires.0, c.loop-k-test.true)
-
 pub loop-k-preserved : goal.loop-k-preserved
 loop-k-preserved c =
-    filling-more c.loop-k.invariant _ c.loop-k-test.true (lowest c.args.size _ c.requires.3 ∙ ap (λ (v : ℕ). v % 2 ^ (8 * c.args.size)) c.lesser.ensures)
-
-pub shape_of-out : goal.shape_of-out
-shape_of-out c = filling-length c.loop-k.invariant
+    filling-more c.loop-k.invariant _ (omega arith) (lowest c.args.size _ c.requires.3 ∙ ap (λ (v : ℕ). v % 2 ^ (8 * c.args.size)) (omega (arith, c.min.ensures)))
 
 pub returns : goal.returns
 returns c = filling-done c.loop-k.invariant c.loop-k-test.false ∙ table-over _ _ _

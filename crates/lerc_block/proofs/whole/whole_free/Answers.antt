@@ -5,7 +5,7 @@ use lib.Bits.{and_le_r}
 use lib.ListN.{length, get_or}
 use lib.Pow.{pow_pos}
 use Rattle.lerc_words.proofs.Tables.{table-over}
-use Rattle.lerc_words.proofs.Filling.{filling-none, filling-length, filling-more, filling-done}
+use Rattle.lerc_words.proofs.Filling.{filling-none, filling-more, filling-done}
 use Rattle.lerc_block.proofs.WholeWords.{low-is, product-fits, lowest-sum}
 use Rattle.lerc_block.proofs.whole.whole_free.Goals as goal
 use Rattle.lerc_block.proofs.whole.whole_free.Goals.{In-loop-k}
@@ -15,9 +15,6 @@ overflow_sub-low c = let a = c.args in rw (low-is a.size c.requires.3) (pow_pos 
 
 pub loop-k-init : goal.loop-k-init
 loop-k-init c = filling-none _ (length c.args.counts.now) c.args.out.now c.requires.0
-
-pub overflow_cast-q : goal.overflow_cast-q
-overflow_cast-q c = omega (arith, c.type_inv.counts c.loop-k.k)
 
 -- no step is large
 small : (c : In-loop-k) → let a = c.args in a.step * get_or a.counts.now c.loop-k.k 0 ≤ 2 ^ 52
@@ -31,15 +28,9 @@ overflow_add-out c =
     let a = c.args in
     omega (arith, and_le_r (a.step * get_or a.counts.now c.loop-k.k 0) (2 ^ 32 - 1), c.requires.1)
 
-pub bounds-out-k : goal.bounds-out-k
-bounds-out-k c = omega (arith, filling-length c.loop-k.invariant, c.requires.0, c.loop-k-test.true)
-
 pub loop-k-preserved : goal.loop-k-preserved
 loop-k-preserved c =
-    filling-more c.loop-k.invariant _ c.loop-k-test.true (lowest-sum c.args.size _ _ c.requires.3)
-
-pub shape_of-out : goal.shape_of-out
-shape_of-out c = filling-length c.loop-k.invariant
+    filling-more c.loop-k.invariant _ (omega arith) (lowest-sum c.args.size _ _ c.requires.3)
 
 pub returns : goal.returns
 returns c = filling-done c.loop-k.invariant c.loop-k-test.false ∙ table-over _ _ _

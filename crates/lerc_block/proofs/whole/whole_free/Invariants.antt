@@ -1,10 +1,7 @@
-use Prim.Native.Nat.{◌+◌, ◌-◌, ◌*◌, ◌%◌, ◌^◌}
+use Prim.Native.Nat.{◌+◌, ◌*◌, ◌%◌, ◌^◌}
 use lib.ListN.{length, get_or}
 use Rattle.lerc_words.proofs.Filling.{Filling}
 use Rattle.lerc_block.proofs.whole.whole_free.Given as goal
 
 abbrev pub invariant-loop-k : goal.invariant-loop-k
 invariant-loop-k l = Filling (λ j. (l.base + l.step * get_or l.counts j 0) % 2 ^ (8 * l.size)) (length l.counts) l.k l.initial.out l.out
-
-abbrev pub decreases-loop-k : goal.decreases-loop-k
-decreases-loop-k l = length l.counts - l.k

@@ -1,11 +1,10 @@
 use Prim.Native.Nat.{ℕ, ◌^◌, ◌≤◌, ◌<◌}
-use mathlib.Core.Path.{◌≡◌, refl}
+use mathlib.Core.Path.{◌≡◌, sym}
 use native.Mathlib.Omega.{arith}
 use Rattle.lerc_words.specs.Res.{ok}
 use Rattle.lerc_numeric.specs.Whole.{twice_whole}
 use Rattle.lerc_numeric.proofs.WholeNumbers.{raised_lt, twice-le}
-use Rattle.lerc_samples.specs.Samples.{stored, stored_said}
-use Rattle.lerc_block.proofs.Returns.{said_ok}
+use Rattle.lerc_samples.specs.Samples.{stored}
 use Rattle.lerc_block.proofs.StepWords.{tried-none, tried-all}
 use Rattle.lerc_block.proofs.WholeWords.{four_bytes, clamped-put, free-put}
 use Rattle.lerc_block.proofs.whole.whole_steps.Goals as goal
@@ -49,8 +48,8 @@ half k =
     let p : 0 < step k = omega (arith, k.if-step-eq0.false) in
     rw k.twice_whole-step.ensures at p
 
-held : (k : After-size-size) → let i = k in stored i.args.kind i.args.top ≡ ok k.in-Word.t
-held k = said_ok stored_said k.stored-a.ensures k.in-Word.is refl
+held : (k : After-size-size) → let i = k in stored i.args.kind i.args.top ≡ ok k.in-Ok.t
+held k = sym k.in-Ok.ensures
 
 pub returns-then-passes : goal.returns-then-passes
 returns-then-passes c =

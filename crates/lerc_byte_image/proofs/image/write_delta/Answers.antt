@@ -45,10 +45,6 @@ write_full_plane-p-requires c = (asked (goal.at.write_full_plane-p-requires c).I
 pub write_masked_plane-p-requires : goal.write_masked_plane-p-requires
 write_masked_plane-p-requires c = (asked (goal.at.write_masked_plane-p-requires c).In-loop-d, c.loop-d-test.true)
 
-pub overflow_add-d : goal.overflow_add-d
-overflow_add-d c =
-    omega (arith, c.loop-d-test.true, c.requires.shaped.depth.1)
-
 pub loop-d-preserved : goal.loop-d-preserved
 loop-d-preserved c =
     let a = c.args in

@@ -21,8 +21,8 @@ row_in h y l = omega (arith, mul-le-mul_right h.columns l, suc-mul y h.columns)
 cell_in : (h : Shape) (y d : ℕ) → y < h.rows → 0 < h.columns → d < h.depth → y * h.columns * h.depth + d < cells h
 cell_in h y d l k e = let r = row_in h y l in let z : y * h.columns < pixels h = omega arith in digits_lt z e
 
-pub loop-y-init : goal.loop-y-init
-loop-y-init c =
+pub loop-init : goal.loop-init
+loop-init c =
     let a = c.args in
     let h = a.h in
     let s = a.s.now in
@@ -42,74 +42,74 @@ pub put_row-q-requires : goal.put_row-q-requires
 put_row-q-requires c =
     let a = c.args in
     let h = a.h in
-    let i = c.loop-y.invariant in
+    let i = c.loop.invariant in
     let t = table_by a.by.range a.by.start a.lengths.now a.codes.now in
-    let r = row_in h c.loop-y.y c.loop-y-test.true in
-    let k : (y : ℕ) → y ≡ c.loop-y.y * h.columns → (y + h.columns) * h.depth ≤ cells h = λ y e. mul-le-mul_right h.depth (let g : y + h.columns ≤ pixels h = omega arith in g) in
-    (rw i.2 (ready_on a.s.now t a.quick.now a.p (c.loop-y.y * h.columns) c.requires.0.ready), c.requires.1, c.requires.0.shaped.depth.1, omega (arith, k c.loop-y.i i.1, i.3, c.requires.0.room))
+    let r = row_in h c.loop.counter c.loop-test.true in
+    let k : (y : ℕ) → y ≡ c.loop.counter * h.columns → (y + h.columns) * h.depth ≤ cells h = λ y e. mul-le-mul_right h.depth (let g : y + h.columns ≤ pixels h = omega arith in g) in
+    (rw i.2 (ready_on a.s.now t a.quick.now a.p (c.loop.counter * h.columns) c.requires.0.ready), c.requires.1, c.requires.0.shaped.depth.1, omega (arith, k c.loop.i i.1, i.3, c.requires.0.room))
 
 pub overflow_mul-first : goal.overflow_mul-first
 overflow_mul-first c =
     let a = c.args in
-    let k = cell_in a.h c.loop-y.y a.d c.loop-y-test.true c.requires.0.shaped.columns.0 c.requires.1 in
-    rw c.loop-y.invariant.1 (omega (arith, c.requires.0.shaped.few))
+    let k = cell_in a.h c.loop.counter a.d c.loop-test.true c.requires.0.shaped.columns.0 c.requires.1 in
+    rw c.loop.invariant.1 (omega (arith, c.requires.0.shaped.few))
 
 pub overflow_add-first : goal.overflow_add-first
 overflow_add-first c =
     let a = c.args in
-    let k = cell_in a.h c.loop-y.y a.d c.loop-y-test.true c.requires.0.shaped.columns.0 c.requires.1 in
-    rw c.loop-y.invariant.1 (omega (arith, c.requires.0.shaped.few))
+    let k = cell_in a.h c.loop.counter a.d c.loop-test.true c.requires.0.shaped.columns.0 c.requires.1 in
+    rw c.loop.invariant.1 (omega (arith, c.requires.0.shaped.few))
 
 pub offset_bounds-image-i : goal.offset_bounds-image-i
 offset_bounds-image-i c =
     let a = c.args in
-    let k = cell_in a.h c.loop-y.y a.d c.loop-y-test.true c.requires.0.shaped.columns.0 c.requires.1 in
-    rw c.loop-y.invariant.1 (omega (arith, c.requires.0.shaped.few))
+    let k = cell_in a.h c.loop.counter a.d c.loop-test.true c.requires.0.shaped.columns.0 c.requires.1 in
+    rw c.loop.invariant.1 (omega (arith, c.requires.0.shaped.few))
 
 pub bounds-image-i : goal.bounds-image-i
 bounds-image-i c =
     let a = c.args in
     let h = a.h in
     let t = table_by a.by.range a.by.start a.lengths.now a.codes.now in
-    let w : ℕ → ℕ = λ j. chained a.by.kind (symbol_no a.s.now t c.loop-y.q) c.loop-y.first (j / h.depth - c.loop-y.i + 1) in
-    let k = cell_in h c.loop-y.y a.d c.loop-y-test.true c.requires.0.shaped.columns.0 c.requires.1 in
-    rw (c.put_row-q.ensures.image_after, length-painted c.loop-y.image w (strip h.depth a.d c.loop-y.i h.columns), c.loop-y.invariant.3, c.loop-y.invariant.1)
+    let w : ℕ → ℕ = λ j. chained a.by.kind (symbol_no a.s.now t c.loop.q) c.loop.first (j / h.depth - c.loop.i + 1) in
+    let k = cell_in h c.loop.counter a.d c.loop-test.true c.requires.0.shaped.columns.0 c.requires.1 in
+    rw (c.put_row-q.ensures.image_after, length-painted c.loop.image w (strip h.depth a.d c.loop.i h.columns), c.loop.invariant.3, c.loop.invariant.1)
     (omega (arith, c.requires.0.room))
 
 pub overflow_add-i : goal.overflow_add-i
 overflow_add-i c =
     let h = c.args.h in
-    omega (arith, row_in h c.loop-y.y c.loop-y-test.true, pixels-few h c.requires.0.shaped, c.loop-y.invariant.1)
+    omega (arith, row_in h c.loop.counter c.loop-test.true, pixels-few h c.requires.0.shaped, c.loop.invariant.1)
 
-pub loop-y-preserved : goal.loop-y-preserved
-loop-y-preserved c =
+pub loop-preserved : goal.loop-preserved
+loop-preserved c =
     let a = c.args in
     let h = a.h in
     let s = a.s.now in
     let t = table_by a.by.range a.by.start a.lengths.now a.codes.now in
-    let y = c.loop-y.y in
-    let i = c.loop-y.invariant in
+    let y = c.loop.counter in
+    let i = c.loop.invariant in
     let put = c.put_row-q in
-    let w : ℕ → ℕ = λ j. chained a.by.kind (symbol_no s t c.loop-y.q) c.loop-y.first (j / h.depth - c.loop-y.i + 1) in
-    let here : y < h.rows = c.loop-y-test.true in
+    let w : ℕ → ℕ = λ j. chained a.by.kind (symbol_no s t c.loop.q) c.loop.first (j / h.depth - c.loop.i + 1) in
+    let here : y < h.rows = c.loop-test.true in
     let e : (y + 1) * h.columns ≡ y * h.columns + h.columns = omega (arith, add-mul y 1 h.columns) in
     let new = rw i.1 at put.ensures.image_after in (
       omega arith,
       rw (e, i.1),
       put.ensures.value ∙ rw (i.2, e) (spot_on s t a.p (y * h.columns) h.columns),
-      rw (put.ensures.image_after, length-painted c.loop-y.image w (strip h.depth a.d c.loop-y.i h.columns)) i.3,
+      rw (put.ensures.image_after, length-painted c.loop.image w (strip h.depth a.d c.loop.i h.columns)) i.3,
       λ m f. (
-        rw (e, i.1) (row_first h m s t a.by.kind a.p a.d c.requires.0.shaped c.requires.1 f y c.loop-y.first c.loop-y.q here (i.4 m f).0 i.2 a.image.now c.loop-y.image _ c.requires.0.room (i.4 m f).1 new),
-        rw (e) (row_put h m s t a.by.kind a.p a.d c.requires.0.shaped c.requires.1 f y c.loop-y.first c.loop-y.q here (i.4 m f).0 i.2 a.image.now c.loop-y.image _ c.requires.0.room (i.4 m f).1 new),
+        rw (e, i.1) (row_first h m s t a.by.kind a.p a.d c.requires.0.shaped c.requires.1 f y c.loop.first c.loop.q here (i.4 m f).0 i.2 a.image.now c.loop.image _ c.requires.0.room (i.4 m f).1 new),
+        rw (e) (row_put h m s t a.by.kind a.p a.d c.requires.0.shaped c.requires.1 f y c.loop.first c.loop.q here (i.4 m f).0 i.2 a.image.now c.loop.image _ c.requires.0.room (i.4 m f).1 new),
       ),
     )
 
 pub shape_of-image : goal.shape_of-image
-shape_of-image c = c.loop-y.invariant.3
+shape_of-image c = c.loop.invariant.3
 
 pub returns : goal.returns
 returns c =
     let h = c.args.h in
-    let e : c.loop-y.y ≡ h.rows = omega arith in
-    let k : c.loop-y.y * h.columns ≡ h.rows * h.columns = ap (λ (y : ℕ). y * h.columns) e in
-    record { by_index = λ m f. rw (← k) (c.loop-y.invariant.4 m f).1; value = rw (← k) c.loop-y.invariant.2 }
+    let e : c.loop.counter ≡ h.rows = omega arith in
+    let k : c.loop.counter * h.columns ≡ h.rows * h.columns = ap (λ (y : ℕ). y * h.columns) e in
+    record { by_index = λ m f. rw (← k) (c.loop.invariant.4 m f).1; value = rw (← k) c.loop.invariant.2 }

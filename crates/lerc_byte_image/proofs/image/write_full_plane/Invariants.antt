@@ -1,4 +1,4 @@
-use Rattle.std.proofs.Common.{◌≡◌, ℕ, ◌-◌, ◌*◌, ◌≤◌, List, length}
+use Rattle.std.proofs.Common.{◌≡◌, ℕ, ◌*◌, ◌≤◌, List, length}
 use Rattle.lerc_header.specs.Shape.{pixels}
 use Rattle.lerc_mask.specs.Mask.{valid_below}
 use Rattle.lerc_image.specs.Paint.{painted}
@@ -9,12 +9,9 @@ use Rattle.lerc_byte_image.specs.ImageParts.{plane_upto, plane_word}
 use Rattle.lerc_byte_image.proofs.PlaneSteps.{symbol_in}
 use Rattle.lerc_byte_image.proofs.image.write_full_plane.Given as goal
 
-abbrev pub invariant-loop-y : goal.invariant-loop-y
-invariant-loop-y l =
-    (l.y ≤ l.h.rows) × (l.i ≡ l.y * l.h.columns) × (l.q ≡ spot l.s (table_by l.by.range l.by.start l.lengths l.codes) l.p (l.y * l.h.columns)) × (length l.image ≡ length l.initial.image)
+abbrev pub invariant-loop : goal.invariant-loop
+invariant-loop l =
+    (l.counter ≤ l.h.rows) × (l.i ≡ l.counter * l.h.columns) × (l.q ≡ spot l.s (table_by l.by.range l.by.start l.lengths l.codes) l.p (l.counter * l.h.columns)) × (length l.image ≡ length l.initial.image)
     × ((m : List ℕ) → valid_below (pixels l.h) m ≡ pixels l.h
-    → (l.first ≡ prediction l.h.columns m (left_behind l.by.kind l.h.columns m (symbol_in m l.s (table_by l.by.range l.by.start l.lengths l.codes) l.p) (l.y * l.h.columns)) (l.y * l.h.columns))
-    × (l.image ≡ painted l.initial.image (plane_upto l.h m l.d (l.y * l.h.columns)) (plane_word l.h l.by.kind m l.s (table_by l.by.range l.by.start l.lengths l.codes) l.p)))
-
-abbrev pub decreases-loop-y : goal.decreases-loop-y
-decreases-loop-y l = l.h.rows - l.y
+    → (l.first ≡ prediction l.h.columns m (left_behind l.by.kind l.h.columns m (symbol_in m l.s (table_by l.by.range l.by.start l.lengths l.codes) l.p) (l.counter * l.h.columns)) (l.counter * l.h.columns))
+    × (l.image ≡ painted l.initial.image (plane_upto l.h m l.d (l.counter * l.h.columns)) (plane_word l.h l.by.kind m l.s (table_by l.by.range l.by.start l.lengths l.codes) l.p)))

@@ -94,12 +94,6 @@ overflow_add-cell c =
     let k : c.loop-i.i * h.depth + a.d < cells h = digits_lt here c.requires.1 in
     omega (arith, c.loop-i.invariant.2, c.requires.0.shaped.few, c.requires.0.shaped.depth.1)
 
-pub overflow_add-i : goal.overflow_add-i
-overflow_add-i c =
-    let f = pixels-few c.args.h c.requires.0.shaped in
-    let here : c.loop-i.i < c.args.h.rows * c.args.h.columns = c.loop-i-test.true in
-    omega arith
-
 pub loop-i-preserved : goal.loop-i-preserved
 loop-i-preserved c =
     let a = c.args in

@@ -1,4 +1,4 @@
-use Rattle.std.proofs.Common.{◌≡◌, ◌+◌, ◌-◌, ◌*◌, ◌%◌, ◌≤◌}
+use Rattle.std.proofs.Common.{◌≡◌, ◌+◌, ◌*◌, ◌%◌, ◌≤◌}
 use Rattle.lerc_mask.specs.Mask.{valid_below}
 use Rattle.lerc_image.specs.Paint.{painted}
 use Rattle.lerc_byte_image.specs.Image.{spot}
@@ -13,6 +13,3 @@ invariant-loop-i l =
     (l.i ≤ l.h.rows * l.h.columns) × (l.x ≡ l.i % l.h.columns) × (l.cell ≡ l.i * l.h.depth + l.d) × (l.q ≡ spot l.s (table_by l.by.range l.by.start l.lengths l.codes) l.p (valid_below l.i l.mask))
     × (l.last ≡ left l.by.kind l.h.columns l.mask (symbol_in l.mask l.s (table_by l.by.range l.by.start l.lengths l.codes) l.p) l.i)
     × (l.image ≡ painted l.initial.image (plane_upto l.h l.mask l.d l.i) (plane_word l.h l.by.kind l.mask l.s (table_by l.by.range l.by.start l.lengths l.codes) l.p))
-
-abbrev pub decreases-loop-i : goal.decreases-loop-i
-decreases-loop-i l = l.h.rows * l.h.columns - l.i

@@ -44,11 +44,6 @@ overflow_add-base c =
     let f = pixel-fits c.args.h c.args.mask.now c.loop-q.q here 4194304 c.requires.shaped.few in
     omega (arith, c.loop-q.invariant.1)
 
-pub overflow_add-q : goal.overflow_add-q
-overflow_add-q c =
-    let here : c.loop-q.q < c.args.h.rows * c.args.h.columns = c.loop-q-test.true in
-    omega (arith, pixels-few c.args.h c.requires.shaped)
-
 pub loop-q-preserved : goal.loop-q-preserved
 loop-q-preserved c =
     let a = c.args in

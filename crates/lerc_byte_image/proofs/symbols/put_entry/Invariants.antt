@@ -1,9 +1,5 @@
-use Rattle.std.proofs.Common.{◌-◌}
-use Rattle.lerc_words.proofs.Filling.{Filling}
+use Rattle.std.proofs.Common.{◌≡◌, ℕ, ◌<◌, get_or}
 use Rattle.lerc_byte_image.proofs.symbols.put_entry.Given as goal
 
-abbrev pub invariant-loop-k : goal.invariant-loop-k
-invariant-loop-k l = Filling (λ j. l.entry) l.n l.k l.initial.part l.part
-
-abbrev pub decreases-loop-k : goal.decreases-loop-k
-decreases-loop-k l = l.n - l.k
+abbrev pub invariant-loop-place : goal.invariant-loop-place
+invariant-loop-place l = (k : ℕ) → k < l.place-index → get_or l.part k l.entry ≡ l.entry

@@ -17,7 +17,7 @@ pub overflow_sub-there-2 : goal.overflow_sub-there-2
 overflow_sub-there-2 c = c.requires.at
 
 pub loop-k-init : goal.loop-k-init
-loop-k-init c = (omega arith, record { each = λ i l. absurd (omega arith) })
+loop-k-init c = record { each = λ i l. absurd (omega arith) }
 
 pub offset_bounds-lengths-k : goal.offset_bounds-lengths-k
 offset_bounds-lengths-k c =
@@ -46,14 +46,14 @@ pub returns-then-is_begun : goal.returns-then-is_begun
 returns-then-is_begun c =
     let a = c.args in
     seek_is a.s.now (table_by a.range a.start a.lengths.now a.codes.now) a.p c.requires.kept c.take_bits-w.ensures
-    c.loop-k.k c.loop-k-test.true c.loop-k.invariant.1 (sym c.is_begun.ensures ∙ c.if-is_begun.true)
+    c.loop-k.k c.loop-k-test.true c.loop-k.invariant (sym c.is_begun.ensures ∙ c.if-is_begun.true)
 
 pub loop-k-preserved : goal.loop-k-preserved
 loop-k-preserved c =
-    (omega (arith, c.loop-k-test.true), none_more c.loop-k.invariant.1 (sym c.is_begun.ensures ∙ c.if-is_begun.false))
+    none_more c.loop-k.invariant (sym c.is_begun.ensures ∙ c.if-is_begun.false)
 
 pub returns : goal.returns
 returns c =
     let a = c.args in
     seek-none a.s.now (table_by a.range a.start a.lengths.now a.codes.now) a.p c.requires.kept c.take_bits-w.ensures
-    c.loop-k.k c.loop-k-test.false c.loop-k.invariant.1
+    c.loop-k.k c.loop-k-test.false c.loop-k.invariant

@@ -16,11 +16,11 @@ overflow_mul-there c = let h = c.requires in record { fits = omega (arith, h.sho
 pub overflow_sub-there-2 : goal.overflow_sub-there-2
 overflow_sub-there-2 c = c.requires.at
 
-pub overflow_add-k : goal.overflow_add-k
-overflow_add-k c = let h = c.requires in record { fits = omega (arith, h.kept.few, c.if-hint-range.true) }
+pub overflow_add-near : goal.overflow_add-near
+overflow_add-near c = let h = c.requires in record { fits = omega (arith, h.kept.few, c.if-hint-range.true) }
 
 pub loop-k-init : goal.loop-k-init
-loop-k-init c = elim c.if-hint-range.branch [ then-hint-range w ↦ omega (arith, w.if-hint-range.true, w.k-is) | else-hint-range w ↦ omega (arith, w.k-is) ]
+loop-k-init c = elim c.if-hint-range.branch [ then-hint-range w ↦ omega (arith, w.if-hint-range.true, w.near-is) | else-hint-range w ↦ omega (arith, w.near-is) ]
 
 -- a code's place
 at : (c : In-loop-k) → c.loop-k.k - 1 < c.args.range.count

@@ -3,6 +3,3 @@ use Rattle.lerc_byte_image.proofs.symbols.seek_near.Given as goal
 
 abbrev pub invariant-loop-k : goal.invariant-loop-k
 invariant-loop-k l = l.k ≤ l.range.count
-
-abbrev pub decreases-loop-k : goal.decreases-loop-k
-decreases-loop-k l = l.k

@@ -4,21 +4,21 @@ use Rattle.lerc_words.specs.Lists.{all_to}
 use Rattle.lerc_words.proofs.Tables.{all_more, all-fails}
 use Rattle.lerc_byte_image.proofs.table.all_short.Goals as goal
 
-pub loop-k-init : goal.loop-k-init
+pub loop-len-init : goal.loop-len-init
 unfolding all_to
-loop-k-init c = (omega arith, refl)
+loop-len-init c = refl
 
-pub returns-then-lengths-k-gt32 : goal.returns-then-lengths-k-gt32
-returns-then-lengths-k-gt32 c =
+pub returns-then-len-gt32 : goal.returns-then-len-gt32
+returns-then-len-gt32 c =
     let vs = c.args.lengths.now in
-    sym (all-fails (length vs) c.loop-k.k (λ i. leb (get_or vs i 0) 32) c.loop-k-test.true (lt-leb _ _ c.if-lengths-k-gt32.true))
+    sym (all-fails (length vs) c.loop-len.len-index (λ i. leb (get_or vs i 0) 32) c.loop-len-test.true (lt-leb _ _ c.if-len-gt32.true))
 
-pub loop-k-preserved : goal.loop-k-preserved
-loop-k-preserved c =
+pub loop-len-preserved : goal.loop-len-preserved
+loop-len-preserved c =
     let vs = c.args.lengths.now in
-    (omega arith, all_more c.loop-k.k (λ i. leb (get_or vs i 0) 32) c.loop-k.invariant.1 (le-leb _ _ c.if-lengths-k-gt32.false))
+    all_more c.loop-len.len-index (λ i. leb (get_or vs i 0) 32) c.loop-len.invariant (le-leb _ _ c.if-len-gt32.false)
 
 pub returns : goal.returns
 returns c =
-    let e : c.loop-k.k ≡ length c.args.lengths.now = omega arith in
-    sym (rw (e) at c.loop-k.invariant.1)
+    let e : c.loop-len.len-index ≡ length c.args.lengths.now = omega arith in
+    sym (rw (e) at c.loop-len.invariant)

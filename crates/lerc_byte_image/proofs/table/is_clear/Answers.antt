@@ -7,7 +7,7 @@ use Rattle.lerc_byte_image.proofs.table.is_clear.Goals as goal
 
 pub loop-i-init : goal.loop-i-init
 unfolding all_to
-loop-i-init c = (omega arith, refl)
+loop-i-init c = refl
 
 pub are_apart-requires : goal.are_apart-requires
 are_apart-requires c =
@@ -28,9 +28,9 @@ loop-i-preserved c =
     let vs = a.lengths.now in
     let ws = a.codes.now in
     let p : ℕ → Bool = λ j. apart (get_or vs j 0) (get_or ws j 0) (get_or vs a.k 0) (get_or ws a.k 0) in
-    (omega arith, all_more c.loop-i.i p c.loop-i.invariant.1 (sym c.are_apart.ensures ∙ c.if-not-are_apart.false))
+    all_more c.loop-i.i p c.loop-i.invariant (sym c.are_apart.ensures ∙ c.if-not-are_apart.false)
 
 pub returns : goal.returns
 returns c =
     let e : c.loop-i.i ≡ c.args.k = omega arith in
-    sym (rw (e) at c.loop-i.invariant.1)
+    sym (rw (e) at c.loop-i.invariant)

@@ -6,7 +6,7 @@ use Rattle.lerc_byte_image.proofs.table.is_prefix_free.Goals as goal
 
 pub loop-k-init : goal.loop-k-init
 unfolding all_to
-loop-k-init c = (omega arith, refl)
+loop-k-init c = refl
 
 pub is_clear-requires : goal.is_clear-requires
 is_clear-requires c = (c.requires, c.loop-k-test.true)
@@ -21,9 +21,9 @@ pub loop-k-preserved : goal.loop-k-preserved
 loop-k-preserved c =
     let a = c.args in
     let p = clear a.lengths.now a.codes.now in
-    (omega arith, all_more c.loop-k.k p c.loop-k.invariant.1 (sym c.is_clear.ensures ∙ c.if-not-is_clear.false))
+    all_more c.loop-k.k p c.loop-k.invariant (sym c.is_clear.ensures ∙ c.if-not-is_clear.false)
 
 pub returns : goal.returns
 returns c =
     let e : c.loop-k.k ≡ length c.args.lengths.now = omega arith in
-    sym (rw (e) at c.loop-k.invariant.1)
+    sym (rw (e) at c.loop-k.invariant)

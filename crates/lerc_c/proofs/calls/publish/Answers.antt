@@ -1,6 +1,7 @@
-use mathlib.Core.Path.{◌∙◌, ap}
+use Rattle.lerc_words.specs.Res.{refusal_of}
+use Rattle.lerc_words.proofs.Marking.{exits}
+use mathlib.Core.Path.{refl, ap}
 use Rattle.lerc.specs.Read.{Lent}
-use Rattle.lerc.specs.Stage.{refusal_of_publish}
 use Rattle.lerc_c.specs.Records.{staged_room}
 use Rattle.lerc_c.proofs.RecordParts.{both_long}
 use Rattle.lerc_c.proofs.Entries.{publish-short, publish-refused, publish-done}
@@ -17,13 +18,12 @@ staged_from-given-requires c =
     let a = c.args in
     (both_long staged_room 2 a.staged.now a.said.now c.if-not-room.false).0
 
-pub returns-in_default : goal.returns-in_default
-returns-in_default c =
+pub returns-in_err-end : goal.returns-in_err-end
+returns-in_err-end c =
     let a = c.args in
     let l : Lent = record { kept = a.kept.now; spare = a.spare.now; list = a.list.now; image = a.image.now } in
-    let told = c.in_default.is in
     publish-refused a.blob.now a.reuse a.staged.now l a.said.now c.if-not-room.false c.staged_from-given.ensures
-    (rw (told) at c.publish-answer.ensures) (c.refusal-why.ensures ∙ ap refusal_of_publish told)
+    c.in_err-end.ensures (ap refusal_of (exits _ c.from_residual.ensures.1))
 
 pub say-requires : goal.say-requires
 say-requires c =
@@ -35,4 +35,4 @@ returns c =
     let a = c.args in
     let l : Lent = record { kept = a.kept.now; spare = a.spare.now; list = a.list.now; image = a.image.now } in
     publish-done a.blob.now a.reuse a.staged.now l a.said.now c.if-not-room.false c.staged_from-given.ensures
-    (rw c.in-Published.is at c.publish-answer.ensures) c.say.ensures
+    c.in_ok-end.ensures (refl, c.say.ensures)

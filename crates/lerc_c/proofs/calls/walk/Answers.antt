@@ -1,43 +1,40 @@
+use Rattle.lerc_words.specs.Res.{refusal_of}
+use Rattle.lerc_words.proofs.Marking.{exits}
 use Rattle.lerc_c.proofs.RecordParts.{long}
 use Rattle.lerc_c.proofs.Entries.{walk-short, walk-wide, walk-mark, walk_no, walk-done}
-use Rattle.lerc_header.specs.Header.{header_said, refusal_of_header}
-use mathlib.Core.Path.{◌∙◌, sym, ap}
-use Rattle.lerc_ranges.specs.Ranges.{refusal_of_ranges}
-use Rattle.lerc_image.specs.Walk.{refusal_of_walk}
-use Rattle.lerc_ranges.proofs.Judged.{ranges-read, ranges-refused}
+use mathlib.Core.Path.{refl, sym, ap}
 use Rattle.lerc_c.proofs.calls.walk.Goals as goal
 
 pub returns-then-not-room : goal.returns-then-not-room
 returns-then-not-room c =
     let a = c.args in walk-short a.blob.now a.header.now a.ranges.now a.mask.now a.list.now a.said.now c.if-not-room.true
 
-pub header_from-found-requires : goal.header_from-found-requires
-header_from-found-requires c =
+pub header_from-requires : goal.header_from-requires
+header_from-requires c =
     let a = c.args in
     (long 2 a.header.now a.ranges.now a.said.now c.if-not-room.false).header-fits
 
-pub returns-in_default : goal.returns-in_default
-returns-in_default c =
-    let a = c.args in let told = c.in_default.is in
-    walk-wide a.blob.now a.header.now a.ranges.now a.mask.now a.list.now a.said.now c.if-not-room.false (sym c.header_from-found.ensures ∙ ap header_said told) (c.refusal-why.ensures ∙ ap refusal_of_header told)
+pub returns-in_err-h : goal.returns-in_err-h
+returns-in_err-h c =
+    let a = c.args in
+    walk-wide a.blob.now a.header.now a.ranges.now a.mask.now a.list.now a.said.now c.if-not-room.false (sym c.in_err-h.ensures) (ap refusal_of (exits _ c.from_residual.ensures.1))
 
-pub ranges_from-got-requires : goal.ranges_from-got-requires
-ranges_from-got-requires c =
+pub ranges_from-requires : goal.ranges_from-requires
+ranges_from-requires c =
     let a = c.args in
     (long 2 a.header.now a.ranges.now a.said.now c.if-not-room.false).ranges-fit
 
-pub returns-in_default-given : goal.returns-in_default-given
-returns-in_default-given c =
-    let a = c.args in let told = c.in_default-given.is in
-    walk-mark a.blob.now a.header.now a.ranges.now a.mask.now a.list.now a.said.now c.if-not-room.false (sym c.header_from-found.ensures ∙ ap header_said c.in-Read.is)
-    (ranges-refused _ c.ranges_from-got.ensures told) (c.refusal-why-in_default-given.ensures ∙ ap refusal_of_ranges told)
-
-pub returns-in_default-answer : goal.returns-in_default-answer
-returns-in_default-answer c =
-    let told = c.in_default-answer.is in
+pub returns-in_err-r : goal.returns-in_err-r
+returns-in_err-r c =
     let a = c.args in
-    rw (c.refusal-why-in_default-answer.ensures ∙ ap refusal_of_walk told) (walk_no a.blob.now a.header.now a.ranges.now a.mask.now a.list.now a.said.now c.if-not-room.false (sym c.header_from-found.ensures ∙ ap header_said c.in-Read.is)
-    (ranges-read _ c.ranges_from-got.ensures c.in-Read-given.is) (rw (told) at c.walk-answer.ensures))
+    walk-mark a.blob.now a.header.now a.ranges.now a.mask.now a.list.now a.said.now c.if-not-room.false (sym c.in_ok-h.ensures)
+    (sym c.in_err-r.ensures) (ap refusal_of (exits _ c.from_residual-in_err-r.ensures.1))
+
+pub returns-in_err-blocks : goal.returns-in_err-blocks
+returns-in_err-blocks c =
+    let a = c.args in
+    rw (ap refusal_of (exits _ c.from_residual-in_err-blocks.ensures.1)) (walk_no a.blob.now a.header.now a.ranges.now a.mask.now a.list.now a.said.now c.if-not-room.false (sym c.in_ok-h.ensures)
+    (sym c.in_ok-r.ensures) c.in_err-blocks.ensures)
 
 pub say-requires : goal.say-requires
 say-requires c =
@@ -47,5 +44,5 @@ say-requires c =
 pub returns : goal.returns
 returns c =
     let a = c.args in
-    walk-done a.blob.now a.header.now a.ranges.now a.mask.now a.list.now a.said.now c.if-not-room.false (sym c.header_from-found.ensures ∙ ap header_said c.in-Read.is)
-    (ranges-read _ c.ranges_from-got.ensures c.in-Read-given.is) (rw c.in-Walked.is at c.walk-answer.ensures) c.say.ensures
+    walk-done a.blob.now a.header.now a.ranges.now a.mask.now a.list.now a.said.now c.if-not-room.false (sym c.in_ok-h.ensures)
+    (sym c.in_ok-r.ensures) c.in_ok-blocks.ensures (refl, c.say.ensures)

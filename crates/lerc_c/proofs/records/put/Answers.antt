@@ -7,4 +7,4 @@ use Rattle.lerc_c.proofs.records.put.Goals as goal
 pub returns : goal.returns
 returns c =
     let a = c.args in
-    rw c.copy_words.ensures (part-copied a.out.now a.words.now a.at (length a.words.now) (omega arith) refl)
+    rw c.copy.ensures (part-copied a.out.now a.words.now a.at (length a.words.now) (omega arith) refl)

@@ -1,7 +1,6 @@
-use native.Mathlib.Omega.{arith}
 use Rattle.lerc_image.specs.Parts.{BlockTile}
 use Rattle.lerc_image.proofs.Rows.{carried_none}
-use Rattle.lerc_image.proofs.Standing.{here-carried, standing-none, standing-within, standing-tile, standing-count, standing-few, standing-next}
+use Rattle.lerc_image.proofs.Standing.{here-carried, standing-none, standing-within, standing-tile, standing-count, standing-next}
 use Rattle.lerc_image.proofs.decode.fill_listed.Invariants.Turn.{filling-none, filling-length, filling-room, filling-more, filling-all}
 use Rattle.lerc_image.proofs.decode.fill_listed.Goals as goal
 use Rattle.lerc_image.proofs.decode.fill_listed.Goals.{After-current-t}
@@ -24,14 +23,6 @@ pub valid_here-valid-requires : goal.valid_here-valid-requires
 valid_here-valid-requires c =
     standing-count c.loop-n.invariant.0 c.loop-n-test.true c.current-t.ensures c.all_valid-full.ensures c.loop-n.invariant.2
 
-pub offset_bounds-list-n : goal.offset_bounds-list-n
-offset_bounds-list-n c = omega (arith, standing-few c.loop-n.invariant.0 c.loop-n-test.true)
-
-pub bounds-list-n : goal.bounds-list-n
-bounds-list-n c =
-    let p = c.requires in
-    omega (arith, p.1, c.loop-n-test.true)
-
 pub put_at-put-requires : goal.put_at-put-requires
 put_at-put-requires c =
     let i = c.loop-n.invariant in
@@ -42,10 +33,6 @@ pub advance-p-requires : goal.advance-p-requires
 advance-p-requires c =
     let w = c.loop-n.invariant.0 in
     record { shaped = w.asked.shaped; has_tile = standing-within w c.loop-n-test.true }
-
-pub overflow_add-n : goal.overflow_add-n
-overflow_add-n c =
-    omega (arith, standing-few c.loop-n.invariant.0 c.loop-n-test.true)
 
 pub loop-n-preserved : goal.loop-n-preserved
 loop-n-preserved c =

@@ -1,6 +1,5 @@
 pub mod Order
 pub mod Turn
-use Prim.Native.Nat.{◌-◌}
 use native.Mathlib.Omega.{arith}
 use borrow.Author.Rules.{rules}
 use Rattle.lerc_image.specs.Parts.{BlockTile}
@@ -11,7 +10,4 @@ use Rattle.lerc_image.proofs.decode.fill_listed.Given as goal
 
 abbrev pub invariant-loop-n : goal.invariant-loop-n
 invariant-loop-n l =
-    Standing l.h l.e l.p l.n × Filling l.s l.h l.maxima l.mask l.list l.initial.image l.image l.n × Carried l.e.shape l.mask l.n l.valid
-
-abbrev pub decreases-loop-n : goal.decreases-loop-n
-decreases-loop-n l = l.e.blocks - l.n
+    Standing l.h l.fn.e l.p l.n × Filling l.s l.h l.maxima l.mask l.list l.initial.image l.image l.n × Carried l.fn.e.shape l.mask l.n l.valid

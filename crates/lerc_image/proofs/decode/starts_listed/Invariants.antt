@@ -1,11 +1,9 @@
 pub mod Turn
 use mathlib.Core.Path.{◌≡◌, ◌∙◌, sym, ap}
-use Prim.Native.Nat.{◌-◌}
 use native.Mathlib.Omega.{arith}
 use borrow.Author.Rules.{rules}
 use Rattle.lerc_words.specs.Res.{marked}
 use Rattle.lerc_words.proofs.Marking.{marked-is, marked-fails}
-use Rattle.lerc_block.specs.Block.{block_said}
 use Rattle.lerc_image.specs.Tiles.{block_end}
 use Rattle.lerc_image.specs.Parts.{BlockTile}
 use Rattle.lerc_image.proofs.Standing.{here_in, here_end, Standing, standing-none, standing-tile, standing-within, standing-few, standing-next}
@@ -13,7 +11,4 @@ use Rattle.lerc_image.proofs.decode.starts_listed.Invariants.Turn.{Found, found_
 use Rattle.lerc_image.proofs.decode.starts_listed.Given as goal
 
 abbrev pub invariant-loop-k : goal.invariant-loop-k
-invariant-loop-k l = Standing l.h l.e l.p l.k × Found l.s l.h l.mask l.e.blocks l.at l.list l.k l.start
-
-abbrev pub decreases-loop-k : goal.decreases-loop-k
-decreases-loop-k l = l.e.blocks - l.k
+invariant-loop-k l = Standing l.h l.fn.e l.p l.k × Found l.s l.h l.mask l.fn.e.blocks l.at l.list l.k l.start

@@ -3,7 +3,7 @@ use native.Mathlib.Omega.{arith}
 use lib.ListN.{length, length-set}
 use Rattle.lerc_image.specs.Parts.{BlockTile}
 use Rattle.lerc_image.proofs.Rows.{carried_none}
-use Rattle.lerc_image.proofs.Standing.{here-carried, standing-within, standing-tile, standing-count, standing-few}
+use Rattle.lerc_image.proofs.Standing.{here-carried, standing-within, standing-tile, standing-count}
 use Rattle.lerc_image.proofs.decode.write_blocks.Invariants.Turn.{writing-none, writing-room, writing-all, kept, writing-no, writing-next}
 use Rattle.lerc_image.proofs.decode.write_blocks.Goals as goal
 use Rattle.lerc_image.proofs.decode.write_blocks.Goals.{After-current-t}
@@ -18,9 +18,6 @@ pub loop-n-init : goal.loop-n-init
 loop-n-init c =
     let p = c.requires in
     (rw c.start-p.ensures (writing-none _ _ _ _ p.0 p.1), carried_none _ _ _)
-
-pub offset_bounds-list-n : goal.offset_bounds-list-n
-offset_bounds-list-n c = omega (arith, standing-few c.loop-n.invariant.0.stands c.loop-n-test.true)
 
 pub bounds-list-n : goal.bounds-list-n
 bounds-list-n c = let i = c.loop-n.invariant.0.listing in omega (arith, i.room, i.long, c.loop-n-test.true)
@@ -55,13 +52,9 @@ advance-p-requires c =
     let w = c.loop-n.invariant.0.stands in
     record { shaped = w.asked.shaped; has_tile = standing-within w c.loop-n-test.true }
 
-pub overflow_add-n : goal.overflow_add-n
-overflow_add-n c =
-    omega (arith, standing-few c.loop-n.invariant.0.stands c.loop-n-test.true)
-
 pub loop-n-preserved : goal.loop-n-preserved
 loop-n-preserved c = (
-  rw c.advance-p.ensures (writing-next c.loop-n.invariant.0 c.loop-n-test.true c.put_at-got.ensures c.in-Block.is),
+  rw c.advance-p.ensures (writing-next c.loop-n.invariant.0 c.loop-n-test.true c.put_at-got.ensures c.in-Ok.is),
   here-carried (tile (goal.at.loop-n-preserved c).After-current-t) _ c.valid_here-valid.ensures,
 )
 

@@ -1,6 +1,5 @@
 pub mod Turn
 use mathlib.Core.Path.{◌∙◌, ap}
-use Prim.Native.Nat.{◌-◌}
 use native.Mathlib.Omega.{arith}
 use lib.ListN.{length, length-set}
 use Rattle.lerc_image.specs.Parts.{BlockTile}
@@ -12,7 +11,4 @@ use Rattle.lerc_image.proofs.decode.write_blocks.Given as goal
 
 abbrev pub invariant-loop-n : goal.invariant-loop-n
 invariant-loop-n l =
-    Writing l.s l.h l.maxima l.mask l.at l.e l.initial.list l.initial.image l.list l.image l.p l.n l.next × Carried l.e.shape l.mask l.n l.valid
-
-abbrev pub decreases-loop-n : goal.decreases-loop-n
-decreases-loop-n l = l.e.blocks - l.n
+    Writing l.s l.h l.maxima l.mask l.at l.fn.e l.initial.list l.initial.image l.list l.image l.p l.n l.next × Carried l.fn.e.shape l.mask l.n l.valid

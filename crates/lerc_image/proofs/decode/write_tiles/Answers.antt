@@ -1,6 +1,6 @@
 -- `write_tiles`: without room list and image as they were, else the starts and words of the blocks up to the first that is refused.
 -- Assumes nothing.
-use mathlib.Core.Path.{◌≡◌, ◌∙◌, sym, ap, refl}
+use mathlib.Core.Path.{◌≡◌, ◌∙◌, sym, refl}
 use mathlib.Core.Bool.{false}
 use mathlib.Core.List.{List}
 use Prim.Native.Nat.{ℕ}
@@ -10,13 +10,13 @@ use Rattle.lerc_words.specs.Res.{ok}
 use Rattle.lerc_words.specs.Lists.{over}
 use Rattle.lerc_header.specs.declared.Header.{Header}
 use Rattle.lerc_header.specs.declared.Extent.{Extent}
-use Rattle.lerc_header.specs.Header.{held, held_said}
+use Rattle.lerc_header.specs.Header.{held}
 use Rattle.lerc_header.proofs.Kept.{held-is}
 use Rattle.lerc_image.specs.Tiles.{starts_from, image_from, room_to_fill, written_list, written_image}
 use Rattle.lerc_image.specs.Parts.{has_room}
 use Rattle.lerc_image.proofs.Held.{Fillable, fillable-listable, fillable-room, listable-asked, listable-size, listable-room}
 use Rattle.lerc_image.proofs.decode.write_tiles.Goals as goal
-use Rattle.lerc_image.proofs.decode.write_tiles.Goals.{After-has_room, Else-not-has_room, In-Held}
+use Rattle.lerc_image.proofs.decode.write_tiles.Goals.{After-has_room, Else-not-has_room, In-Ok}
 
 -- what is promised
 abbrev Promised : List ℕ → Header → List ℕ → List ℕ → ℕ → List ℕ → List ℕ → List ℕ → List ℕ → Type 0
@@ -35,26 +35,26 @@ written : {b : List ℕ} {h : Header} {m : List ℕ} (maxima : List ℕ) (at : �
 unfolding written_list written_image room_to_fill
 written {b} {h} maxima at p l = rw (p.kept, p.room) (rw (held-is h (length b) p.kept) at l)
 
-kept : (c : In-Held) →
+kept : (c : In-Ok) →
     let a = c.args in
-    held a.h (length a.blob.now) ≡ ok c.in-Held.e
-kept c = sym c.held-held.ensures ∙ ap held_said c.in-Held.is
+    held a.h (length a.blob.now) ≡ ok c.in-Ok.e
+kept c = sym c.in-Ok.ensures
 
 ready : (c : Else-not-has_room) →
     let a = c.args in
-    Fillable a.blob.now a.h a.mask.now a.list.now a.image.now c.in-Held.e
-ready c = record { kept = kept (goal.at.Else-not-has_room c).In-Held; room = sym c.has_room.ensures ∙ c.if-not-has_room.false }
+    Fillable a.blob.now a.h a.mask.now a.list.now a.image.now c.in-Ok.e
+ready c = record { kept = kept (goal.at.Else-not-has_room c).In-Ok; room = sym c.has_room.ensures ∙ c.if-not-has_room.false }
 
 pub returns-in_default : goal.returns-in_default
 unfolding written_list written_image room_to_fill
 returns-in_default c =
-    let e = sym c.held-held.ensures ∙ ap held_said c.in_default.is in
+    let e = sym c.held.ensures ∙ c.in_default.is in
     record { list_after = rw (e); image_after = rw (e) }
 
 pub returns-then-not-has_room : goal.returns-then-not-has_room
 returns-then-not-has_room c =
     let a = c.args in
-    let k = kept (goal.at.returns-then-not-has_room c).In-Held in
+    let k = kept (goal.at.returns-then-not-has_room c).In-Ok in
     let p = no_room a.blob.now a.h a.mask.now a.maxima.now a.at a.list.now a.image.now k (sym c.has_room.ensures ∙ c.if-not-has_room.true) in
     record { list_after = p.0; image_after = p.1 }
 

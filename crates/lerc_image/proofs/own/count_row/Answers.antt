@@ -22,9 +22,6 @@ overflow_add-pixel c = omega (arith, c.requires.1, c.loop-k-test.true)
 pub overflow_add-found : goal.overflow_add-found
 overflow_add-found c = omega (arith, c.bit_of-found.ensures, row_small c.loop-k.invariant, c.requires.1, c.loop-k-test.true)
 
-pub overflow_add-k : goal.overflow_add-k
-overflow_add-k c = omega (arith, c.requires.1, c.loop-k-test.true)
-
 pub loop-k-preserved : goal.loop-k-preserved
 loop-k-preserved c =
     let b = (goal.at.loop-k-preserved c).After-byte_from-got in

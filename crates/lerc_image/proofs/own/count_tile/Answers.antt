@@ -4,7 +4,7 @@ use Rattle.lerc_image.proofs.Cursors.{corner-fits}
 use Rattle.lerc_image.proofs.Rows.{rows_none, rows_next, rows_all, rows-small, rows_fit}
 use Rattle.lerc_image.proofs.RunRows.{rows-set}
 use Rattle.lerc_image.proofs.own.count_tile.Goals as goal
-use Rattle.lerc_image.proofs.own.count_tile.Goals.{After-from-1, After-way_told-1, In-loop-row}
+use Rattle.lerc_image.proofs.own.count_tile.Goals.{In-loop-row}
 
 -- a tile has at most 16 rows
 within : (c : In-loop-row) → c.loop-row.row < 16
@@ -19,34 +19,10 @@ overflow_add-first c = omega (arith, corner-fits c.args.h c.args.t c.requires.0)
 pub loop-row-init : goal.loop-row-init
 loop-row-init c = let p = c.requires in (rows_none _ p.0, p.2)
 
-pub offset_bounds-at-row : goal.offset_bounds-at-row
-offset_bounds-at-row c = omega (arith, within c)
-
-pub bounds-at-row : goal.bounds-at-row
-bounds-at-row c = omega (arith, within (goal.at.bounds-at-row c).In-loop-row)
-
-pub offset_bounds-made-row : goal.offset_bounds-made-row
-offset_bounds-made-row c = omega (arith, within (goal.at.offset_bounds-made-row c).In-loop-row)
-
-pub bounds-made-row : goal.bounds-made-row
-bounds-made-row c = omega (arith, within (goal.at.bounds-made-row c).In-loop-row)
-
 pub count_row-got-requires : goal.count_row-got-requires
 count_row-got-requires c =
     let l = c.loop-row in
     (l.invariant.1.way l.row, omega (arith, rows_fit l.invariant.0 c.loop-row-test.true, l.invariant.0.tile.column))
-
-pub offset_bounds-at-row-in-loop-row : goal.offset_bounds-at-row-in-loop-row
-offset_bounds-at-row-in-loop-row c = omega (arith, within (goal.at.offset_bounds-at-row-in-loop-row c).In-loop-row)
-
-pub bounds-at-row-in-loop-row : goal.bounds-at-row-in-loop-row
-bounds-at-row-in-loop-row c = omega (arith, within (goal.at.bounds-at-row-in-loop-row c).In-loop-row)
-
-pub offset_bounds-made-row-in-loop-row : goal.offset_bounds-made-row-in-loop-row
-offset_bounds-made-row-in-loop-row c = omega (arith, within (goal.at.offset_bounds-made-row-in-loop-row c).In-loop-row)
-
-pub bounds-made-row-in-loop-row : goal.bounds-made-row-in-loop-row
-bounds-made-row-in-loop-row c = omega (arith, within (goal.at.bounds-made-row-in-loop-row c).In-loop-row)
 
 pub overflow_add-found : goal.overflow_add-found
 overflow_add-found c =
@@ -55,9 +31,6 @@ overflow_add-found c =
 pub overflow_add-first-in-loop-row : goal.overflow_add-first-in-loop-row
 overflow_add-first-in-loop-row c =
     omega (arith, rows_fit c.loop-row.invariant.0 c.loop-row-test.true)
-
-pub overflow_add-row : goal.overflow_add-row
-overflow_add-row c = omega (arith, within (goal.at.overflow_add-row c).In-loop-row)
 
 pub loop-row-preserved : goal.loop-row-preserved
 loop-row-preserved c =

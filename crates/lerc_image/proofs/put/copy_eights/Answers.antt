@@ -10,32 +10,29 @@ overflow_mul-start c = omega (arith, corner-fits c.args.h c.args.t (asked_in c.r
 pub overflow_add-start : goal.overflow_add-start
 overflow_add-start c = omega (arith, corner-fits c.args.h c.args.t (asked_in c.requires.0))
 
-pub loop-done-init : goal.loop-done-init
-loop-done-init c = let p = c.requires in eights-first p.1 p.2 p.0
+pub loop-init : goal.loop-init
+loop-init c = let p = c.requires in eights-first p.1 p.2 p.0
 
 pub copy_eight-requires : goal.copy_eight-requires
 copy_eight-requires c =
     let p = c.requires in
-    eights-in p.1 p.2 c.loop-done.invariant c.loop-done-test.true
+    eights-in p.1 p.2 c.loop.invariant c.loop-test.true
 
-pub overflow_add-start-in-loop-done : goal.overflow_add-start-in-loop-done
-overflow_add-start-in-loop-done c =
-    let a = c.loop-done.invariant.at in
-    omega (arith, a.asked.shaped.columns.1, (row_in a c.loop-done-test.true).fits)
+pub overflow_add-start-in-loop : goal.overflow_add-start-in-loop
+overflow_add-start-in-loop c =
+    let a = c.loop.invariant.at in
+    omega (arith, a.asked.shaped.columns.1, (row_in a c.loop-test.true).fits)
 
 pub overflow_add-used : goal.overflow_add-used
-overflow_add-used c = omega (arith, (row_in c.loop-done.invariant.at c.loop-done-test.true).words)
+overflow_add-used c = omega (arith, (row_in c.loop.invariant.at c.loop-test.true).words)
 
-pub overflow_add-done : goal.overflow_add-done
-overflow_add-done c = omega (arith, c.loop-done-test.true)
-
-pub loop-done-preserved : goal.loop-done-preserved
-loop-done-preserved c =
+pub loop-preserved : goal.loop-preserved
+loop-preserved c =
     let p = c.requires in
-    eights-next p.1 p.2 c.loop-done.invariant c.loop-done-test.true c.copy_eight.ensures
+    eights-next p.1 p.2 c.loop.invariant c.loop-test.true c.copy_eight.ensures
 
 pub shape_of-image : goal.shape_of-image
-shape_of-image c = c.loop-done.invariant.at.long
+shape_of-image c = c.loop.invariant.at.long
 
 pub returns : goal.returns
-returns c = full-all c.loop-done.invariant c.loop-done-test.false
+returns c = full-all c.loop.invariant c.loop-test.false

@@ -33,9 +33,6 @@ overflow_add-start-in-loop-row c =
 pub overflow_add-used : goal.overflow_add-used
 overflow_add-used c = omega (arith, (row_in c.loop-row.invariant.at c.loop-row-test.true).words)
 
-pub overflow_add-row : goal.overflow_add-row
-overflow_add-row c = omega (arith, c.loop-row-test.true)
-
 pub loop-row-preserved : goal.loop-row-preserved
 loop-row-preserved c =
     full-next c.loop-row.invariant c.loop-row-test.true c.copy_row.ensures

@@ -6,49 +6,37 @@ use Rattle.lerc_image.proofs.put.scatter_byte.Goals as goal
 use Rattle.lerc_image.proofs.put.scatter_byte.Goals.{then-bit-eq1, else-bit-eq1}
 
 pub loop-c-init : goal.loop-c-init
-loop-c-init c = (laid_none _ _ _ _ _ _, omega arith)
-
-pub overflow_shl-bit : goal.overflow_shl-bit
-overflow_shl-bit c = omega (arith, c.loop-c-test.true)
-
-pub offset_bounds-image-at : goal.offset_bounds-image-at
-offset_bounds-image-at c = omega (arith, laid-fits c.loop-c.invariant.0 c.requires c.loop-c-test.true)
+loop-c-init c = laid_none _ _ _ _ _ _
 
 pub bounds-image-at : goal.bounds-image-at
-bounds-image-at c = laid-room c.loop-c.invariant.0 c.requires c.loop-c-test.true
+bounds-image-at c = laid-room c.loop-c.invariant c.requires c.loop-c-test.true
 
 pub offset_bounds-words-used : goal.offset_bounds-words-used
-offset_bounds-words-used c = omega (arith, laid-used c.loop-c.invariant.0 c.requires c.loop-c-test.true)
+offset_bounds-words-used c = omega (arith, laid-used c.loop-c.invariant c.requires c.loop-c-test.true)
 
 pub bounds-words-used : goal.bounds-words-used
-bounds-words-used c = laid-used c.loop-c.invariant.0 c.requires c.loop-c-test.true
-
-pub offset_bounds-image-at-in-loop-c : goal.offset_bounds-image-at-in-loop-c
-offset_bounds-image-at-in-loop-c c = omega (arith, laid-fits c.loop-c.invariant.0 c.requires c.loop-c-test.true)
+bounds-words-used c = laid-used c.loop-c.invariant c.requires c.loop-c-test.true
 
 pub bounds-image-at-in-loop-c : goal.bounds-image-at-in-loop-c
-bounds-image-at-in-loop-c c = laid-room c.loop-c.invariant.0 c.requires c.loop-c-test.true
+bounds-image-at-in-loop-c c = laid-room c.loop-c.invariant c.requires c.loop-c-test.true
 
 pub overflow_add-used : goal.overflow_add-used
-overflow_add-used c = omega (arith, laid-used c.loop-c.invariant.0 c.requires c.loop-c-test.true)
+overflow_add-used c = omega (arith, laid-used c.loop-c.invariant c.requires c.loop-c-test.true)
 
 pub overflow_add-at : goal.overflow_add-at
-overflow_add-at c = omega (arith, laid-fits c.loop-c.invariant.0 c.requires c.loop-c-test.true)
+overflow_add-at c = omega (arith, laid-fits c.loop-c.invariant c.requires c.loop-c-test.true)
 
 pub loop-c-preserved : goal.loop-c-preserved
 loop-c-preserved c =
-    let r = c.loop-c-test.true in (
-      laid-bit c.loop-c.invariant.0 c.ranges.byte.fits r refl (elim c.if-bit-eq1.branch [
-        | then-bit-eq1 w ↦ rw (eq-eqb _ _ w.if-bit-eq1.true) w.image-is
-        | else-bit-eq1 w ↦ rw (ne_eqb _ _ w.if-bit-eq1.false) w.image-is
-      ]),
-      omega (arith, r),
-    )
+    laid-bit c.loop-c.invariant c.ranges.byte.fits c.loop-c-test.true refl (elim c.if-bit-eq1.branch [
+      | then-bit-eq1 w ↦ rw (eq-eqb _ _ w.if-bit-eq1.true) w.image-is
+      | else-bit-eq1 w ↦ rw (ne_eqb _ _ w.if-bit-eq1.false) w.image-is
+    ])
 
 pub shape_of-image : goal.shape_of-image
-shape_of-image c = laid-length c.loop-c.invariant.0
+shape_of-image c = laid-length c.loop-c.invariant
 
 pub returns : goal.returns
 returns c =
-    let e : c.loop-c.c ≡ 8 = omega (arith, c.loop-c.invariant.1, c.loop-c-test.false) in
-    (rw (e) at c.loop-c.invariant.0.used-is, rw (e) at c.loop-c.invariant.0.same)
+    let e : c.loop-c.c ≡ 8 = omega arith in
+    (rw (e) at c.loop-c.invariant.used-is, rw (e) at c.loop-c.invariant.same)

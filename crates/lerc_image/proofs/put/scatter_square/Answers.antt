@@ -25,37 +25,34 @@ overflow_mul-first-2 c = omega (arith, start-in c.requires.0)
 pub overflow_add-first-2 : goal.overflow_add-first-2
 overflow_add-first-2 c = omega (arith, start-in c.requires.0)
 
-pub loop-row-init : goal.loop-row-init
-loop-row-init c = let p = c.requires in squares-none _ p.0 p.1 p.2
+pub loop-init : goal.loop-init
+loop-init c = let p = c.requires in squares-none _ p.0 p.1 p.2
 
 pub bounds-mask-k : goal.bounds-mask-k
-bounds-mask-k c = squares-in c.loop-row.invariant c.loop-row-test.true
+bounds-mask-k c = squares-in c.loop.invariant c.loop-test.true
 
 pub scatter_byte-used-requires : goal.scatter_byte-used-requires
-scatter_byte-used-requires c = squares-row c.loop-row.invariant c.loop-row-test.true
+scatter_byte-used-requires c = squares-row c.loop.invariant c.loop-test.true
 
-pub overflow_add-k-in-loop-row : goal.overflow_add-k-in-loop-row
-overflow_add-k-in-loop-row c = omega (arith, squares-on c.loop-row.invariant c.loop-row-test.true)
+pub overflow_add-k-in-loop : goal.overflow_add-k-in-loop
+overflow_add-k-in-loop c = omega (arith, squares-on c.loop.invariant c.loop-test.true)
 
-pub overflow_mul-first-in-loop-row : goal.overflow_mul-first-in-loop-row
-overflow_mul-first-in-loop-row c = omega (arith, row_step c.loop-row.invariant.at (in-tile c.loop-row.invariant c.loop-row-test.true))
+pub overflow_mul-first-in-loop : goal.overflow_mul-first-in-loop
+overflow_mul-first-in-loop c = omega (arith, row_step c.loop.invariant.at (in-tile c.loop.invariant c.loop-test.true))
 
-pub overflow_add-first-in-loop-row : goal.overflow_add-first-in-loop-row
-overflow_add-first-in-loop-row c =
-    let s = c.loop-row.invariant in
-    omega (arith, row_step s.at (in-tile s c.loop-row-test.true), (squares-row s c.loop-row-test.true).fits)
+pub overflow_add-first-in-loop : goal.overflow_add-first-in-loop
+overflow_add-first-in-loop c =
+    let s = c.loop.invariant in
+    omega (arith, row_step s.at (in-tile s c.loop-test.true), (squares-row s c.loop-test.true).fits)
 
-pub overflow_add-row : goal.overflow_add-row
-overflow_add-row c = omega (arith, c.loop-row-test.true)
-
-pub loop-row-preserved : goal.loop-row-preserved
-loop-row-preserved c =
+pub loop-preserved : goal.loop-preserved
+loop-preserved c =
     let b : Bytes c.args.mask.now = λ j. omega (arith, c.type_inv.mask j) in
     let e = c.scatter_byte-used.ensures in
-    squares-next c.loop-row.invariant c.loop-row-test.true b e.0 e.1
+    squares-next c.loop.invariant c.loop-test.true b e.0 e.1
 
 pub shape_of-image : goal.shape_of-image
-shape_of-image c = c.loop-row.invariant.at.long
+shape_of-image c = c.loop.invariant.at.long
 
 pub returns : goal.returns
-returns c = squares-all c.loop-row.invariant c.loop-row-test.false
+returns c = squares-all c.loop.invariant c.loop-test.false

@@ -1,5 +1,4 @@
 pub mod Turn
-use Prim.Native.Nat.{◌-◌}
 use native.Mathlib.Omega.{arith}
 use borrow.Author.Rules.{rules}
 use Rattle.lerc_words.proofs.Little.{Bytes}
@@ -10,8 +9,5 @@ use Rattle.lerc_image.proofs.RowTurns.{start-in, row_step}
 use Rattle.lerc_image.proofs.put.scatter_square.Invariants.Turn.{SquareRows, squares-none, squares-all, in-tile, squares-in, squares-on, squares-row, squares-next}
 use Rattle.lerc_image.proofs.put.scatter_square.Given as goal
 
-abbrev pub invariant-loop-row : goal.invariant-loop-row
-invariant-loop-row l = SquareRows l.h l.number l.mask l.words l.initial.image l.image l.k l.first l.row l.used
-
-abbrev pub decreases-loop-row : goal.decreases-loop-row
-decreases-loop-row l = 8 - l.row
+abbrev pub invariant-loop : goal.invariant-loop
+invariant-loop l = SquareRows l.h l.number l.mask l.words l.initial.image l.image l.k l.first l.counter l.used

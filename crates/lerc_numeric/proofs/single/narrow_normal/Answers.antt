@@ -1,30 +1,18 @@
 use mathlib.Core.Path.{ap, ◌∙◌}
 use native.Mathlib.Omega.{arith}
 use Rattle.lerc_numeric.specs.Kinds.{narrowed}
-use Rattle.lerc_numeric.proofs.Mapping.{mapping-none, mapping-length, mapping-more, mapping-next, mapping-done}
+use Rattle.lerc_numeric.proofs.Mapping.{mapping-none, mapping-more, mapping-next}
 use Rattle.lerc_numeric.proofs.single.narrow_normal.Goals as goal
 
-pub loop-k-init : goal.loop-k-init
-loop-k-init c = let a = c.args in mapping-none narrowed a.words.now a.words.now _ (omega arith)
-
-pub bounds-words-k : goal.bounds-words-k
-bounds-words-k c = omega (arith, mapping-length c.loop-k.invariant)
+pub loop-word-init : goal.loop-word-init
+loop-word-init c = let a = c.args in mapping-none narrowed a.words.now a.words.now _ (omega arith)
 
 pub round_signed-requires : goal.round_signed-requires
 round_signed-requires c =
-    let t = c.loop-k-test.true in
-    rw (mapping-next c.loop-k.invariant t) (c.requires _ t)
+    let t = c.loop-word-test.true in
+    rw (mapping-next c.loop-word.invariant t) (c.requires _ t)
 
-pub bounds-words-k-in-loop-k : goal.bounds-words-k-in-loop-k
-bounds-words-k-in-loop-k c = omega (arith, mapping-length c.loop-k.invariant)
-
-pub loop-k-preserved : goal.loop-k-preserved
-loop-k-preserved c =
-    let t = c.loop-k-test.true in
-    mapping-more c.loop-k.invariant _ t (c.round_signed.ensures ∙ ap narrowed (mapping-next c.loop-k.invariant t))
-
-pub shape_of-words : goal.shape_of-words
-shape_of-words c = mapping-length c.loop-k.invariant
-
-pub returns : goal.returns
-returns c = mapping-done c.loop-k.invariant c.loop-k-test.false
+pub loop-word-preserved : goal.loop-word-preserved
+loop-word-preserved c =
+    let t = c.loop-word-test.true in
+    mapping-more c.loop-word.invariant _ t (c.round_signed.ensures ∙ ap narrowed (mapping-next c.loop-word.invariant t))

@@ -71,12 +71,6 @@ overflow_add-at-in-loop-i c =
 pub overflow_add-least : goal.overflow_add-least
 overflow_add-least c = omega (arith, c.key-least.ensures)
 
-pub overflow_add-i : goal.overflow_add-i
-overflow_add-i c = omega arith
-
-pub loop-i-smaller : goal.loop-i-smaller
-loop-i-smaller c = omega arith
-
 pub loop-i-preserved : goal.loop-i-preserved
 loop-i-preserved c =
     let t = (goal.at.loop-i-preserved c).Else-not-right in

@@ -5,4 +5,4 @@ use Rattle.lerc_pack_writer.proofs.parts.put_entry.Goals as goal
 
 pub returns : goal.returns
 returns c =
-    c.copy_bytes.ensures ∙ copied-whole _ c.args.out.now (sym c.requires.0) ∙ entry-is c.args.e
+    c.copy.ensures ∙ copied-whole _ c.args.out.now (sym c.requires.0) ∙ entry-is c.args.e

@@ -11,4 +11,4 @@ put_head-requires c = simp length-take (omega (arith, c.requires.fits))
 
 pub returns : goal.returns
 returns c =
-    pack-put _ c.requires.judged _ _ _ _ c.put_head.ensures c.put_entries.ensures c.requires.fits c.copy_bytes.ensures
+    pack-put _ c.requires.judged _ _ _ _ c.put_head.ensures c.put_entries.ensures c.requires.fits c.copy.ensures

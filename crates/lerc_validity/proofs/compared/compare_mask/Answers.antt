@@ -37,4 +37,4 @@ meet-found-requires c =
 pub returns : goal.returns
 returns c =
     let a = c.args in
-    rw (find-says a.s.now a.h a.reuse a.kept.now (length a.spare.now) c.if-not-room.false c.if-s-h.false) (compared_at mask_field c.meet-found.ensures c.at.ensures)
+    rw (find-says a.s.now a.h a.reuse a.kept.now (length a.spare.now) c.if-not-room.false c.if-s-h.false) (compared_at mask_field c.meet-found.ensures c.marked.ensures)

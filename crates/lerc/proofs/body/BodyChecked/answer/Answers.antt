@@ -14,6 +14,3 @@ returns-in-Blocks c = rw c.in-Blocks.is c.tell-in-Blocks.ensures
 
 pub returns-in-Huffman : goal.returns-in-Huffman
 returns-in-Huffman c = rw c.in-Huffman.is c.tell-in-Huffman.ensures
-
-pub returns-in-Refused : goal.returns-in-Refused
-returns-in-Refused c = rw c.in-Refused.is

@@ -12,7 +12,6 @@ use Rattle.lerc_header.specs.declared.Extent.{Extent}
 use Rattle.lerc_header.specs.Header.{shape_of}
 use Rattle.lerc_header.specs.Shape.{Shaped, block_count, cells}
 use Rattle.lerc_block.specs.Block.{Block}
-use Rattle.lerc_block.specs.declared.BlockAnswer.{BlockAnswer}
 use Rattle.lerc_image.specs.Paint.{scattered}
 use Rattle.lerc_image.specs.Tiles.{listed_block, listed_words, listed_image}
 use Rattle.lerc_image.specs.Parts.{BodyAsked, BlockPut}
@@ -48,7 +47,7 @@ module _ {s : List ℕ} {h : Header} {maxima m list old image : List ℕ} {n : �
         let z : n ≡ block_count (shape_of h) = omega (arith, count-is a) in
         rw (z) at f.done ∙ below_all (shape_of h) (body-shaped a) m (listed_words s h maxima m list) (accepted s h maxima m list) old
 
-    pub filling-more : {r : BlockAnswer} {next : List ℕ} → n < e.blocks → BlockPut e.shape m n (listed_block s h maxima m list n) r image next
+    pub filling-more : {r : Res ℕ} {next : List ℕ} → n < e.blocks → BlockPut e.shape m n (listed_block s h maxima m list n) r image next
         → Filling s h maxima m list old next (n + 1)
     filling-more l b = record { done = (rw (shape_is a) at b).image ∙ go (listed_block s h maxima m list n) refl }
       where

@@ -7,14 +7,12 @@ use native.Mathlib.Numerals.{add-one}
 use native.Mathlib.Omega.{arith}
 use lib.ListN.{length, set}
 use Rattle.lerc_words.specs.declared.Refusal.{Refusal}
-use Rattle.lerc_words.specs.Res.{fail}
+use Rattle.lerc_words.specs.Res.{Res, ok, fail}
 use Rattle.lerc_words.specs.Lists.{over}
 use Rattle.lerc_header.specs.declared.Header.{Header}
 use Rattle.lerc_header.specs.declared.Extent.{Extent}
 use Rattle.lerc_header.specs.Header.{shape_of}
 use Rattle.lerc_header.specs.Shape.{cells}
-use Rattle.lerc_block.specs.declared.BlockAnswer.{BlockAnswer}
-use Rattle.lerc_block.specs.declared.BlockAnswer.TheVariants as block
 use Rattle.lerc_image.specs.declared.Position.{Position}
 use Rattle.lerc_image.specs.Geometry.{next_of}
 use Rattle.lerc_image.specs.Paint.{scattered}
@@ -50,17 +48,17 @@ module _ {s : List ℕ} {h : Header} {maxima m : List ℕ} {at : ℕ} {e : Exten
       let z : e.blocks - n ≡ zero = omega arith in
       (listing-all w.listing (rw (z) (starts_none s h maxima m n next)), sym (w.whole ∙ rw (z) (image-none s h maxima m n next image)))
 
-  module _ (l : n < e.blocks) {got : BlockAnswer} {put : List ℕ} (b : BlockPut e.shape m n (block_at s h maxima m n next) got image put) where
+  module _ (l : n < e.blocks) {got : Res ℕ} {put : List ℕ} (b : BlockPut e.shape m n (block_at s h maxima m n next) got image put) where
     left : e.blocks - n ≡ suc (e.blocks - suc n)
     left = omega arith
 
     -- it is refused
-    pub kept : {why : Refusal} → got ≡ block.Refused why → put ≡ image
+    pub kept : {why : Refusal} → got ≡ fail why → put ≡ image
     kept {why} q =
         let r : block_at s h maxima m n next ≡ fail why = said-refused b.says q in
         rw (r) at b.image
 
-    pub writing-no : {why : Refusal} → got ≡ block.Refused why
+    pub writing-no : {why : Refusal} → got ≡ fail why
         → (set list n next ≡ over (starts_from s h maxima m e.blocks 0 at) old-list) × (put ≡ image_from s h maxima m e.blocks 0 at old-image)
     writing-no {why} q =
         let r : block_at s h maxima m n next ≡ fail why = said-refused b.says q in (
@@ -69,7 +67,7 @@ module _ {s : List ℕ} {h : Header} {maxima m : List ℕ} {at : ℕ} {e : Exten
         )
 
     -- it is accepted
-    pub writing-next : {to : ℕ} → got ≡ block.Block to → Writing s h maxima m at e old-list old-image (set list n next) put (next_of e.shape p) (n + 1) to
+    pub writing-next : {to : ℕ} → got ≡ ok to → Writing s h maxima m at e old-list old-image (set list n next) put (next_of e.shape p) (n + 1) to
     writing-next {to} q =
         let (k, r, z) = said-accepted {b = block_at s h maxima m n next} b.says q in
         let is : put ≡ scattered (shape_of h) m n k.words image = rw (r, shape_is w.stands.asked) at b.image in

@@ -1,7 +1,0 @@
-use Rattle.lerc_header.proofs.HeaderAnswer.refusal.Goals as goal
-
-pub returns-in-Read : goal.returns-in-Read
-returns-in-Read c = rw c.in-Read.is
-
-pub returns-in-Refused : goal.returns-in-Refused
-returns-in-Refused c = rw c.in-Refused.is

@@ -1,9 +1,0 @@
-use Prim.Native.Nat.{◌-◌}
-use Rattle.lerc_words.proofs.Filling.{Filling}
-use Rattle.lerc_slices.proofs.fill_bytes.Given as goal
-
-abbrev pub invariant-loop-k : goal.invariant-loop-k
-invariant-loop-k l = Filling (λ j. l.byte) l.n l.k l.initial.bytes l.bytes
-
-abbrev pub decreases-loop-k : goal.decreases-loop-k
-decreases-loop-k l = l.n - l.k
