@@ -8,8 +8,8 @@ red zone), calls, and jumps out of a function, which leave nothing behind. Two p
 deepest chain of calls from an entry is its need, the return address of the call included; arguments that do not fit the
 registers lie in the caller's part. Given up with a sentence: a call or jump whose goal is not in the code (a table of jumps
 inside one function apart), recursion, another change of `rsp`, code that no path reaches, and a function that is neither in
-the archive nor memcpy, memmove or memset. Of these three the return address is counted and nothing else; "of C from" is how
-deep the deepest of them begins, so that a caller can add what its own need.
+the archive nor memcpy or memset, which are all that include/lerc2.h asks of a caller. Of these two the return address is counted
+and nothing else; "of C from" is how deep the deeper of them begins, so that a caller can add what its own need.
 
 Then painted.c makes calls on a painted stack, with the blobs of lerc_fill_cases, and no call may have used more than was
 read off. The column of docs/API.md must have these numbers. Needs objdump (binutils) and gcc, on x86-64.
@@ -25,7 +25,7 @@ import tempfile
 
 HERE = os.path.dirname(os.path.abspath(__file__))
 ROOT = os.path.dirname(os.path.dirname(HERE))
-OF_C = ('memcpy', 'memmove', 'memset')
+OF_C = ('memcpy', 'memset')
 ADDRESS = 8
 # the registers' halves and bytes too
 STACK = r'(?:rsp|esp|sp|spl)'

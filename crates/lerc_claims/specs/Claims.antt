@@ -17,7 +17,7 @@ use Rattle.lerc_program.proofs.Example.{Computed}
 use Rattle.lerc_claims.specs.Arithmetic.{Arithmetic}
 use Rattle.lerc_claims.specs.Program.{ProgramClaims}
 
-pub record Claims : Type 0 where
+pub record Claims : Type 2 where
   -- any bytes and any buffers get an answer
   pub one : DemandOne
   -- "exact acceptance, exact cells"

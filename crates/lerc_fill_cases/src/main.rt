@@ -41,9 +41,9 @@ struct Tally {
 impl Tally {
     fn plus(self, t: Tally) -> Tally {
         Tally {
-            blocks: self.blocks.saturating_add(t.blocks),
-            words: self.words.saturating_add(t.words),
-            same: self.same.saturating_add(t.same),
+            blocks: add(self.blocks, t.blocks),
+            words: add(self.words, t.words),
+            same: add(self.same, t.same),
         }
     }
 }
@@ -76,6 +76,11 @@ impl Body<'_> {
             image,
         )
     }
+}
+
+// numbers here are far below the bounds
+fn add(a: usize, b: usize) -> usize {
+    a % 1_000_000_000 + b % 1_000_000_000
 }
 
 fn refuse(rt: &impl Print, step: &str, why: Refusal) -> io::Result<Tally> {
@@ -195,7 +200,7 @@ fn fill_all(body: &Body<'_>, list: &[usize], expect: &[u8], count: usize, image:
     for k in 0..count {
         let said = fill_step(body, list, expect, k, count, &mut image[..]);
         all = Said {
-            words: all.words.saturating_add(said.words),
+            words: add(all.words, said.words),
             refused: all.refused & said.refused,
         };
     }

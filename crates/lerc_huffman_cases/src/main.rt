@@ -53,8 +53,8 @@ struct Tally {
 impl Tally {
     fn plus(self, t: Tally) -> Tally {
         Tally {
-            cases: self.cases.saturating_add(t.cases),
-            same: self.same.saturating_add(t.same),
+            cases: add(self.cases, t.cases),
+            same: add(self.same, t.same),
         }
     }
 }
@@ -109,6 +109,7 @@ struct Case {
     body: usize,
     // the refusal that is wanted, if one is
     refusal: Option<Refusal>,
+    place: usize,
     blocks: usize,
     end: usize,
     words: usize,
@@ -134,19 +135,26 @@ impl Case {
 
     // where the parts of the expectation begin
     fn spare_at(self) -> usize {
-        self.before.saturating_add(self.kept)
+        add(self.before, self.kept)
     }
 
     fn starts_at(self) -> usize {
-        self.spare_at().saturating_add(self.spare)
+        add(self.spare_at(), self.spare)
     }
 
     fn words_at(self) -> usize {
-        self.starts_at()
-            .saturating_add(self.starts.saturating_mul(4))
+        add(self.starts_at(), quads(self.starts))
     }
 
-    // the answer that is wanted; a whole read does not report words
+    // a whole read does not report words
+    fn words_of(self, operation: Operation) -> usize {
+        match operation {
+            Operation::Read => 0,
+            _ => self.words,
+        }
+    }
+
+    // the answer that is wanted
     fn wanted(self, operation: Operation) -> Said {
         if let Some(why) = self.refusal {
             return refused(why);
@@ -154,12 +162,29 @@ impl Case {
         Said::Accepted {
             blocks: self.blocks,
             end: self.end,
-            words: match operation {
-                Operation::Read => 0,
-                _ => self.words,
-            },
+            words: self.words_of(operation),
         }
     }
+
+    // no answer is as wanted where an acceptance is to have a place, or a refusal to report something
+    fn is_met_by(self, operation: Operation, said: Said) -> bool {
+        let words = self.words_of(operation);
+        let is_plain = match self.refusal {
+            Some(_why) => (self.blocks == 0) & (self.end == 0) & (words == 0),
+            None => self.place == 0,
+        };
+        is_plain & (said == self.wanted(operation))
+    }
+}
+
+// numbers here are far below the bounds
+fn add(a: usize, b: usize) -> usize {
+    a % 1_000_000_000 + b % 1_000_000_000
+}
+
+// the bytes of k entries of 4 bytes
+fn quads(k: usize) -> usize {
+    4 * (k % 1_000_000_000)
 }
 
 // `min` by itself leaves open that the image has room for so many (`slice_bounds-call_lent-end-5` of `run`)
@@ -201,6 +226,7 @@ fn case_of(head: &[u8; HEAD]) -> Case {
         depth: field(head, 48),
         body: field(head, 52),
         refusal: refusal_in(head),
+        place: field(head, 60),
         blocks: field(head, 64),
         end: field(head, 68),
         words: field(head, 72),
@@ -223,14 +249,14 @@ fn wanted_byte(expect: &[u8], from: usize, n: usize, k: usize, mark: u8) -> u8 {
     if n <= k {
         return mark;
     }
-    (peek(expect, from.saturating_add(k)) % 256) as u8
+    (peek(expect, add(from, k)) % 256) as u8
 }
 
 fn wanted_start(expect: &[u8], c: Case, k: usize) -> usize {
     if c.starts <= k {
         return NOWHERE;
     }
-    quad(expect, c.starts_at().saturating_add(k.saturating_mul(4))) as usize
+    quad(expect, add(c.starts_at(), quads(k))) as usize
 }
 
 // the byte where the cell's pixel is valid, elsewhere the mark
@@ -242,11 +268,11 @@ fn wanted_word(expect: &[u8], c: Case, cell: usize) -> u64 {
         return MARK;
     }
     let pixel = cell / c.depth;
-    let mask = peek(expect, c.before.saturating_add(pixel / 8)) % 256;
+    let mask = peek(expect, add(c.before, pixel / 8)) % 256;
     if (mask >> (7 - pixel % 8)) % 2 == 0 {
         return MARK;
     }
-    bytes(expect, c.words_at().saturating_add(cell), 1)
+    bytes(expect, add(c.words_at(), cell), 1)
 }
 
 // the first byte that is not as wanted
@@ -348,7 +374,7 @@ fn judge(
     print!(rt; " {}", name_of(operation))?;
     print_said(rt, said, operation)?;
     let wanted = c.wanted(operation);
-    let answered = said == wanted;
+    let answered = c.is_met_by(operation, said);
     if !answered {
         print!(rt; " and not")?;
         print_said(rt, wanted, operation)?;

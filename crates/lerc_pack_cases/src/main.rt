@@ -43,8 +43,8 @@ struct Tally {
 impl Tally {
     fn plus(self, t: Tally) -> Tally {
         Tally {
-            cases: self.cases.saturating_add(t.cases),
-            same: self.same.saturating_add(t.same),
+            cases: add(self.cases, t.cases),
+            same: add(self.same, t.same),
         }
     }
 }
@@ -83,6 +83,7 @@ struct Case {
     room: usize,
     // the refusal that is wanted, if one is
     refusal: Option<Refusal>,
+    place: usize,
     sum: u64,
     count: usize,
     index: usize,
@@ -91,17 +92,15 @@ struct Case {
 
 impl Case {
     fn columns_at(self) -> usize {
-        self.rows.saturating_mul(2)
+        twice(self.rows)
     }
 
     fn lengths_at(self) -> usize {
-        self.columns_at()
-            .saturating_add(self.columns.saturating_mul(2))
+        add(self.columns_at(), twice(self.columns))
     }
 
     fn rest(self) -> usize {
-        self.lengths_at()
-            .saturating_add(self.lengths.saturating_mul(8))
+        add(self.lengths_at(), eightfold(self.lengths))
     }
 
     // how many bytes must be written
@@ -122,9 +121,24 @@ struct Found {
 }
 
 impl Found {
+    // nothing is as wanted where an acceptance is to have a place
     fn is_wanted(self, c: Case) -> bool {
-        (self.refusal == c.refusal) & (self.value == c.value) & (self.sum == c.sum)
+        let is_plain = c.refusal.is_some() | (c.place == 0);
+        is_plain & (self.refusal == c.refusal) & (self.value == c.value) & (self.sum == c.sum)
     }
+}
+
+// numbers here are far below the bounds
+fn add(a: usize, b: usize) -> usize {
+    a % 1_000_000_000 + b % 1_000_000_000
+}
+
+fn twice(k: usize) -> usize {
+    2 * (k % 1_000_000_000)
+}
+
+fn eightfold(k: usize) -> usize {
+    8 * (k % 1_000_000_000)
 }
 
 fn print_refusal(rt: &impl Print, label: &str, why: Refusal) -> io::Result<()> {
@@ -160,6 +174,7 @@ fn case_of(head: &[u8; HEAD]) -> Case {
         bodies: field(head, 36),
         room: field(head, 40),
         refusal: refusal_in(head),
+        place: field(head, 48),
         sum: u64::from(quad(head, 52)),
         count: peek(head, 56) as usize,
         index: peek(head, 64) as usize,
@@ -371,11 +386,11 @@ fn run_read(rt: &impl Print, c: Case, pack: &[u8]) -> io::Result<bool> {
 
 // rows or columns as they are stored from `at` on
 fn shorts(rest: &[u8], at: usize) -> [u16; SLOTS] {
-    array::from_fn(|k| (peek(rest, at.saturating_add(k.saturating_mul(2))) % 65536) as u16)
+    array::from_fn(|k| (peek(rest, add(at, twice(k))) % 65536) as u16)
 }
 
 fn words(rest: &[u8], at: usize) -> [usize; SLOTS] {
-    array::from_fn(|k| peek(rest, at.saturating_add(k.saturating_mul(8))) as usize)
+    array::from_fn(|k| peek(rest, add(at, eightfold(k))) as usize)
 }
 
 fn write(c: Case, bodies: &[u8], rest: &[u8], out: &mut [u8]) -> Result<usize, Refusal> {

@@ -3,7 +3,7 @@
 use Prim.Native.Nat.{ℕ, zero, suc, ◌+◌, ◌-◌, ◌≤◌, ◌<◌}
 use mathlib.Core.Path.{◌≡◌, ◌∙◌, sym, ap, refl, subst}
 use mathlib.Core.Bool.{Bool, true, false, ◌&&◌, ◌||◌}
-use mathlib.Core.List.{List, [], ◌∷◌}
+use mathlib.Core.List.{List, [], ◌∷◌, not-mem-nil}
 use native.Mathlib.Omega.{arith}
 use native.Mathlib.Nat.{zero-add}
 use lib.ListN.{length, get_or, take, drop, length-append, length-drop}
@@ -40,11 +40,14 @@ no-room-left : claimed.PacksNoRoom
 no-room-left =
     record {
       is-tile = record { asks_nothing = λ k a. tt; same = λ k a r q x y p s. (p ∙ sym s, refl) };
+      pack-refusal = record { asks_nothing = λ k a b m. absurd (not-mem-nil m); same = λ k a r q x y p s. (p ∙ sym s, refl) };
+      entry-refusal = record { asks_nothing = λ k a b m. absurd (not-mem-nil m); same = λ k a r q x y p s. (p ∙ sym s, refl) };
       open-pack = record { asks_nothing = λ k a. tt; same = λ k a r q x y p s. ((p ∙ sym s), refl) };
       count-tiles = record { asks_nothing = λ k a. tt; same = λ k a r q x y p s. (p ∙ sym s, refl) };
       pack-answer = record { asks_nothing = λ k a. tt; same = λ k a r q x y p s. ((p ∙ sym s), refl) };
       entry_in = record { asks_nothing = λ k a. tt; same = λ k a r q x y p s. ((p ∙ sym s), refl) };
       body-in = record { asks_nothing = λ k a. tt; same = λ k a r q x y p s. (pair (p.0 ∙ sym s.0) (p.1 ∙ sym s.1), refl) };
+      write-refusal = record { asks_nothing = λ k a b m. absurd (not-mem-nil m); same = λ k a r q x y p s. (p ∙ sym s, refl) };
       write-pack = record { asks_nothing = λ k a. tt; same = λ k a r q x y p s. ((p.says ∙ sym s.says), p.out ∙ sym s.out) };
     }
   where

@@ -18,11 +18,14 @@ use Rattle.lerc_pack.proofs.count_tiles.Reads as count-tiles
 use Rattle.lerc_pack.proofs.pack_answer.Reads as pack-answering
 use Rattle.lerc_pack.proofs.entry_in.Reads as entry_in
 use Rattle.lerc_pack.proofs.body_in.Reads as body-in
+use Rattle.lerc_pack.specs.contracts.Entry as entry-type
+use Rattle.lerc_pack.proofs.Entry.TheLaws as entry-laws
+use denote.Struct.Field.{usize-field}
 use Rattle.lerc_pack_writer.specs.Writing.{Given, tile_given, pack_length, pack_given}
 use Rattle.lerc_pack_writer.proofs.Judging.{Twos}
 use Rattle.lerc_pack_writer.proofs.write_pack.Reads as write-pack
 use Rattle.lerc.specs.Read.{Lent}
-use Rattle.lerc_theorems.specs.Promises.{Fixed, Answers, Writes}
+use Rattle.lerc_theorems.specs.Promises.{Fixed, Answers, Writes, Why, usize-row-laws}
 use Rattle.lerc_theorems.specs.Table.{HeaderRefused}
 use Rattle.lerc_theorems.specs.Writes.{AlikeFrom}
 use Rattle.lerc_staged.specs.Calls.{StageCall}
@@ -35,12 +38,15 @@ use Rattle.lerc_pack_theorems.specs.Calls.{OpenCall, EntryCall, BodyCall, WriteC
 -- each public function of both crates, and the judge of a tile's header; but for the methods of `Pack`, whose promises say the answer by the same definitions, of slice and count
 pub record PacksNoRoom : Type 0 where
   pub is-tile : Answers is-tile.Pre is-tile.Post
+  pub pack-refusal : Why usize-field.row usize-row-laws
+  pub entry-refusal : Why entry-type.the_row entry-laws.the_row_laws
   pub open-pack : Answers open-pack.Pre open-pack.Post
   pub count-tiles : Answers count-tiles.Pre count-tiles.Post
   pub pack-answer : Answers pack-answering.Pre pack-answering.Post
   pub entry_in : Answers entry_in.Pre entry_in.Post
   -- what the part holds, and where it stands
   pub body-in : Fixed {B = List ℕ × (ℕ × ℕ)} {S = Unit {0}} body-in.Pre body-in.Post (λ r. (r.now, r.ref_ptr)) (λ o. tt)
+  pub write-refusal : Why usize-field.row usize-row-laws
   pub write-pack : Writes write-pack.Pre write-pack.Post (λ o. o.1.1.1.1.0.now)
 
 -- ---- refusals: each number exactly where the table says, at 0

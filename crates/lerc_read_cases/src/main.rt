@@ -50,8 +50,8 @@ struct Tally {
 impl Tally {
     fn plus(self, t: Tally) -> Tally {
         Tally {
-            cases: self.cases.saturating_add(t.cases),
-            same: self.same.saturating_add(t.same),
+            cases: add(self.cases, t.cases),
+            same: add(self.same, t.same),
         }
     }
 }
@@ -96,16 +96,31 @@ impl Case {
 
     // where the parts of the expectation begin
     fn spare_at(self) -> usize {
-        self.before.saturating_add(self.kept)
+        add(self.before, self.kept)
     }
 
     fn starts_at(self) -> usize {
-        self.spare_at().saturating_add(self.spare)
+        add(self.spare_at(), self.spare)
     }
 
     fn words_at(self) -> usize {
-        self.starts_at()
-            .saturating_add(self.starts.saturating_mul(4))
+        add(self.starts_at(), stride(self.starts, 4))
+    }
+}
+
+// numbers here are far below the bounds
+fn add(a: usize, b: usize) -> usize {
+    a % 1_000_000_000 + b % 1_000_000_000
+}
+
+// k entries of 1, 2, 4 or 8 bytes
+fn stride(k: usize, size: usize) -> usize {
+    let n = k % 1_000_000_000;
+    match size {
+        1 => n,
+        2 => 2 * n,
+        4 => 4 * n,
+        _ => 8 * n,
     }
 }
 
@@ -158,14 +173,14 @@ fn wanted_byte(expect: &[u8], from: usize, n: usize, k: usize, mark: u8) -> u8 {
     if n <= k {
         return mark;
     }
-    (peek(expect, from.saturating_add(k)) % 256) as u8
+    (peek(expect, add(from, k)) % 256) as u8
 }
 
 fn wanted_start(expect: &[u8], c: Case, k: usize) -> usize {
     if c.starts <= k {
         return NOWHERE;
     }
-    quad(expect, c.starts_at().saturating_add(k.saturating_mul(4))) as usize
+    quad(expect, add(c.starts_at(), stride(k, 4))) as usize
 }
 
 // Esri's word where the cell's pixel is valid, elsewhere the mark
@@ -177,11 +192,11 @@ fn wanted_word(expect: &[u8], c: Case, cell: usize) -> u64 {
         return MARK;
     }
     let pixel = cell / c.depth;
-    let mask = peek(expect, c.before.saturating_add(pixel / 8)) % 256;
+    let mask = peek(expect, add(c.before, pixel / 8)) % 256;
     if (mask >> (7 - pixel % 8)) % 2 == 0 {
         return MARK;
     }
-    let at = c.words_at().saturating_add(cell.saturating_mul(c.size));
+    let at = add(c.words_at(), stride(cell, c.size));
     bytes(expect, at, c.size)
 }
 

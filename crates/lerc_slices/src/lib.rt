@@ -4,12 +4,14 @@
 ghost use Rattle.std.specs.Prelude.{◌≡◌, ℕ, ◌≤◌, ◌<◌, min, length, get_or, replicate};
 ghost use Rattle.lerc_slices.specs.Slices.{copied, begins_with};
 
-// as many entries as both have
+// as many entries as both have; entry by entry: of the library's `copy_from_slice` the archive for C would ask for `memmove`
 pub fn copy<T: Copy>(from: &[T], to: &mut [T])
     ensures { to.new ≡ copied from.now to.old }
 {
     let n = from.len().min(to.len());
-    to[..n].copy_from_slice(&from[..n]);
+    for k in 0..n {
+        to[k] = from[k];
+    }
 }
 
 // every entry; the library's `fill` asks of `clone` what the bound `Copy` does not say

@@ -2,7 +2,7 @@
 -- Assumes nothing.
 use mathlib.Core.Path.{◌≡◌, ◌∙◌, sym, refl}
 use mathlib.Core.Bool.{Bool}
-use mathlib.Core.List.{List, not-mem-nil}
+use mathlib.Core.List.{List, not-mem-nil, ne-nil_of_mem}
 use Prim.Native.Nat.{ℕ}
 use Rattle.lerc_words.specs.Res.{Res}
 use Rattle.lerc_bits.proofs.Returns.{decoded-same}
@@ -54,13 +54,16 @@ module _ {K A R O : Type 0} {Pre : K → A → Type 0} {Post : K → A → R →
 
 pub any-answer : AnyAnswer
 any-answer T L none = (
-  record { asks_nothing = λ k a b m. absurd (not-mem-nil (rw none at m)); same = λ k a r q x y p s. (p ∙ sym s, refl) },
-  record { asks_nothing = λ k a b m. absurd (not-mem-nil (rw none at m)); same = λ k a r q x y p s. (p ∙ sym s, refl) },
+  record { asks_nothing = λ k a b m. absurd (ne-nil_of_mem m none); same = λ k a r q x y p s. (p ∙ sym s, refl) },
+  record { asks_nothing = λ k a b m. absurd (ne-nil_of_mem m none); same = λ k a r q x y p s. (p ∙ sym s, refl) },
 )
 
 pub no_room : NoRoom
 no_room = record {
   refusal-at = given (λ k a. tt) _ (λ k a r x p. p);
+  any-answer = any-answer;
+  word-refusal = record { asks_nothing = λ k a b m. absurd (not-mem-nil m); same = λ k a r q x y p s. (p ∙ sym s, refl) };
+  marked-word = record { asks_nothing = λ k a b m. absurd (not-mem-nil m); same = λ k a r q x y p s. (p ∙ sym s, refl) };
   peek = given (λ k a. tt) _ (λ k a r x p. p);
   bytes = given (λ k a. tt) _ (λ k a r x p. p);
   word = given (λ k a. tt) _ (λ k a r x p. p);
@@ -71,6 +74,7 @@ no_room = record {
   fill-words = record { asks_nothing = λ k a b m. absurd (not-mem-nil m); same = λ k a r q x y p s. (refl, p ∙ sym s) };
   begins-with = given (λ k a. tt) _ (λ k a r x p. p);
   all-bytes = given (λ k a. tt) _ (λ k a r x p. p);
+  integer-refusal = record { asks_nothing = λ k a b m. absurd (not-mem-nil m); same = λ k a r q x y p s. (p ∙ sym s, refl) };
   plus = given (λ k a. tt) _ (λ k a r x p. p);
   scale = given (λ k a. tt) _ (λ k a r x p. p);
   is_finite = given (λ k a. tt) _ (λ k a r x p. p);
@@ -87,18 +91,32 @@ no_room = record {
   steps = record { asks_nothing = λ k a. tt; same = λ k a r q x y p s. (refl, p ∙ sym s) };
   single-steps = record { asks_nothing = λ k a. tt; same = λ k a r q x y p s. (refl, p ∙ sym s) };
   float-ready = given (λ k a. tt) _ (λ k a r x p. p);
+  offset-refusal = record { asks_nothing = λ k a b m. absurd (not-mem-nil m); same = λ k a r q x y p s. (p ∙ sym s, refl) };
+  sample-refusal = record { asks_nothing = λ k a b m. absurd (not-mem-nil m); same = λ k a r q x y p s. (p ∙ sym s, refl) };
+  stored-refusal = record { asks_nothing = λ k a b m. absurd (not-mem-nil m); same = λ k a r q x y p s. (p ∙ sym s, refl) };
   offset-kind = given (λ k a. tt) _ (λ k a r x p. p);
   read-sample = given (λ k a. tt) _ (λ k a r x p. p);
   stored = given (λ k a. tt) _ (λ k a r x p. p);
+  plan-refusal = record { asks_nothing = λ k a b m. absurd (not-mem-nil m); same = λ k a r q x y p s. (p ∙ sym s, refl) };
+  marked-plan = record { asks_nothing = λ k a b m. absurd (not-mem-nil m); same = λ k a r q x y p s. (p ∙ sym s, refl) };
+  counts-refusal = record { asks_nothing = λ k a b m. absurd (not-mem-nil m); same = λ k a r q x y p s. (p ∙ sym s, refl) };
+  marked-counts = record { asks_nothing = λ k a b m. absurd (not-mem-nil m); same = λ k a r q x y p s. (p ∙ sym s, refl) };
   inspect = given (λ k a. tt) _ (λ k a r x p. p);
   decode-plan = record { asks_nothing = λ k a. tt; same = λ k a r q x y p s. decoded-same p s };
   check-plan = given (λ k a. tt) _ (λ k a r x p. p);
   decode-counts = record { asks_nothing = λ k a. tt; same = λ k a r q x y p s. decoded-same p s };
   check-counts = given (λ k a. tt) _ (λ k a r x p. p);
+  header-refusal = record { asks_nothing = λ k a b m. absurd (not-mem-nil m); same = λ k a r q x y p s. (p ∙ sym s, refl) };
+  held-refusal = record { asks_nothing = λ k a b m. absurd (not-mem-nil m); same = λ k a r q x y p s. (p ∙ sym s, refl) };
+  open-refusal = record { asks_nothing = λ k a b m. absurd (not-mem-nil m); same = λ k a r q x y p s. (p ∙ sym s, refl) };
   pair-right = given (λ k a. tt) _ (λ k a r x p. p);
   held = given (λ k a. tt) _ (λ k a r x p. p);
   open-blob = given (λ k a. tt) _ (λ k a r x p. p);
   read-header = given (λ k a. tt) _ (λ k a r x p. p);
+  runs-refusal = record { asks_nothing = λ k a b m. absurd (not-mem-nil m); same = λ k a r q x y p s. (p ∙ sym s, refl) };
+  marked-runs = record { asks_nothing = λ k a b m. absurd (not-mem-nil m); same = λ k a r q x y p s. (p ∙ sym s, refl) };
+  runs-found-refusal = record { asks_nothing = λ k a b m. absurd (not-mem-nil m); same = λ k a r q x y p s. (p ∙ sym s, refl) };
+  marked-runs-found = record { asks_nothing = λ k a b m. absurd (not-mem-nil m); same = λ k a r q x y p s. (p ∙ sym s, refl) };
   is-valid = given (λ k a. tt) _ (λ k a r x p. p);
   count-valid = given (λ k a. tt) _ (λ k a r x p. p);
   checksum = given (λ k a. tt) _ (λ k a r x p. p);
@@ -107,6 +125,13 @@ no_room = record {
   decode-mask = record { asks_nothing = λ k a. tt; same = λ k a r q x y p s. unrolled-same p s };
   compare-runs = record { asks_nothing = λ k a. tt; same = λ k a r q x y p s. (runs-compared-same p s, refl) };
   byte-from = given (λ k a. tt) _ (λ k a r x p. p);
+  mask-refusal = record { asks_nothing = λ k a b m. absurd (not-mem-nil m); same = λ k a r q x y p s. (p ∙ sym s, refl) };
+  marked-mask = record { asks_nothing = λ k a b m. absurd (not-mem-nil m); same = λ k a r q x y p s. (p ∙ sym s, refl) };
+  mask-found-refusal = record { asks_nothing = λ k a b m. absurd (not-mem-nil m); same = λ k a r q x y p s. (p ∙ sym s, refl) };
+  marked-mask-found = record { asks_nothing = λ k a b m. absurd (not-mem-nil m); same = λ k a r q x y p s. (p ∙ sym s, refl) };
+  ranges-refusal = record { asks_nothing = λ k a b m. absurd (not-mem-nil m); same = λ k a r q x y p s. (p ∙ sym s, refl) };
+  pairs-refusal = record { asks_nothing = λ k a b m. absurd (not-mem-nil m); same = λ k a r q x y p s. (p ∙ sym s, refl) };
+  constants-refusal = record { asks_nothing = λ k a b m. absurd (not-mem-nil m); same = λ k a r q x y p s. (p ∙ sym s, refl) };
   prepare-mask = record { asks_nothing = λ k a. tt; same = λ k a r q x y p s. prepared-same p s };
   find-mask = record { asks_nothing = λ k a. tt; same = λ k a r q x y p s. prepared-same p s };
   compare-mask = record { asks_nothing = λ k a. tt; same = λ k a r q x y p s. (compared_same p s, refl) };
@@ -115,12 +140,19 @@ no_room = record {
   ranges_in = given (λ k a. tt) _ (λ k a r x p. p);
   read-ranges = given (λ k a. tt) _ (λ k a r x p. p);
   convert = given (λ k a. tt) _ (λ k a r x p. p);
+  block-refusal = record { asks_nothing = λ k a b m. absurd (not-mem-nil m); same = λ k a r q x y p s. (p ∙ sym s, refl) };
+  marked-block = record { asks_nothing = λ k a b m. absurd (not-mem-nil m); same = λ k a r q x y p s. (p ∙ sym s, refl) };
+  block-plan-refusal = record { asks_nothing = λ k a b m. absurd (not-mem-nil m); same = λ k a r q x y p s. (p ∙ sym s, refl) };
+  marked-block-plan = record { asks_nothing = λ k a b m. absurd (not-mem-nil m); same = λ k a r q x y p s. (p ∙ sym s, refl) };
   block-plan-end = given (λ k a. tt) _ (λ k a r x p. p);
   inspect-block = given (λ k a. tt) _ (λ k a r x p. p);
   block-end = given (λ k a. tt) _ (λ k a r x p. p);
   read-block = record { asks_nothing = λ k a. tt; same = λ k a r q x y p s. block-read-same p s };
   check-block = given (λ k a. tt) _ (λ k a r x p. p);
+  way-refusal = record { asks_nothing = λ k a b m. absurd (not-mem-nil m); same = λ k a r q x y p s. (p ∙ sym s, refl) };
   read-sweep = given (λ k a. tt) _ (λ k a r x p. p);
+  walk-refusal = record { asks_nothing = λ k a b m. absurd (not-mem-nil m); same = λ k a r q x y p s. (p ∙ sym s, refl) };
+  fill-refusal = record { asks_nothing = λ k a b m. absurd (not-mem-nil m); same = λ k a r q x y p s. (p ∙ sym s, refl) };
   walk = record { asks_nothing = λ k a. tt; same = λ k a r q x y p s. walked_same p s };
   fill = record { asks_nothing = λ k a. tt; same = λ k a r q x y p s. filled-same p s };
   check-tiles = given (λ k a. tt) _ (λ k a r x p. p);
@@ -130,9 +162,14 @@ no_room = record {
   fill-tiles = record { asks_nothing = λ k a. tt; same = λ k a r q x y p s. (refl, p ∙ sym s) };
   write-tiles = record { asks_nothing = λ k a. tt; same = λ k a r q x y p s. (refl, rw (p.0, p.1, s.0, s.1)) };
   decode-tiles = record { asks_nothing = λ k a. tt; same = λ k a r q x y p s. tiled-same p s };
+  end-refusal = record { asks_nothing = λ k a b m. absurd (not-mem-nil m); same = λ k a r q x y p s. (p ∙ sym s, refl) };
+  marked-end = record { asks_nothing = λ k a b m. absurd (not-mem-nil m); same = λ k a r q x y p s. (p ∙ sym s, refl) };
   check-huffman = given (λ k a. tt) _ (λ k a r x p. p);
   write-huffman = record { asks_nothing = λ k a. tt; same = λ k a r q x y p s. (refl, p ∙ sym s) };
   fill-each = record { asks_nothing = λ k a. tt; same = λ k a r q x y p s. (p.says ∙ sym s.says, p.image ∙ sym s.image) };
+  stage-refusal = record { asks_nothing = λ k a b m. absurd (not-mem-nil m); same = λ k a r q x y p s. (p ∙ sym s, refl) };
+  publish-refusal = record { asks_nothing = λ k a b m. absurd (not-mem-nil m); same = λ k a r q x y p s. (p ∙ sym s, refl) };
+  read-refusal = record { asks_nothing = λ k a b m. absurd (not-mem-nil m); same = λ k a r q x y p s. (p ∙ sym s, refl) };
   put-line = record { asks_nothing = λ k a. tt; same = λ k a r q x y p s. put_same p s };
   put-refusal = record { asks_nothing = λ k a. tt; same = λ k a r q x y p s. put_same p s };
   put-shape = record { asks_nothing = λ k a. tt; same = λ k a r q x y p s. put_same p s };
@@ -140,4 +177,6 @@ no_room = record {
   stage = record { asks_nothing = λ k a. tt; same = λ k a r q x y p s. staged-same p s };
   publish = record { asks_nothing = λ k a. tt; same = λ k a r q x y p s. published-same p s };
   read = record { asks_nothing = λ k a. tt; same = λ k a r q x y p s. whole_same p s };
+  quad = given (λ k a. tt) _ (λ k a r x p. p);
+  fields = given (λ k a. tt) _ (λ k a r x p. p);
 }

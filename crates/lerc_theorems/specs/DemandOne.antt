@@ -9,7 +9,7 @@ use Rattle.lerc_theorems.specs.Numbers.{NumbersExactly, PlacesExactly, NumbersOn
 use Rattle.lerc_theorems.specs.Writes.{WritesOnly, WholeWrites}
 use Rattle.lerc_words.specs.Res.{ok, fail}
 
-pub record DemandOne : Type 0 where
+pub record DemandOne : Type 2 where
   -- "For every input a public function's promise leaves no room: answer, number, and every lent byte afterwards."
   pub no_room : NoRoom
   -- the table of numbers: "given when", for each number of each public function exactly

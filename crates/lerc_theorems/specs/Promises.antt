@@ -18,11 +18,13 @@ use Rattle.lerc_words.proofs.words.Reads as words
 use mathlib.Core.Path.{refl}
 use denote.RattleType.{RattleType}
 use denote.Exit.{no}
-use denote.Param.{arg}
-use denote.Param.Laws.{Laws, IsCopy, arg_laws, of_field, arg_copy, of_copyable}
+use denote.Param.{arg, layout}
+use denote.Param.Laws.{Laws, IsCopy, arg_laws, array_laws, of_field, arg_copy, of_copyable}
 use denote.Param.Shared.{copy_shared}
-use denote.Struct.Field.{u8-field, u64-field}
+use denote.Array.{Array}
+use denote.Struct.Field.{u8-field, u32-field, u64-field, usize-field, unit-field}
 use denote.Struct.Laws.{u8-laws as u8-of-field, u8-copy as u8-field-copy, u64-laws as u64-of-field, u64-copy as u64-field-copy}
+use denote.Struct.Laws as field
 use mir.Syntax.{ty_int, w8, w64}
 use Rattle.std.specs.contracts.prelude.U8Clone.TheImpl as u8-clone
 use Rattle.std.specs.contracts.prelude.U64Clone.TheImpl as u64-clone
@@ -97,10 +99,42 @@ use Rattle.lerc.specs.Read.{Lent}
 use Rattle.lerc.proofs.stage.Reads as stage
 use Rattle.lerc.proofs.publish.Reads as publish
 use Rattle.lerc.proofs.read.Reads as read
+use Rattle.lerc_fields.proofs.quad.Reads as quad
+use Rattle.lerc_fields.proofs.fields.Reads as fields
 use Rattle.lerc_text.proofs.put_line.Reads as put-line
 use Rattle.lerc_text.proofs.put_refusal.Reads as put-refusal
 use Rattle.lerc_text.proofs.put_shape.Reads as put-shape
 use Rattle.lerc_text.proofs.put_cells.Reads as put-cells
+use Rattle.lerc_bits.specs.contracts.Plan as plan-type
+use Rattle.lerc_bits.proofs.Plan.TheLaws as plan-laws
+use Rattle.lerc_bits.specs.contracts.Counts as counts-type
+use Rattle.lerc_bits.proofs.Counts.TheLaws as counts-laws
+use Rattle.lerc_header.specs.contracts.Header as header-type
+use Rattle.lerc_header.proofs.Header.TheLaws as header-laws
+use Rattle.lerc_header.specs.contracts.Extent as extent-type
+use Rattle.lerc_header.proofs.Extent.TheLaws as extent-laws
+use Rattle.lerc_header.specs.contracts.Opened as opened-type
+use Rattle.lerc_header.proofs.Opened.TheLaws as opened-laws
+use Rattle.lerc_mask.specs.contracts.compared.RunsFound as runs-found-type
+use Rattle.lerc_mask.proofs.compared.RunsFound.TheLaws as runs-found-laws
+use Rattle.lerc_validity.specs.contracts.Mask as mask-type
+use Rattle.lerc_validity.proofs.Mask.TheLaws as mask-laws
+use Rattle.lerc_validity.specs.contracts.compared.MaskFound as mask-found-type
+use Rattle.lerc_validity.proofs.compared.MaskFound.TheLaws as mask-found-laws
+use Rattle.lerc_ranges.specs.contracts.Ranges as ranges-type
+use Rattle.lerc_ranges.proofs.Ranges.TheLaws as ranges-laws
+use Rattle.lerc_block.specs.contracts.plan.BlockPlan as block-plan-type
+use Rattle.lerc_block.proofs.plan.BlockPlan.TheLaws as block-plan-laws
+use Rattle.lerc_sweep.specs.contracts.Way as way-type
+use Rattle.lerc_sweep.proofs.Way.TheLaws as way-laws
+use Rattle.lerc_image.specs.contracts.Walked as walked-type
+use Rattle.lerc_image.proofs.Walked.TheLaws as walked-laws
+use Rattle.lerc.specs.contracts.Staged as staged-type
+use Rattle.lerc.proofs.Staged.TheLaws as staged-laws
+use Rattle.lerc.specs.contracts.Published as published-type
+use Rattle.lerc.proofs.Published.TheLaws as published-laws
+use Rattle.lerc.specs.contracts.Whole as whole-type
+use Rattle.lerc.proofs.Whole.TheLaws as whole-laws
 
 -- A function's promise: `Pre lives inputs` is what it asks, `Post lives inputs answer outputs` what it gives; the outputs are the inputs at exit.
 -- `told` is the answer as a caller sees it, `left` is what the slices hold that were lent to be written.
@@ -157,14 +191,44 @@ u64-laws = arg_laws (ty_int w64) no u64-field.row (of_field u64-field u64-of-fie
 abbrev pub u64-copy : IsCopy u64
 u64-copy = arg_copy (ty_int w64) no u64-field.row (of_copyable u64-field u64-field-copy) refl
 
+-- what an answer holds, as a call hands its type to a function over any answer
+abbrev pub passed : RattleType → RattleType
+passed R = arg (layout R) no R
+
+abbrev pub passed-laws : (R : RattleType) → Laws R → Laws (passed R)
+passed-laws R L = arg_laws (layout R) no R L refl
+
+abbrev pub u32-row-laws : Laws u32-field.row
+u32-row-laws = of_field u32-field field.u32-laws refl (copy_shared u32-field field.u32-copy)
+
+abbrev pub u64-row-laws : Laws u64-field.row
+u64-row-laws = of_field u64-field field.u64-laws refl (copy_shared u64-field field.u64-copy)
+
+abbrev pub usize-row-laws : Laws usize-field.row
+usize-row-laws = of_field usize-field field.usize-laws refl (copy_shared usize-field field.usize-copy)
+
+abbrev pub unit-row-laws : Laws unit-field.row
+unit-row-laws = of_field unit-field field.unit-laws refl (copy_shared unit-field field.unit-copy)
+
+-- why an answer was refused, and the answer refused at a place: at one type that an answer holds
+abbrev pub Why : (R : RattleType) → Laws R → Type 0
+Why R L = Answers (refusal-of.Pre (passed R) (passed-laws R L)) (refusal-of.Post (passed R) (passed-laws R L))
+
+abbrev pub Marks : (R : RattleType) → Laws R → Type 0
+Marks R L = Answers (marked.Pre (passed R) (passed-laws R L)) (marked.Post (passed R) (passed-laws R L))
+
 -- the two functions over any answer, whatever it holds where it was accepted, if that lends nothing
 abbrev pub AnyAnswer : Type 2
 AnyAnswer = (T : RattleType) (L : Laws T) → T.lives ≡ [] → Answers (refusal-of.Pre T L) (refusal-of.Post T L) × Answers (marked.Pre T L) (marked.Post T L)
 
 -- all public functions, from the ground up; the entries for C and the program's `answer` have claims of their own
-pub record NoRoom : Type 0 where
+pub record NoRoom : Type 2 where
   -- lerc_words
   pub refusal-at : Answers refusal-at.Pre refusal-at.Post
+  -- over any answer, and at each type that an answer of these crates holds
+  pub any-answer : AnyAnswer
+  pub word-refusal : Why u64-field.row u64-row-laws
+  pub marked-word : Marks u64-field.row u64-row-laws
   pub peek : Answers peek.Pre peek.Post
   pub bytes : Answers bytes.Pre bytes.Post
   pub word : Answers word.Pre word.Post
@@ -179,6 +243,7 @@ pub record NoRoom : Type 0 where
   -- lerc_checksum
   pub checksum : Answers checksum.Pre checksum.Post
   -- lerc_numeric
+  pub integer-refusal : Why u64-field.row u64-row-laws
   pub plus : Answers plus.Pre plus.Post
   pub scale : Answers scale.Pre scale.Post
   pub is_finite : Answers is_finite.Pre is_finite.Post
@@ -196,21 +261,35 @@ pub record NoRoom : Type 0 where
   pub single-steps : Writes single-steps.Pre single-steps.Post (λ o. o.1.1.1.1.1.0.now)
   pub float-ready : Answers float-ready.Pre float-ready.Post
   -- lerc_samples
+  pub offset-refusal : Why u32-field.row u32-row-laws
+  pub sample-refusal : Why u64-field.row u64-row-laws
+  pub stored-refusal : Why u64-field.row u64-row-laws
   pub offset-kind : Answers offset-kind.Pre offset-kind.Post
   pub read-sample : Answers read-sample.Pre read-sample.Post
   pub stored : Answers stored.Pre stored.Post
   -- lerc_bits
+  pub plan-refusal : Why plan-type.the_row plan-laws.the_row_laws
+  pub marked-plan : Marks plan-type.the_row plan-laws.the_row_laws
+  pub counts-refusal : Why counts-type.the_row counts-laws.the_row_laws
+  pub marked-counts : Marks counts-type.the_row counts-laws.the_row_laws
   pub inspect : Answers inspect.Pre inspect.Post
   pub decode-plan : Writes decode-plan.Pre decode-plan.Post (λ o. o.1.1.0.now)
   pub check-plan : Answers check-plan.Pre check-plan.Post
   pub decode-counts : Writes decode-counts.Pre decode-counts.Post (λ o. o.1.1.0.now)
   pub check-counts : Answers check-counts.Pre check-counts.Post
   -- lerc_header
+  pub header-refusal : Why header-type.the_row header-laws.the_row_laws
+  pub held-refusal : Why extent-type.the_row extent-laws.the_row_laws
+  pub open-refusal : Why opened-type.the_row opened-laws.the_row_laws
   pub pair-right : Answers pair-right.Pre pair-right.Post
   pub held : Answers held.Pre held.Post
   pub open-blob : Answers open-blob.Pre open-blob.Post
   pub read-header : Answers read-header.Pre read-header.Post
   -- lerc_mask
+  pub runs-refusal : Why usize-field.row usize-row-laws
+  pub marked-runs : Marks usize-field.row usize-row-laws
+  pub runs-found-refusal : Why runs-found-type.the_row runs-found-laws.the_row_laws
+  pub marked-runs-found : Marks runs-found-type.the_row runs-found-laws.the_row_laws
   pub is-valid : Answers is-valid.Pre is-valid.Post
   pub count-valid : Answers count-valid.Pre count-valid.Post
   pub count-from : Answers count-from.Pre count-from.Post
@@ -219,6 +298,13 @@ pub record NoRoom : Type 0 where
   pub compare-runs : Answers compare-runs.Pre compare-runs.Post
   pub byte-from : Answers byte-from.Pre byte-from.Post
   -- lerc_validity and lerc_ranges
+  pub mask-refusal : Why mask-type.the_row mask-laws.the_row_laws
+  pub marked-mask : Marks mask-type.the_row mask-laws.the_row_laws
+  pub mask-found-refusal : Why mask-found-type.the_row mask-found-laws.the_row_laws
+  pub marked-mask-found : Marks mask-found-type.the_row mask-found-laws.the_row_laws
+  pub ranges-refusal : Why ranges-type.the_row ranges-laws.the_row_laws
+  pub pairs-refusal : Why unit-field.row unit-row-laws
+  pub constants-refusal : Why (Array u64-field.row 64) (array_laws u64-field.row u64-row-laws 64)
   pub prepare-mask : Writes prepare-mask.Pre prepare-mask.Post (λ o. o.1.1.1.1.0.now)
   pub find-mask : Writes find-mask.Pre find-mask.Post (λ o. o.1.1.1.1.0.now)
   pub compare-mask : Answers compare-mask.Pre compare-mask.Post
@@ -229,14 +315,21 @@ pub record NoRoom : Type 0 where
   pub read-ranges : Answers read-ranges.Pre read-ranges.Post
   pub convert : Answers convert.Pre convert.Post
   -- lerc_block
+  pub block-refusal : Why usize-field.row usize-row-laws
+  pub marked-block : Marks usize-field.row usize-row-laws
+  pub block-plan-refusal : Why block-plan-type.the_row block-plan-laws.the_row_laws
+  pub marked-block-plan : Marks block-plan-type.the_row block-plan-laws.the_row_laws
   pub block-plan-end : Answers block-plan-end.Pre block-plan-end.Post
   pub inspect-block : Answers inspect-block.Pre inspect-block.Post
   pub block-end : Answers block-end.Pre block-end.Post
   pub read-block : Writes read-block.Pre read-block.Post (λ o. o.1.1.1.1.1.1.1.0.now)
   pub check-block : Answers check-block.Pre check-block.Post
   -- lerc_sweep
+  pub way-refusal : Why way-type.the_row way-laws.the_row_laws
   pub read-sweep : Answers read-sweep.Pre read-sweep.Post
   -- lerc_image
+  pub walk-refusal : Why walked-type.the_row walked-laws.the_row_laws
+  pub fill-refusal : Why usize-field.row usize-row-laws
   pub walk : Writes walk.Pre walk.Post (λ o. o.1.1.1.1.0.now)
   pub fill : Writes fill.Pre fill.Post (λ o. o.1.1.1.1.1.1.0.now)
   pub check-tiles : Answers check-tiles.Pre check-tiles.Post
@@ -247,16 +340,24 @@ pub record NoRoom : Type 0 where
   pub write-tiles : Writes {S = List ℕ × List ℕ} write-tiles.Pre write-tiles.Post (λ o. (o.1.1.1.1.1.0.now, o.1.1.1.1.1.1.0.now))
   pub decode-tiles : Writes {S = List ℕ × List ℕ} decode-tiles.Pre decode-tiles.Post (λ o. (o.1.1.1.1.1.0.now, o.1.1.1.1.1.1.0.now))
   -- lerc_byte_image
+  pub end-refusal : Why usize-field.row usize-row-laws
+  pub marked-end : Marks usize-field.row usize-row-laws
   pub check-huffman : Answers check-huffman.Pre check-huffman.Post
   pub write-huffman : Writes write-huffman.Pre write-huffman.Post (λ o. o.1.1.1.1.1.0.now)
   -- lerc_fills
   pub fill-each : Writes fill-each.Pre fill-each.Post (λ o. o.1.1.1.1.1.1.0.now)
   -- lerc
+  pub stage-refusal : Why staged-type.the_row staged-laws.the_row_laws
+  pub publish-refusal : Why published-type.the_row published-laws.the_row_laws
+  pub read-refusal : Why whole-type.the_row whole-laws.the_row_laws
   -- spare and list; image and kept mask are lent to be looked at alone
   pub stage : Writes {S = List ℕ × List ℕ} stage.Pre stage.Post (λ o. (o.1.1.1.0.now, o.1.1.1.1.0.now))
   -- kept mask and image; spare and list are lent to be looked at alone
   pub publish : Writes {S = List ℕ × List ℕ} publish.Pre publish.Post (λ o. (o.1.1.1.0.now, o.1.1.1.1.1.1.0.now))
   pub read : Writes read.Pre read.Post lent
+  -- lerc_fields
+  pub quad : Answers quad.Pre quad.Post
+  pub fields : Answers fields.Pre fields.Post
   -- lerc_text
   pub put-line : Writes put-line.Pre put-line.Post (λ o. o.0.now)
   pub put-refusal : Writes put-refusal.Pre put-refusal.Post (λ o. o.0.now)
